@@ -9,7 +9,7 @@ use Rattle.agents.specs.declared.board.Tally.{Tally}
 use Rattle.agents.specs.declared.index.Entry.{Entry}
 use Rattle.lwp_types.specs.Agents.{belongs_to, is_armed, is_for, new_agent, without_agent}
 use Rattle.lwp_types.specs.CountLaws.{count-cons, count-push, count_found_by, count_not_found, one}
-use Rattle.lwp_types.specs.Messages.{holding_set, with_holding}
+use Rattle.lwp_types.specs.Messages.{agent_with_holding, with_holding}
 use Rattle.lwp_types.specs.State.{agent_numbers, agent_of, all_below, is_agent_row, is_empty, member, passes, rises, without}
 use Rattle.lwp_types.specs.declared.rows.AgentRow.{AgentRow}
 use Rattle.std.proofs.Common.{Bool, IfNone, IfSome, List, None, Option, Some, [], ap, arith, cond, count_by, eqb, false, inl, inr, is_some, length, ltb, not, option_map, refl, replicate, set, slice_get, sym, true, ℕ, ◌&&◌, ◌++◌, ◌+◌, ◌-◌, ◌<◌, ◌∙◌, ◌∷◌, ◌≡◌, ◌≢◌, ◌≤◌, ◌⊎◌}
@@ -79,10 +79,10 @@ module _ (key : AgentRow → ℕ) {rows : List AgentRow} {es : List Entry} (was 
           ∙ ap (without a) (was.each k) ∙ sym (numbers-without (λ r. eqb (key r) k) a rows)
       by_key k (inr apart) = puts.others k (λ same. apart (sym same)) ∙ was.each k ∙ sym (numbers-others (λ r. eqb (key r) k) a rows row up found (ne_eqb (key row) k apart))
 
-  pub IsIndexed-holding : (a : ℕ) (b : Bool) → ((row : AgentRow) → key (holding_set a b row) ≡ key row) → IsIndexed key (with_holding a b rows) es
+  pub IsIndexed-holding : (a : ℕ) (b : Bool) → ((row : AgentRow) → key (agent_with_holding a b row) ≡ key row) → IsIndexed key (with_holding a b rows) es
   IsIndexed-holding a b same = record {
     each = λ k. was.each k ∙ sym (numbers-holding (λ row. eqb (key row) k) a b (λ row. ap (λ n. eqb n k) (same row)) rows);
-    all = was.all ∙ sym (length-map rows (holding_set a b));
+    all = was.all ∙ sym (length-map rows (agent_with_holding a b));
   }
 
 -- ---- the tallies
@@ -283,7 +283,7 @@ module _ {r : Roster} {room : ℕ} {evs ows : Entries} {board : List Tally} (was
             (omega (arith, count-holding (is_for k) a b r.agents row was.in_order.rises found))
             (omega (arith, count-holding (holds_for k) a b r.agents row was.in_order.rises found, one_other row.event k row.holding apart, one_other row.event k b apart)));
         wide = length-set board row.event tally ∙ was.wide;
-        fits = omega (arith, length-map r.agents (holding_set a b), was.fits);
+        fits = omega (arith, length-map r.agents (agent_with_holding a b), was.fits);
         places_fit = was.places_fit;
         events_fit = was.events_fit;
         owners_fit = was.owners_fit;

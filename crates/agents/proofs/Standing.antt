@@ -2,7 +2,7 @@
 use Rattle.agents.specs.Kept.{IsAgentAt}
 use Rattle.lwp_types.specs.Agents.{without_agent}
 use Rattle.lwp_types.specs.CountLaws.{count-cons, one}
-use Rattle.lwp_types.specs.Messages.{holding_set, with_holding}
+use Rattle.lwp_types.specs.Messages.{agent_with_holding, with_holding}
 use Rattle.lwp_types.specs.State.{agent_numbers, agent_of, is_agent_row, member, rises, without}
 use Rattle.lwp_types.specs.declared.rows.AgentRow.{AgentRow}
 use Rattle.std.proofs.Common.{Bool, Err, IfNone, IfSome, List, None, Ok, Result, Some, [], ap, arith, cond, count_by, eqb, false, get_or, inl, inr, length, ltb, not, refl, set, suc, sym, true, zero, ℕ, ◌++◌, ◌+◌, ◌<◌, ◌∙◌, ◌∷◌, ◌≡◌, ◌≢◌, ◌≤◌}
@@ -136,15 +136,15 @@ module _ (p : AgentRow → Bool) (a : ℕ) where
     where
       by_test : (t : Bool) → is_agent_row a r ≡ t → cond t (Some r) (agent_of rows a) ≡ Some row
           → (agent_of rows a ≡ Some row → count_by p (with_holding a b rows) + one (p row) ≡ count_by p rows + one (p (record row { holding = b })))
-          → count_by p (holding_set a b r ∷ with_holding a b rows) + one (p row) ≡ count_by p (r ∷ rows) + one (p (record row { holding = b }))
+          → count_by p (agent_with_holding a b r ∷ with_holding a b rows) + one (p row) ≡ count_by p (r ∷ rows) + one (p (record row { holding = b }))
       by_test true here found rest =
           let first : r ≡ row = cc in
-          let set : holding_set a b r ≡ record row { holding = b } = rw (here, first) refl in
+          let set : agent_with_holding a b r ≡ record row { holding = b } = rw (here, first) refl in
           let others = later_held a b rows (later_than r rows up a (eqb-true r.number a here)) in
-          omega (arith, count-cons p (holding_set a b r) (with_holding a b rows), count-cons p r rows, ap (λ x. one (p x)) set, ap (λ x. one (p x)) first, ap (count_by p) others)
+          omega (arith, count-cons p (agent_with_holding a b r) (with_holding a b rows), count-cons p r rows, ap (λ x. one (p x)) set, ap (λ x. one (p x)) first, ap (count_by p) others)
       by_test false here found rest =
-          let set : holding_set a b r ≡ r = rw here refl in
-          omega (arith, count-cons p (holding_set a b r) (with_holding a b rows), count-cons p r rows, ap (λ x. one (p x)) set, rest found)
+          let set : agent_with_holding a b r ≡ r = rw here refl in
+          omega (arith, count-cons p (agent_with_holding a b r) (with_holding a b rows), count-cons p r rows, ap (λ x. one (p x)) set, rest found)
 
   -- the agent that is gone counts no more
   pub count-without : (rows : List AgentRow) (row : AgentRow) → rises (agent_numbers rows) ≡ true → agent_of rows a ≡ Some row → count_by p (without_agent a rows) + one (p row) ≡ count_by p rows
@@ -176,12 +176,12 @@ numbers-push q (row ∷ rows) newest = by_test (q row) (numbers-push q rows newe
     by_test false rest = rest
 
 -- the test doesn't look at whether an agent holds a message
-pub numbers-holding : (q : AgentRow → Bool) (a : ℕ) (b : Bool) → ((row : AgentRow) → q (holding_set a b row) ≡ q row) → (rows : List AgentRow) → agent_numbers (filter q (with_holding a b rows)) ≡ agent_numbers (filter q rows)
+pub numbers-holding : (q : AgentRow → Bool) (a : ℕ) (b : Bool) → ((row : AgentRow) → q (agent_with_holding a b row) ≡ q row) → (rows : List AgentRow) → agent_numbers (filter q (with_holding a b rows)) ≡ agent_numbers (filter q rows)
 numbers-holding q a b same [] = refl
 numbers-holding q a b same (row ∷ rows) = rw (same row) (by_test (q row) (numbers-holding q a b same rows))
   where
     by_test : (t : Bool) → agent_numbers (filter q (with_holding a b rows)) ≡ agent_numbers (filter q rows)
-        → agent_numbers (cond t (holding_set a b row ∷ filter q (with_holding a b rows)) (filter q (with_holding a b rows))) ≡ agent_numbers (cond t (row ∷ filter q rows) (filter q rows))
+        → agent_numbers (cond t (agent_with_holding a b row ∷ filter q (with_holding a b rows)) (filter q (with_holding a b rows))) ≡ agent_numbers (cond t (row ∷ filter q rows) (filter q rows))
     by_test true rest = ap (λ ns. row.number ∷ ns) rest
     by_test false rest = rest
 

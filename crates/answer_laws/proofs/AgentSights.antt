@@ -2,7 +2,7 @@
 use Rattle.answer_laws.proofs.Replies.{Never, filter_none, unless_passed}
 use Rattle.answer_laws.proofs.Sights.{Away, found_other, pushed_own, received_own, replied_other, without_own}
 use Rattle.answer_laws.specs.Agents.{AgentSight, DestroyedAgentsAreGone, OthersLeaveAgents, agent_sight, no_agent, spares_agent}
-use Rattle.lwp_types.specs.Agents.{agent_gone, agents_of, belongs_to, end_agent, make_agent, new_agent}
+use Rattle.lwp_types.specs.Agents.{after_agent_end, agents_of, belongs_to, end_agent, make_agent, new_agent}
 use Rattle.lwp_types.specs.Case.{Case, Check, refusal_case, silent_case, unless, value_case, with_zero}
 use Rattle.lwp_types.specs.Choice.{choice}
 use Rattle.lwp_types.specs.Conditions.{after_wait, after_wake, after_wake_all, condition_of, waking}
@@ -10,9 +10,9 @@ use Rattle.lwp_types.specs.CountLaws.{count-cons, count-filter, count_agree, cou
 use Rattle.lwp_types.specs.Counts.{goes_well, is_owners}
 use Rattle.lwp_types.specs.Death.{answer_joiners, bury, death, destroy_case, end_agents, refuse_receivers, refuse_sender, refuse_senders, release_all, return_from, run_all_exits, withdraw}
 use Rattle.lwp_types.specs.Exceptions.{caught_marks, exits_of, first_frames, frames, handler_in, later_frames, searching, with_match}
-use Rattle.lwp_types.specs.Exits.{catch_case, exit_case, leave_frame, notified_by, run_exit, unwind}
+use Rattle.lwp_types.specs.Exits.{catch_case, exit_case, leave_frame, excnotify_case_by, run_exit, unwind}
 use Rattle.lwp_types.specs.Lawful.{Lawful, NineParts}
-use Rattle.lwp_types.specs.Messages.{after_reply, as_received, holding_set, is_letter_of, is_open, is_to, next_letter, post, receive_by, receivers_of, senders_to, takes_from, with_holding, without_letter}
+use Rattle.lwp_types.specs.Messages.{after_reply, as_received, agent_with_holding, is_letter_of, is_open, is_to, next_letter, post, receive_by, receivers_of, senders_to, takes_from, with_holding, without_letter}
 use Rattle.lwp_types.specs.MonitorRelease.{grant, last_lock, next_owner, release, without_lock}
 use Rattle.lwp_types.specs.Monitors.{after_exit, after_request, depth_in, enter_case, is_owned_by_other, with_depth}
 use Rattle.lwp_types.specs.State.{Outcome, State, and_then, for_each, in_order, is_agent, is_agent_row, is_id, is_thread, marks_in, passes, still, thread_of}
@@ -107,12 +107,12 @@ module _ (a : ℕ) where
   kept_replied : (s : State) (v : ℕ) (text : List ℕ) → v ≢ a → Kept s (after_reply v text s).after
   kept_replied s v text other = kept_cond s (is_agent s v) _ _ idle (λ i. seen_by (agent_sight s a).row (without_own a Never v other s.letters i))
     where
-      unmoved : (o : Option AgentRow) → find (is_agent_row a) s.agents ≡ o → option_map (holding_set v false) o ≡ o
+      unmoved : (o : Option AgentRow) → find (is_agent_row a) s.agents ≡ o → option_map (agent_with_holding v false) o ≡ o
       unmoved None e = refl
       unmoved (Some row) e = ap Some (rw (ne_eqb row.number v (λ is. other (sym is ∙ eqb-true row.number a (find_passes (is_agent_row a) s.agents row e)))) refl)
 
       rows : find (is_agent_row a) (with_holding v false s.agents) ≡ find (is_agent_row a) s.agents
-      rows = find_map (is_agent_row a) (is_agent_row a) (holding_set v false) (λ row. refl) s.agents ∙ unmoved (find (is_agent_row a) s.agents) refl
+      rows = find_map (is_agent_row a) (is_agent_row a) (agent_with_holding v false) (λ row. refl) s.agents ∙ unmoved (find (is_agent_row a) s.agents) refl
 
       idle : Kept s (record s { letters = without_letter v s.letters; agents = with_holding v false s.agents })
       idle = λ i. seen_by (rows i) (without_own a Never v other s.letters i)
@@ -132,7 +132,7 @@ module _ (a : ℕ) where
 
   -- an agent ends that is another
   kept_end : (v : ℕ) (s : State) → v ≢ a → Kept s (end_agent v s).after
-  kept_end v s other = kept_then s woke (λ now. still (agent_gone v now)) (kept_each (unblock nonexist) (λ x now. refl) (receivers_of s v) s)
+  kept_end v s other = kept_then s woke (λ now. still (after_agent_end v now)) (kept_each (unblock nonexist) (λ x now. refl) (receivers_of s v) s)
       (λ i. seen_by (find_filter_same (is_agent_row a) (λ row. not (is_agent_row v row)) keeps woke.after.agents i) (without_own a Never v other woke.after.letters i))
     where
       woke : Outcome
@@ -328,7 +328,7 @@ module _ (a : ℕ) where
           by_found None = refl
           by_found (Some f) = fine f
 
-      kept_notified : (p : ℕ) (f : Found) (h : Func) → Kept s (notified_by s t p f h).after
+      kept_notified : (p : ℕ) (f : Found) (h : Func) → Kept s (excnotify_case_by s t p f h).after
       kept_notified p f func.Give = refl
       kept_notified p f func.Sum = refl
       kept_notified p f func.Nothing = kept_caught p f

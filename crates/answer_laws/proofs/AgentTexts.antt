@@ -9,8 +9,8 @@ use Rattle.lwp_types.specs.Agents.{deliver, deliver_to, event_agents, is_for, me
 use Rattle.lwp_types.specs.CountLaws.{count-append, count-cons, count-filter-le, one}
 use Rattle.lwp_types.specs.Counts.{has_owner_and_event, is_between, timers_of}
 use Rattle.lwp_types.specs.Lawful.{Lawful}
-use Rattle.lwp_types.specs.Messages.{as_answer, as_received, holding_set, is_letter_of, post, takes_from, with_holding}
-use Rattle.lwp_types.specs.State.{Outcome, State, ThreadRow, agent_of, and_then, block_set, for_each, is_agent_row, is_number, is_thread, passes, still, thread_of, with_block}
+use Rattle.lwp_types.specs.Messages.{as_answer, as_received, agent_with_holding, is_letter_of, post, takes_from, with_holding}
+use Rattle.lwp_types.specs.State.{Outcome, State, ThreadRow, agent_of, and_then, row_with_block, for_each, is_agent_row, is_number, is_thread, passes, still, thread_of, with_block}
 use Rattle.lwp_types.specs.Time.{after_tick, due_threads, is_due, tick, time_out}
 use Rattle.lwp_types.specs.Unblock.{is_timer_of, unblock}
 use Rattle.lwp_types.specs.declared.call.Answer.{Answer}
@@ -73,12 +73,12 @@ module _ (a : ℕ) where
       (record { seen = λ i. seen_by (rows other i) (agent_sight s a).letters; none = omega (arith, ap one (ne_eqb row.number a other)) })
       (record { seen = kept_post a holds (message text row) other; none = post_none holds (message text row) })
     where
-      unmoved : row.number ≢ a → (o : Option AgentRow) → find (is_agent_row a) s.agents ≡ o → option_map (holding_set row.number true) o ≡ o
+      unmoved : row.number ≢ a → (o : Option AgentRow) → find (is_agent_row a) s.agents ≡ o → option_map (agent_with_holding row.number true) o ≡ o
       unmoved other None e = refl
       unmoved other (Some found) e = ap Some (rw (ne_eqb found.number row.number (λ is. other (sym is ∙ eqb-true found.number a (find_passes (is_agent_row a) s.agents found e)))) refl)
 
       rows : row.number ≢ a → find (is_agent_row a) (with_holding row.number true s.agents) ≡ find (is_agent_row a) s.agents
-      rows other = find_map (is_agent_row a) (is_agent_row a) (holding_set row.number true) (λ row. refl) s.agents ∙ unmoved other (find (is_agent_row a) s.agents) refl
+      rows other = find_map (is_agent_row a) (is_agent_row a) (agent_with_holding row.number true) (λ row. refl) s.agents ∙ unmoved other (find (is_agent_row a) s.agents) refl
 
   pub passed_others : (text : List ℕ) (rows : List AgentRow) → list_all (λ row. not (is_agent_row a row)) rows ≡ true → (s : State) → IsPassedBy a s (for_each (deliver_to text) rows s)
   passed_others text rows all s = passed_each (λ row. not (is_agent_row a row)) (deliver_to text) (passed_other text) rows all s
@@ -288,7 +288,7 @@ module _ (row : AgentRow) (text : List ℕ) (away : row.number ≢ row.owner) wh
   takes_at s b seen = let here = at_of s u b seen in ap (passes (λ (x : ThreadRow). takes_from a x.block)) here.known ∙ ap (takes_from a) here.waits
 
   held_row : (s : State) → find (is_agent_row a) s.agents ≡ Some row → find (is_agent_row a) (with_holding a true s.agents) ≡ Some (record row { holding = true })
-  held_row s there = find_map (is_agent_row a) (is_agent_row a) (holding_set a true) (λ row. refl) s.agents ∙ ap (option_map (holding_set a true)) there ∙ ap Some (rw (eq-eqb a a refl) refl)
+  held_row s there = find_map (is_agent_row a) (is_agent_row a) (agent_with_holding a true) (λ row. refl) s.agents ∙ ap (option_map (agent_with_holding a true)) there ∙ ap Some (rw (eq-eqb a a refl) refl)
 
   reached : (s : State) (b : Bool) → find (is_agent_row a) s.agents ≡ Some row → IsReached a row text b s (told s b)
   reached s true there = record {
@@ -309,8 +309,8 @@ module _ (row : AgentRow) (text : List ℕ) (away : row.number ≢ row.owner) wh
       here : At s u (block.Receiving (Some a))
       here = at_of s u (block.Receiving (Some a)) seen
 
-      now : find (is_number u) (with_block u block.Not s.threads) ≡ Some (block_set u block.Not here.row)
-      now = find_rowed (block_set u block.Not) (λ row. refl) s.threads u ∙ ap (option_map (block_set u block.Not)) here.known
+      now : find (is_number u) (with_block u block.Not s.threads) ≡ Some (row_with_block u block.Not here.row)
+      now = find_rowed (row_with_block u block.Not) (λ row. refl) s.threads u ∙ ap (option_map (row_with_block u block.Not)) here.known
 
       goes : (b : Bool) → b ≡ true → sight_by (Some (record here.row { block = cond b block.Not here.row.block })) (filter (is_letter_of u) s.letters) ≡ going_on (sight s u)
       goes true e = ap (λ o. going_on (sight_by o (filter (is_letter_of u) s.letters))) (sym here.known)

@@ -13,9 +13,9 @@ use Rattle.answer_laws.proofs.TalkLaws.{Closing.Alone, Closing.Done, Inv, Inv.En
 use Rattle.answer_laws.proofs.AnswerLists.{table_after}
 use Rattle.answer_laws.proofs.TalkSteps.{attends_seen, attentive, awaits, unborn_absent, unsome}
 use Rattle.answer_laws.proofs.TalkTexts.{unborn_silent}
-use Rattle.answer_laws.specs.Sights.{Sight, answers_to, attends, going_on, sight, written_to}
+use Rattle.answer_laws.specs.Sights.{Sight, answers_to, attends, going_on, sight, open_letters}
 use Rattle.answer_laws.specs.Stands.{HeardAs, block_of, goes_on_with, is_reading, last_heard}
-use Rattle.answer_laws.specs.Talks.{Mail.Nothing, Stand, Stand.AwaitsLetter, Stand.Hears, Talk, deed_of, session_told, store_calls, store_turn}
+use Rattle.answer_laws.specs.Talks.{Mail.Nothing, Stand, Stand.AwaitsLetter, Stand.Hears, Talk, deed_of, after_session_reply, store_calls, store_turn}
 use Rattle.line_server.specs.Sessions.{session_opening}
 use Rattle.line_server.specs.declared.session.SessionPlace.TheVariants as at
 use Rattle.line_server.specs.Stores.{StoreBody, store_by, store_next, table_of}
@@ -24,7 +24,7 @@ use Rattle.lwp_types.specs.Choice.{choice}
 use Rattle.lwp_types.specs.CountLaws.{count-append, count_not_found}
 use Rattle.lwp_types.specs.Counts.{timers_of}
 use Rattle.lwp_types.specs.Lawful.{Lawful}
-use Rattle.lwp_types.specs.Messages.{after_reply, as_answer, is_letter_of, is_open, is_to, next_letter, received_from}
+use Rattle.lwp_types.specs.Messages.{after_reply, as_answer, is_letter_of, is_open, is_to, next_letter, received_letter}
 use Rattle.lwp_types.specs.Names.{Names}
 use Rattle.lwp_types.specs.State.{Outcome, State, agent_of, is_agent, is_agent_row, is_thread, marks_in, passes}
 use Rattle.lwp_types.specs.Step.{step}
@@ -34,9 +34,9 @@ use Rattle.lwp_types.specs.declared.call.Answer.{Answer}
 use Rattle.lwp_types.specs.declared.call.Call.{Call}
 use Rattle.lwp_types.specs.declared.call.Effect.{Effect}
 use Rattle.lwp_types.specs.declared.rows.Letter.{Letter}
-use Rattle.pod_laws.specs.Timers.{timers_asked}
+use Rattle.pod_laws.specs.Timers.{timers_of_call}
 use Rattle.pod_events.specs.Events.{EventState, after_pass_on, after_take_trap, is_trapped, rites_event, take_event}
-use Rattle.pod_events.specs.Rites.{after_first_report, as_rites, report_text, reports_after, rites_said}
+use Rattle.pod_events.specs.Rites.{after_first_report, as_rites, report_text, reports_after, after_rites}
 use Rattle.pod_events.specs.Step.{event_step}
 use Rattle.pod_events.specs.Traps.{Trapping, after_machine_step, after_trap_and_call}
 use Rattle.pod_laws.proofs.Elements.{differ}
@@ -79,7 +79,7 @@ module _ (s k : ℕ) (st : State) (was : Lawful st None) (kb : StoreBody) (kz : 
   attends_k : attends st k ≡ true
   attends_k = attends_seen st k (block_of None h.stand) (ap (λ (v : Sight). v.waits) h.seen) (attentive None h.stand)
 
-  written_none : (v : ℕ) → written_to st k v ≡ 0
+  written_none : (v : ℕ) → open_letters st k v ≡ 0
   written_none v = ap (λ (x : Sight). count_by (is_to v) x.letters) h.seen
 
   alone_turn : (out : Outcome) → Turn k (FitsApart s) st out → timers_of out.after.timers k ≡ 0 → AloneAt s k out.after kb (last_heard kz (answers_to k out.effects))
@@ -117,7 +117,7 @@ heard_then z (x ∷ xs) ys = heard_then x xs ys
 
 -- with the report behind it
 alone_said : (s k : ℕ) (after : State) (es : List Effect) (reports : List ℕ) (kb : StoreBody) (kz : Answer) → Lawful after None → is_agent after s ≡ false → AloneAt s k after kb (last_heard kz (answers_to k es))
-    → AloneAt s k (rites_said after es reports).state kb (last_heard kz (answers_to k (rites_said after es reports).effects))
+    → AloneAt s k (after_rites after es reports).state kb (last_heard kz (answers_to k (after_rites after es reports).effects))
 alone_said s k after es reports kb kz was away h = by_armed (is_event_armed after rites_event) reports
   where
     by_armed : (b : Bool) (rs : List ℕ) → AloneAt s k (cond b (after_first_report after es rs) (record { state = after; reports = rs; effects = es })).state kb (last_heard kz (answers_to k (cond b (after_first_report after es rs) (record { state = after; reports = rs; effects = es })).effects))
@@ -131,7 +131,7 @@ alone_said s k after es reports kb kz was away h = by_armed (is_event_armed afte
 
 module _ (s k : ℕ) (es : EventState) (was : Lawful es.state None) (kb : StoreBody) (kz : Answer) (h : AloneAt s k es.state kb kz) where
   -- no agent has the number of who isn't born, or is a thread
-  free_before : (after : State) (fs : List Effect) (reports : List ℕ) → Lawful after None → ((rites_said after fs reports).state.births ≤ s) ⊎ (is_thread (rites_said after fs reports).state s ≡ true) → is_agent after s ≡ false
+  free_before : (after : State) (fs : List Effect) (reports : List ℕ) → Lawful after None → ((after_rites after fs reports).state.births ≤ s) ⊎ (is_thread (after_rites after fs reports).state s ≡ true) → is_agent after s ≡ false
   free_before after fs reports then (inr lives) = no_agent after then s (sym (thread_said s after fs reports) ∙ lives)
   free_before after fs reports then (inl low) = by_or (is_thread after s) (unborn_absent after then s (omega (arith, low, births_said after fs reports)))
     where
@@ -203,11 +203,11 @@ module _ (s k : ℕ) (st : State) (was : Lawful st None) (kb : StoreBody) (kz : 
   unfolding before
   inv_before = Goes (Idle [] (record { replied = refl; kept = h.table; clean = refl }) refl refl refl) (ap (stands s kb.place) (sym stands_now) ∙ h.apart)
 
-  untimed_then : (c : Call) → timers_asked st (Some k) c ≡ [] → timers_of (step st c).after.timers k ≡ 0
-  untimed_then c asks = omega (arith, h.untimed, (no_timer_comes_unasked st (is_timer_of k)).called c, count-append (is_timer_of k) st.timers (timers_asked st (choice st) c), ap (λ o. count_by (is_timer_of k) (timers_asked st o c)) turn, ap (count_by (is_timer_of k)) asks)
+  untimed_then : (c : Call) → timers_of_call st (Some k) c ≡ [] → timers_of (step st c).after.timers k ≡ 0
+  untimed_then c asks = omega (arith, h.untimed, (no_timer_comes_unasked st (is_timer_of k)).called c, count-append (is_timer_of k) st.timers (timers_of_call st (choice st) c), ap (λ o. count_by (is_timer_of k) (timers_of_call st o c)) turn, ap (count_by (is_timer_of k)) asks)
 
   -- what it is told it is polled with
-  stood : (c : Call) (body : StoreBody) (stand : Stand) (xs : List Answer) → Keeps k st turn k_seen c stand xs → is_reading stand ≡ true → HeardAs stand (last_heard kz xs) → timers_asked st (Some k) c ≡ [] → table_of s body.tables ≡ [] → stands s body.place stand ≡ true
+  stood : (c : Call) (body : StoreBody) (stand : Stand) (xs : List Answer) → Keeps k st turn k_seen c stand xs → is_reading stand ≡ true → HeardAs stand (last_heard kz xs) → timers_of_call st (Some k) c ≡ [] → table_of s body.tables ≡ [] → stands s body.place stand ≡ true
       → AloneAt s k (step st c).after body (last_heard kz (answers_to k (step st c).effects))
   stood c body stand xs keeps reads heard asks table apart = record { stand = stand; seen = keeps.seen; reads = reads; untimed = untimed_then c asks; heard = subst (λ ys. HeardAs stand (last_heard kz ys)) (sym keeps.told) heard; table = table; apart = apart }
 
@@ -228,7 +228,7 @@ module _ (s k : ℕ) (st : State) (was : Lawful st None) (kb : StoreBody) (kz : 
   replies : (v : ℕ) (text : List ℕ) (body : StoreBody) → table_of s body.tables ≡ [] → After (call.Reply v text, body)
   replies v text body table = by_checks (checked st _ _)
     where
-      by_checks : Checked st (is_no_id st v ∷ (is_none (received_from st.letters k v), error.NoWait) ∷ (passes (λ (letter : Letter). nat_lt letter.room (length text)) (received_from st.letters k v), error.InvalidArg) ∷ []) (with_zero (after_reply v text st)) → After (call.Reply v text, body)
+      by_checks : Checked st (is_no_id st v ∷ (is_none (received_letter st.letters k v), error.NoWait) ∷ (passes (λ (letter : Letter). nat_lt letter.room (length text)) (received_letter st.letters k v), error.InvalidArg) ∷ []) (with_zero (after_reply v text st)) → After (call.Reply v text, body)
       by_checks (Struck e is) = stood (call.Reply v text) body (Hears (answer.Refused e)) (answer.Refused e ∷ []) (keeps_refused k st turn k_seen v text e is) refl refl refl table refl
       by_checks (Free passed is) = stood (call.Reply v text) body (Hears zero_answer) (zero_answer ∷ []) (keeps_replied k st turn k_seen v text (replied_other k Never k st (off k st turn k_seen) v passed.1.0) is) refl refl refl table refl
 
@@ -241,8 +241,8 @@ module _ (s k : ℕ) (st : State) (was : Lawful st None) (kb : StoreBody) (kz : 
   alone_by does (DoesReceive body is) on inv = subst After (sym is) (receives body (idle_of s _ (subst (λ (d : Call × StoreBody). Inv s (store_calls s None (record before { store = d.1 }) (deed_of d.0))) is inv) refl refl refl refl refl))
   alone_by does (DoesReply v text body is) on inv = subst After (sym is) (replies v text body (by_session (eqb v s) (subst (λ (d : Call × StoreBody). Inv s (store_calls s None (record before { store = d.1 }) (deed_of d.0))) is inv)))
     where
-      by_session : (b : Bool) → Inv s (cond b (session_told (record before { store = body }) text Nothing) (record before { store = body; keeper = Hears zero_answer })) → table_of s body.tables ≡ []
-      by_session true inv = (idle_of s (session_told (record before { store = body }) text Nothing) inv refl refl refl refl refl).0
+      by_session : (b : Bool) → Inv s (cond b (after_session_reply (record before { store = body }) text Nothing) (record before { store = body; keeper = Hears zero_answer })) → table_of s body.tables ≡ []
+      by_session true inv = (idle_of s (after_session_reply (record before { store = body }) text Nothing) inv refl refl refl refl refl).0
       by_session false inv = (idle_of s (record before { store = body; keeper = Hears zero_answer }) inv refl refl refl refl refl).0
   alone_by does (DoesStop is) on inv = differ (sym on ∙ ap goes_on_with is)
 
@@ -274,7 +274,7 @@ module _ (s k : ℕ) (es : EventState) (was : Lawful es.state None) (kb : StoreB
       Goal out = is_thread out.after k ≡ true → (out.after.births ≤ s) ⊎ (is_thread out.after s ≡ true) → AloneAt s k out.after (store_next kb names kz).1 (last_heard kz (answers_to k out.effects))
 
       gone : (out : Trapping) → IsGone out.state k → Goal (done_by es out)
-      gone out off = λ alive free. differ (sym alive ∙ gone_thread (rites_said out.state out.effects (reports_after es.state out.state es.reports out.effects)).state k (gone_said k out.state out.effects (reports_after es.state out.state es.reports out.effects) off))
+      gone out off = λ alive free. differ (sym alive ∙ gone_thread (after_rites out.state out.effects (reports_after es.state out.state es.reports out.effects)).state k (gone_said k out.state out.effects (reports_after es.state out.state es.reports out.effects) off))
 
       by_stop : (b : Bool) → goes_on_with c ≡ b → Goal (done_by es (after_machine_step es.trapped (step es.state c)))
       by_stop true on = λ alive free.

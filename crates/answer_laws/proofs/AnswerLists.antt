@@ -1,6 +1,6 @@
 -- How lines are answered, one after the other.
 use Rattle.answer_laws.specs.Talks.{AreFirst}
-use Rattle.line_server.specs.Tables.{Table, is_quit, line_answers, replies, told_text}
+use Rattle.line_server.specs.Tables.{Table, is_quit, line_answers, replies, served_text}
 use Rattle.std.proofs.Common.{Bool, List, [], ap, cond, false, refl, sym, true, ℕ, ◌++◌, ◌∙◌, ◌∷◌, ◌≡◌, ◌||◌}
 use Rattle.std.proofs.lemmas.List.{append-nil, append_assoc}
 use Rattle.std.proofs.Math.Numerals.{one-add}
@@ -13,7 +13,7 @@ Texts = List (List ℕ)
 -- the table after these texts
 abbrev pub table_after : Table → Texts → Table
 table_after table [] = table
-table_after table (text ∷ texts) = table_after (told_text text table).table texts
+table_after table (text ∷ texts) = table_after (served_text text table).table texts
 
 -- how lines are answered, with this table at first
 abbrev pub answers_from : Table → Texts → Texts
@@ -36,7 +36,7 @@ abbrev answers_of : Table → Texts → Bool → Texts
 answers_of table before ends = replies table before ++ cond ends (codes "bye" ∷ []) []
 
 -- a line that isn't the last is replied to
-answers_cons : (table : Table) (text : List ℕ) (texts : Texts) → is_quit text ≡ false → answers_from table (text ∷ texts) ≡ (told_text text table).reply ∷ answers_from (told_text text table).table texts
+answers_cons : (table : Table) (text : List ℕ) (texts : Texts) → is_quit text ≡ false → answers_from table (text ∷ texts) ≡ (served_text text table).reply ∷ answers_from (served_text text table).table texts
 answers_cons table text texts e = ap (λ before. answers_of table before (list_any is_quit (text ∷ texts))) (before_stays is_quit text texts e) ∙ ap (answers_of table (text ∷ before_first is_quit texts)) (any_stays is_quit text texts e)
 
 -- the last one is answered
@@ -49,12 +49,12 @@ answers_quit table text texts e = ap (λ before. answers_of table before (list_a
 -- the answers to some lines are the first to more
 answers_grow : (xs ys : Texts) (table : Table) → AreFirst (answers_from table xs) (answers_from table (xs ++ ys))
 answers_grow [] ys table = record { rest = answers_from table ys; whole = refl }
-answers_grow (x ∷ xs) ys table = by_quit (answers_grow xs ys (told_text x table).table) (is_quit x) refl
+answers_grow (x ∷ xs) ys table = by_quit (answers_grow xs ys (served_text x table).table) (is_quit x) refl
   where
-    by_quit : AreFirst (answers_from (told_text x table).table xs) (answers_from (told_text x table).table (xs ++ ys)) → (b : Bool) → is_quit x ≡ b → AreFirst (answers_from table (x ∷ xs)) (answers_from table (x ∷ (xs ++ ys)))
+    by_quit : AreFirst (answers_from (served_text x table).table xs) (answers_from (served_text x table).table (xs ++ ys)) → (b : Bool) → is_quit x ≡ b → AreFirst (answers_from table (x ∷ xs)) (answers_from table (x ∷ (xs ++ ys)))
     by_quit later true e = record { rest = []; whole = append-nil (answers_from table (x ∷ xs)) ∙ answers_quit table x xs e ∙ sym (answers_quit table x (xs ++ ys) e) }
     by_quit later false e =
-        record { rest = later.rest; whole = ap (λ zs. zs ++ later.rest) (answers_cons table x xs e) ∙ ap (λ zs. (told_text x table).reply ∷ zs) later.whole ∙ sym (answers_cons table x (xs ++ ys) e) }
+        record { rest = later.rest; whole = ap (λ zs. zs ++ later.rest) (answers_cons table x xs e) ∙ ap (λ zs. (served_text x table).reply ∷ zs) later.whole ∙ sym (answers_cons table x (xs ++ ys) e) }
 
 pub first_more : (said xs ys : Texts) → AreFirst said (line_answers xs) → AreFirst said (line_answers (xs ++ ys))
 first_more said xs ys first =
@@ -70,7 +70,7 @@ answers_append : (done more : Texts) (table : Table) → list_any is_quit done �
 answers_append [] more table clean = refl
 answers_append (text ∷ done) more table clean =
     let parts = either_false (is_quit text) (list_any is_quit done) clean in
-    answers_cons table text (done ++ more) parts.0 ∙ ap (λ rest. (told_text text table).reply ∷ rest) (answers_append done more (told_text text table).table parts.1)
+    answers_cons table text (done ++ more) parts.0 ∙ ap (λ rest. (served_text text table).reply ∷ rest) (answers_append done more (served_text text table).table parts.1)
 
 pub first_replies : (done more : Texts) → list_any is_quit done ≡ false → AreFirst (replies [] done) (line_answers (done ++ more))
 first_replies done more clean = record { rest = answers_from (table_after [] done) more; whole = sym (answers_append done more [] clean) }
@@ -83,13 +83,13 @@ pub first_quit : (done : Texts) (text : List ℕ) → list_any is_quit done ≡ 
 first_quit done text clean quits = record { rest = []; whole = append-nil (replies [] done ++ codes "bye" ∷ []) ∙ sym (answers_append done (text ∷ []) [] clean ∙ ap (λ rest. replies [] done ++ rest) (answers_last (table_after [] done) text quits)) }
 
 -- one line more
-pub replies_push : (done : Texts) (text : List ℕ) (table : Table) → replies table (done ++ text ∷ []) ≡ replies table done ++ (told_text text (table_after table done)).reply ∷ []
+pub replies_push : (done : Texts) (text : List ℕ) (table : Table) → replies table (done ++ text ∷ []) ≡ replies table done ++ (served_text text (table_after table done)).reply ∷ []
 replies_push [] text table = refl
-replies_push (first ∷ done) text table = ap (λ rest. (told_text first table).reply ∷ rest) (replies_push done text (told_text first table).table)
+replies_push (first ∷ done) text table = ap (λ rest. (served_text first table).reply ∷ rest) (replies_push done text (served_text first table).table)
 
-pub table_push : (done : Texts) (text : List ℕ) (table : Table) → table_after table (done ++ text ∷ []) ≡ (told_text text (table_after table done)).table
+pub table_push : (done : Texts) (text : List ℕ) (table : Table) → table_after table (done ++ text ∷ []) ≡ (served_text text (table_after table done)).table
 table_push [] text table = refl
-table_push (first ∷ done) text table = table_push done text (told_text first table).table
+table_push (first ∷ done) text table = table_push done text (served_text first table).table
 
 pub clean_push : (done : Texts) (text : List ℕ) → list_any is_quit done ≡ false → is_quit text ≡ false → list_any is_quit (done ++ text ∷ []) ≡ false
 clean_push [] text clean stays = by_quit (is_quit text) stays

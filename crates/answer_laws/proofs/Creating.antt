@@ -30,12 +30,12 @@ use Rattle.lwp_types.specs.declared.call.Flags.{Flags}
 use Rattle.lwp_types.specs.declared.call.LwpErr.{LwpErr}
 use Rattle.pod_events.proofs.MildCalls.{case_toll, is_tame}
 use Rattle.pod_events.specs.Events.{EventState, after_pass_on, after_take_trap, is_trapped, rites_event, take_event}
-use Rattle.pod_events.specs.Rites.{after_first_report, as_rites, report_text, reports_after, rites_said}
+use Rattle.pod_events.specs.Rites.{after_first_report, as_rites, report_text, reports_after, after_rites}
 use Rattle.pod_events.specs.Step.{event_step}
-use Rattle.pod_events.specs.Traps.{after_call as traps_made, after_call_as, after_machine_step, after_trap, after_trap_and_call as traps_called, agent_event_of, but_call, is_catch, is_given, notice, refused_by, trap_of, trap_refusal}
+use Rattle.pod_events.specs.Traps.{after_call as traps_made, after_call_as, after_machine_step, after_trap, after_trap_and_call as traps_called, agent_event_of, but_call, is_catch, is_given, notice, after_refusal, trap_of, trap_refusal}
 use Rattle.pod_laws.proofs.Elements.{find_push_new}
 use Rattle.pod_laws.specs.Forgotten.{is_died}
-use Rattle.pod_runner.specs.Session.{after_answer as rows_answered, after_settle, after_settle_by, proc_of, row_of, row_opened, rows_born, thread_in, with_row, without_row}
+use Rattle.pod_runner.specs.Session.{after_answer as rows_answered, after_settle, after_settle_by, proc_of, row_of, rows_of_new, rows_born, thread_in, with_row, without_row}
 use Rattle.pod_runner.specs.declared.session.Row.{Row}
 use Rattle.session_laws.proofs.Pods.{call_moved}
 use Rattle.std.proofs.Common.{Bool, List, None, Option, Some, [], ap, append-nil, arith, cond, count_by, drop, eqb, false, inl, inr, refl, subst, sym, true, ℕ, ◌++◌, ◌∙◌, ◌∷◌, ◌≡◌, ◌≤◌, ◌⊎◌}
@@ -90,7 +90,7 @@ module _ {B : Type 0} (u : ℕ) where
   none_append [] ys none = refl
   none_append (r ∷ rs) ys none = let parts = none_head r rs none in ap (λ b. cond b (Some r) (row_of u (rs ++ ys))) parts.0 ∙ none_append rs ys parts.1
 
-  pub none_opened : (v : ℕ) (o : Option B) → eqb v u ≡ false → row_of u (row_opened v o) ≡ None
+  pub none_opened : (v : ℕ) (o : Option B) → eqb v u ≡ false → row_of u (rows_of_new v o) ≡ None
   none_opened v None e = refl
   none_opened v (Some body) e = ap (λ b. cond b (Some (record { tid = v; body = body; answer = zero_answer })) None) e
 
@@ -120,9 +120,9 @@ module _ {B : Type 0} (u : ℕ) where
   settled_append bodies born [] ys rows = refl
   settled_append bodies born (x ∷ xs) ys rows = settled_append bodies born xs ys (after_settle_by bodies born x rows)
 
-  row_opens : (rows : List (Row B)) (body : B) → row_of u rows ≡ None → (o : Option B) → o ≡ Some body → row_of u (rows ++ row_opened u o) ≡ Some (record { tid = u; body = body; answer = zero_answer })
+  row_opens : (rows : List (Row B)) (body : B) → row_of u rows ≡ None → (o : Option B) → o ≡ Some body → row_of u (rows ++ rows_of_new u o) ≡ Some (record { tid = u; body = body; answer = zero_answer })
   row_opens rows body none None e = absurd (cc)
-  row_opens rows body none (Some other) e = none_append rows (row_opened u (Some other)) none ∙ ap (λ b. cond b (Some (record { tid = u; body = other; answer = zero_answer })) None) (eq-eqb u u refl) ∙ ap (λ x. Some (record { tid = u; body = x; answer = zero_answer })) (same e)
+  row_opens rows body none (Some other) e = none_append rows (rows_of_new u (Some other)) none ∙ ap (λ b. cond b (Some (record { tid = u; body = other; answer = zero_answer })) None) (eq-eqb u u refl) ∙ ap (λ x. Some (record { tid = u; body = x; answer = zero_answer })) (same e)
     where
       same : Some other ≡ Some body → other ≡ body
       same e = cc e
@@ -271,11 +271,11 @@ module _ {B : Type 0} (bodies : List B) (u p : ℕ) (st : State) (was : Lawful s
           rows_are same rows none body is_body None bad d = absurd (cc)
           rows_are same rows none body is_body (Some q) so d = by_end d
             where
-              opened : row_of u (rows_answered t (answer.Thread st.births) rows ++ row_opened st.births (slice_get bodies q)) ≡ Some (record { tid = u; body = body; answer = zero_answer })
-              opened = subst (λ n. row_of u (rows_answered t (answer.Thread st.births) rows ++ row_opened n (slice_get bodies q)) ≡ Some (record { tid = u; body = body; answer = zero_answer })) (sym same)
+              opened : row_of u (rows_answered t (answer.Thread st.births) rows ++ rows_of_new st.births (slice_get bodies q)) ≡ Some (record { tid = u; body = body; answer = zero_answer })
+              opened = subst (λ n. row_of u (rows_answered t (answer.Thread st.births) rows ++ rows_of_new n (slice_get bodies q)) ≡ Some (record { tid = u; body = body; answer = zero_answer })) (sym same)
                   (row_opens u (rows_answered t (answer.Thread st.births) rows) body (none_with u t (λ row. record row { answer = answer.Thread st.births }) (λ r. refl) rows none) (slice_get bodies q) (ap (slice_get bodies) (unsome so) ∙ is_body))
 
-              by_end : (d : Bool) → row_of u (after_settle bodies (Some q) (cond d (effect.Ended made.after.status ∷ []) []) (rows_answered t (answer.Thread st.births) rows ++ row_opened st.births (slice_get bodies q))) ≡ Some (record { tid = u; body = body; answer = zero_answer })
+              by_end : (d : Bool) → row_of u (after_settle bodies (Some q) (cond d (effect.Ended made.after.status ∷ []) []) (rows_answered t (answer.Thread st.births) rows ++ rows_of_new st.births (slice_get bodies q))) ≡ Some (record { tid = u; body = body; answer = zero_answer })
               by_end true = opened
               by_end false = opened
 
@@ -304,7 +304,7 @@ module _ {B : Type 0} (bodies : List B) (u p : ℕ) (st : State) (was : Lawful s
       by_refusal e None = none_bears st (effect.Called t c ∷ effect.Answered t zero_answer ∷ []) refl
       by_refusal e (Some why) = none_bears st (effect.Called t c ∷ effect.Answered t (answer.Refused why) ∷ []) refl
 
-      by_agent : (b : Bool) → Bears (cond b (refused_by st trapped t c error.InUse) (after_machine_step trapped (step st c))).state (cond b (refused_by st trapped t c error.InUse) (after_machine_step trapped (step st c))).effects
+      by_agent : (b : Bool) → Bears (cond b (after_refusal st trapped t c error.InUse) (after_machine_step trapped (step st c))).state (cond b (after_refusal st trapped t c error.InUse) (after_machine_step trapped (step st c))).effects
       by_agent true = none_bears st (effect.Called t c ∷ effect.Answered t (answer.Refused error.InUse) ∷ []) refl
       by_agent false = step_bears
 
@@ -365,7 +365,7 @@ module _ {B : Type 0} (bodies : List B) (u p : ℕ) (st : State) (was : Lawful s
   bears_before (effect.Ended status ∷ es) ys head so = absurd (cc)
   bears_before (effect.Rites a n ∷ es) ys head so = absurd (cc)
 
-  said_bears : (after : State) (es : List Effect) (reports : List ℕ) → Lawful after None → (is_thread (rites_said after es reports).state u ≡ true → count_by (is_died u) (rites_said after es reports).effects ≡ 0) → Bears after es → Bears (rites_said after es reports).state (rites_said after es reports).effects
+  said_bears : (after : State) (es : List Effect) (reports : List ℕ) → Lawful after None → (is_thread (after_rites after es reports).state u ≡ true → count_by (is_died u) (after_rites after es reports).effects ≡ 0) → Bears after es → Bears (after_rites after es reports).state (after_rites after es reports).effects
   said_bears after es reports then_lawful = by_armed (is_event_armed after rites_event) reports
     where
       by_armed : (b : Bool) (rs : List ℕ) → (is_thread (cond b (after_first_report after es rs) (record { state = after; reports = rs; effects = es })).state u ≡ true → count_by (is_died u) (cond b (after_first_report after es rs) (record { state = after; reports = rs; effects = es })).effects ≡ 0) → Bears after es

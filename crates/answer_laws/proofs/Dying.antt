@@ -4,7 +4,7 @@ use Rattle.lwp_types.specs.Case.{refusal_case, silent_case, unless, with_zero}
 use Rattle.lwp_types.specs.Choice.{choice}
 use Rattle.lwp_types.specs.CountLaws.{one}
 use Rattle.lwp_types.specs.Death.{death}
-use Rattle.lwp_types.specs.Exits.{leave_frame, notified_by}
+use Rattle.lwp_types.specs.Exits.{leave_frame, excnotify_case_by}
 use Rattle.lwp_types.specs.Lawful.{Lawful}
 use Rattle.lwp_types.specs.Agents.{end_agent, is_event_armed}
 use Rattle.lwp_types.specs.Exceptions.{frames, handler_in, with_match}
@@ -18,7 +18,7 @@ use Rattle.lwp_types.specs.declared.rows.Mark.{Mark}
 use Rattle.lwp_types.specs.State.{agent_of}
 use Rattle.pod_events.proofs.Mild.{mild_deliver}
 use Rattle.pod_events.specs.Events.{rites_event}
-use Rattle.pod_events.specs.Rites.{after_first_report, report_text, rites_said}
+use Rattle.pod_events.specs.Rites.{after_first_report, report_text, after_rites}
 use Rattle.pod_events.specs.Traps.{is_catch, is_given, notice}
 use Rattle.pod_laws.proofs.Died.{death_died, finished_died, the_dead_are_forgotten}
 use Rattle.pod_laws.proofs.Elements.{differ}
@@ -83,7 +83,7 @@ unfolding unless
 no_notice st t e marks = (ap (λ ms. passes is_given (noticed ms)) marks ∙ by_test (eqb e 0 || nat_lt 2147483647 e), ap (λ ms. passes is_catch (noticed ms)) marks ∙ by_test2 (eqb e 0 || nat_lt 2147483647 e))
   where
     noticed : List Mark → Option Answer
-    noticed ms = (cond (eqb e 0 || nat_lt 2147483647 e) (refusal_case st error.InvalidArg) (with_match st (λ f. notified_by st t e f f.func) (handler_in e ms))).own
+    noticed ms = (cond (eqb e 0 || nat_lt 2147483647 e) (refusal_case st error.InvalidArg) (with_match st (λ f. excnotify_case_by st t e f f.func) (handler_in e ms))).own
 
     by_test : (b : Bool) → passes is_given (cond b (refusal_case st error.InvalidArg) (refusal_case st error.NonExist)).own ≡ false
     by_test true = refl
@@ -94,7 +94,7 @@ no_notice st t e marks = (ap (λ ms. passes is_given (noticed ms)) marks ∙ by_
     by_test2 false = refl
 
 -- and it is gone behind a report
-pub gone_said : (u : ℕ) (after : State) (es : List Effect) (reports : List ℕ) → IsGone after u → IsGone (rites_said after es reports).state u
+pub gone_said : (u : ℕ) (after : State) (es : List Effect) (reports : List ℕ) → IsGone after u → IsGone (after_rites after es reports).state u
 gone_said u after es reports gone = by_armed (is_event_armed after rites_event) reports
   where
     by_armed : (b : Bool) (rs : List ℕ) → IsGone (cond b (after_first_report after es rs) (record { state = after; reports = rs; effects = es })).state u
@@ -115,7 +115,7 @@ module _ (u : ℕ) where
   pub thread_delivered : (st : State) (e : ℕ) (text : List ℕ) → is_thread (deliver st e text).after u ≡ is_thread st u
   thread_delivered st e text = by_numbers (deliver st e text).after.threads ∙ ap (list_any (λ n. eqb n u)) (mild_deliver st e text).lives ∙ sym (by_numbers st.threads)
 
-  pub thread_said : (after : State) (es : List Effect) (reports : List ℕ) → is_thread (rites_said after es reports).state u ≡ is_thread after u
+  pub thread_said : (after : State) (es : List Effect) (reports : List ℕ) → is_thread (after_rites after es reports).state u ≡ is_thread after u
   thread_said after es reports = by_armed (is_event_armed after rites_event) reports
     where
       by_armed : (b : Bool) (rs : List ℕ) → is_thread (cond b (after_first_report after es rs) (record { state = after; reports = rs; effects = es })).state u ≡ is_thread after u

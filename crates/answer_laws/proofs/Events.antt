@@ -5,7 +5,7 @@ use Rattle.answer_laws.proofs.Others.{attends_of, deliver_turn, step_turn}
 use Rattle.answer_laws.proofs.Sights.{Attends, Turn, Turn.Left, Turn.Woken, answers_append, attends_after, turn_then}
 use Rattle.answer_laws.proofs.TalkSteps.{Ends, Ends.Destroys, Ends.Spared, ends_of}
 use Rattle.answer_laws.specs.Events.{IsSentOrReported, PodsLeaveIt, TakesLeaveIt, machine_of}
-use Rattle.answer_laws.specs.Sights.{IsDelivered, IsLeft, IsWoken, Spares, answers_to, attends, written_to}
+use Rattle.answer_laws.specs.Sights.{IsDelivered, IsLeft, IsWoken, Spares, answers_to, attends, open_letters}
 use Rattle.lwp_types.specs.Agents.{deliver, is_event_armed}
 use Rattle.lwp_types.specs.Choice.{choice}
 use Rattle.lwp_types.specs.CountLaws.{count-append}
@@ -20,12 +20,12 @@ use Rattle.lwp_types.specs.declared.call.Call.{Call}
 use Rattle.lwp_types.specs.declared.call.Effect.{Effect}
 use Rattle.lwp_types.specs.declared.call.LwpErr.{LwpErr}
 use Rattle.pod_events.specs.Events.{EventState, after_pass_on, after_take_trap, is_trapped, rites_event, take_event}
-use Rattle.pod_events.specs.Rites.{after_first_report, as_rites, report_text, reports_after, rites_said}
+use Rattle.pod_events.specs.Rites.{after_first_report, as_rites, report_text, reports_after, after_rites}
 use Rattle.pod_events.specs.Step.{event_step, event_step_by, event_step_if}
-use Rattle.pod_events.specs.Traps.{after_call, after_call_as, after_machine_step, after_trap, after_trap_and_call, agent_event_of, but_call, is_catch, is_given, notice, refused_by, trap_of, trap_refusal}
+use Rattle.pod_events.specs.Traps.{after_call, after_call_as, after_machine_step, after_trap, after_trap_and_call, agent_event_of, but_call, is_catch, is_given, notice, after_refusal, trap_of, trap_refusal}
 use Rattle.pod_laws.proofs.EveryStep.{Lawful-step}
 use Rattle.pod_laws.proofs.TimerMoves.{no_timer_comes_unasked}
-use Rattle.pod_laws.specs.Timers.{ticks_of, timers_asked, timers_by}
+use Rattle.pod_laws.specs.Timers.{ticks_of, timers_of_call, timers_by}
 use Rattle.std.proofs.Common.{Bool, List, None, Option, Some, [], ap, arith, cond, count_by, drop, eqb, false, inl, inr, refl, subst, sym, true, ℕ, ◌++◌, ◌∙◌, ◌∷◌, ◌≡◌, ◌≢◌, ◌⊎◌}
 use Rattle.std.proofs.lemmas.Bool.{eq-eqb, ne_eqb}
 use Rattle.std.specs.Prelude.{is_some, map}
@@ -94,7 +94,7 @@ module _ (u t : ℕ) (Fits : Option ℕ → Answer → Type 0) (s : State) (was 
 
   -- no timer comes but the caller's
   step_timers : (c : Call) → timers_of (step s c).after.timers u ≡ 0
-  step_timers c = omega (arith, none, (no_timer_comes_unasked s (is_timer_of u)).called c, count-append (is_timer_of u) s.timers (timers_asked s (choice s) c), ap (λ o. count_by (is_timer_of u) (timers_asked s o c)) turn, by_ticks (ticks_of c))
+  step_timers c = omega (arith, none, (no_timer_comes_unasked s (is_timer_of u)).called c, count-append (is_timer_of u) s.timers (timers_of_call s (choice s) c), ap (λ o. count_by (is_timer_of u) (timers_of_call s o c)) turn, by_ticks (ticks_of c))
     where
       by_ticks : (o : Option ℕ) → count_by (is_timer_of u) (timers_by s t o) ≡ 0
       by_ticks None = refl
@@ -102,7 +102,7 @@ module _ (u t : ℕ) (Fits : Option ℕ → Answer → Type 0) (s : State) (was 
 
   -- the call spares it and those to whom it has written; or it is there behind the call, and has written to nobody
   abbrev Fine : Call → State → Type 0
-  Fine c after = Spares s u c ⊎ ((is_thread after u ≡ true) × ((v : ℕ) → written_to s u v ≡ 0))
+  Fine c after = Spares s u c ⊎ ((is_thread after u ≡ true) × ((v : ℕ) → open_letters s u v ≡ 0))
 
   spared_by : (c : Call) → Fine c (step s c).after → Spares s u c
   spared_by c (inl spared) = spared
@@ -136,7 +136,7 @@ module _ (u t : ℕ) (Fits : Option ℕ → Answer → Type 0) (s : State) (was 
         by_refusal e None fine = after_none c _
         by_refusal e (Some why) fine = after_none c _
 
-        by_agent : (b : Bool) → Fine c (cond b (refused_by s trapped t c error.InUse) (after_machine_step trapped (step s c))).state → After (cond b (refused_by s trapped t c error.InUse) (after_machine_step trapped (step s c))).state (cond b (refused_by s trapped t c error.InUse) (after_machine_step trapped (step s c))).effects
+        by_agent : (b : Bool) → Fine c (cond b (after_refusal s trapped t c error.InUse) (after_machine_step trapped (step s c))).state → After (cond b (after_refusal s trapped t c error.InUse) (after_machine_step trapped (step s c))).state (cond b (after_refusal s trapped t c error.InUse) (after_machine_step trapped (step s c))).effects
         by_agent true fine = after_none c _
         by_agent false fine = after_step c (spared_by c fine) sent
 
@@ -157,7 +157,7 @@ module _ (u t : ℕ) (Fits : Option ℕ → Answer → Type 0) (s : State) (was 
 
 -- and then the report
 after_said : (u : ℕ) (Fits : Option ℕ → Answer → Type 0) (from s : State) (es : List Effect) (reports : List ℕ) → Attends u Fits from → ((dead agent : ℕ) (f : Option ℕ) → takes_from agent (block.Receiving f) ≡ true → Fits f (answer.Letter agent (report_text dead) 240)) → Calls u Fits from s es
-    → Turn u Fits from (record { after = (rites_said s es reports).state; effects = (rites_said s es reports).effects })
+    → Turn u Fits from (record { after = (after_rites s es reports).state; effects = (after_rites s es reports).effects })
 unfolding and_then
 after_said u Fits from s es reports here fits calls = by_armed (is_event_armed s rites_event) reports
   where
@@ -171,7 +171,7 @@ after_said u Fits from s es reports here fits calls = by_armed (is_event_armed s
         (turn_then u Fits from (record { after = s; effects = es }) (λ now. deliver now rites_event (report_text dead)) calls.turn told)
     by_armed false rs = calls.turn
 
-module _ (es : EventState) (was : Lawful es.state None) (t u : ℕ) (turn : choice es.state ≡ Some t) (other : eqb t u ≡ false) (attentive : attends es.state u ≡ true) (none : timers_of es.state.timers u ≡ 0) (away : written_to es.state u t ≡ 0) (c : Call) where
+module _ (es : EventState) (was : Lawful es.state None) (t u : ℕ) (turn : choice es.state ≡ Some t) (other : eqb t u ≡ false) (attentive : attends es.state u ≡ true) (none : timers_of es.state.timers u ≡ 0) (away : open_letters es.state u t ≡ 0) (c : Call) where
   abbrev FitsCall : Option ℕ → Answer → Type 0
   FitsCall from heard = IsSentOrReported t u c from heard
 
@@ -184,7 +184,7 @@ module _ (es : EventState) (was : Lawful es.state None) (t u : ℕ) (turn : choi
   abbrev FineCall : State → Type 0
   FineCall after = Fine u t FitsCall es.state was turn apart ready none c after
 
-  fine_before : (after : State) (fs : List Effect) (reports : List ℕ) → FineCall (rites_said after fs reports).state → FineCall after
+  fine_before : (after : State) (fs : List Effect) (reports : List ℕ) → FineCall (after_rites after fs reports).state → FineCall after
   fine_before after fs reports (inl spared) = inl spared
   fine_before after fs reports (inr alive) = inr (sym (thread_said u after fs reports) ∙ alive.0, alive.1)
 
@@ -201,7 +201,7 @@ pub pods_leave_it : PodsLeaveIt
 pods_leave_it es was t u turn other attentive none away c spared = fine_leave_it es was t u turn other attentive none away c (inl spared)
 
 -- who is there behind the call, and has written to nobody, was spared
-pub living_is_left : (es : EventState) → Lawful es.state None → (t u : ℕ) → choice es.state ≡ Some t → eqb t u ≡ false → attends es.state u ≡ true → timers_of es.state.timers u ≡ 0 → ((v : ℕ) → written_to es.state u v ≡ 0)
+pub living_is_left : (es : EventState) → Lawful es.state None → (t u : ℕ) → choice es.state ≡ Some t → eqb t u ≡ false → attends es.state u ≡ true → timers_of es.state.timers u ≡ 0 → ((v : ℕ) → open_letters es.state u v ≡ 0)
     → (c : Call) → is_thread (event_step es c).after.state u ≡ true → IsLeft u es.state (machine_of (event_step es c)) ⊎ IsWoken u (IsSentOrReported t u c) es.state (machine_of (event_step es c))
 living_is_left es was t u turn other attentive none away c lives = fine_leave_it es was t u turn other attentive none (away t) c (inr (lives, away))
 

@@ -8,9 +8,9 @@ use Rattle.lwp_types.specs.declared.call.Call.{Call}
 use Rattle.lwp_types.specs.declared.call.Effect.{Effect}
 use Rattle.lwp_types.specs.declared.call.LwpErr.{LwpErr}
 use Rattle.pod_events.specs.Events.{EventState, after_pass_on, after_take_trap, is_trapped, rites_event, take_event}
-use Rattle.pod_events.specs.Rites.{after_first_report, report_text, reports_after, rites_said}
+use Rattle.pod_events.specs.Rites.{after_first_report, report_text, reports_after, after_rites}
 use Rattle.pod_events.specs.Step.{event_step, event_step_by, event_step_if}
-use Rattle.pod_events.specs.Traps.{after_call, after_call_as, after_machine_step, after_trap, after_trap_and_call, agent_event_of, but_call, is_catch, is_given, notice, refused_by, trap_of, trap_refusal}
+use Rattle.pod_events.specs.Traps.{after_call, after_call_as, after_machine_step, after_trap, after_trap_and_call, agent_event_of, but_call, is_catch, is_given, notice, after_refusal, trap_of, trap_refusal}
 use Rattle.pod_laws.proofs.Fading.{Fades, deliver_fades, fades_still, fades_then, step_fades}
 use Rattle.std.proofs.Common.{Bool, List, None, Option, Some, [], cond, false, true, ℕ, ◌∷◌}
 use Rattle.lwp_types.specs.declared.call.Call.TheVariants as call
@@ -24,7 +24,7 @@ module _ (n : ℕ) where
       by_refusal e None = fades_still n st
       by_refusal e (Some why) = fades_still n st
 
-      by_agent : (b : Bool) → Fades n st (cond b (refused_by st trapped t c error.InUse) (after_machine_step trapped (step st c))).state
+      by_agent : (b : Bool) → Fades n st (cond b (after_refusal st trapped t c error.InUse) (after_machine_step trapped (step st c))).state
       by_agent true = fades_still n st
       by_agent false = step_fades n st c
 
@@ -41,7 +41,7 @@ module _ (n : ℕ) where
       by_given false true = step_fades n st (call.ExcNotify e)
       by_given false false = step_fades n st (call.Destroy t)
 
-  fades_said : (after : State) (es : List Effect) (reports : List ℕ) → Fades n after (rites_said after es reports).state
+  fades_said : (after : State) (es : List Effect) (reports : List ℕ) → Fades n after (after_rites after es reports).state
   fades_said after es reports = by_armed (is_event_armed after rites_event) reports
     where
       by_armed : (b : Bool) (rs : List ℕ) → Fades n after (cond b (after_first_report after es rs) (record { state = after; reports = rs; effects = es })).state

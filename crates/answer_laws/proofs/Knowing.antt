@@ -10,7 +10,7 @@ use Rattle.answer_laws.specs.Served.{CanGoOn, IsReached, after_move, after_moves
 use Rattle.lwp_types.specs.Agents.{deliver, is_event_armed}
 use Rattle.lwp_types.specs.Choice.{choice}
 use Rattle.lwp_types.specs.Lawful.{Lawful}
-use Rattle.lwp_types.specs.Names.{Names, id_at, null_id, polled_as}
+use Rattle.lwp_types.specs.Names.{Names, id_at, null_id, names_for_poll}
 use Rattle.lwp_types.specs.Poll.{Polled}
 use Rattle.lwp_types.specs.State.{State, passes}
 use Rattle.lwp_types.specs.Step.{step}
@@ -19,7 +19,7 @@ use Rattle.lwp_types.specs.declared.call.Call.{Call}
 use Rattle.lwp_types.specs.declared.call.Effect.{Effect}
 use Rattle.lwp_types.specs.declared.call.LwpErr.{LwpErr}
 use Rattle.line_server.specs.Commands.{Command, command_of}
-use Rattle.line_server.specs.Sessions.{SessionBody, session_at, session_by, session_next, session_opened, session_received, session_receives, session_returns, session_sends, session_told}
+use Rattle.line_server.specs.Sessions.{SessionBody, session_at, session_by, session_next, session_turn_after_agent, session_turn_after_letter, session_receives, session_returns, session_sends, session_turn_after_reply}
 use Rattle.line_server.specs.Stores.{store_next}
 use Rattle.line_server.specs.Tables.{is_quit}
 use Rattle.line_server.specs.Turns.{is_replied, stops}
@@ -27,16 +27,16 @@ use Rattle.line_server.specs.declared.session.SessionPlace.{SessionPlace}
 use Rattle.line_server.specs.declared.session.SessionPlace.TheVariants as at
 use Rattle.lwp_types.specs.declared.call.PodParams.{PodParams}
 use Rattle.pod_events.specs.Events.{EventState, after_pass_on, after_take_trap, is_trapped, rites_event, take_event}
-use Rattle.pod_events.specs.Rites.{after_first_report, as_rites, report_text, reports_after, rites_said}
+use Rattle.pod_events.specs.Rites.{after_first_report, as_rites, report_text, reports_after, after_rites}
 use Rattle.pod_events.specs.Step.{event_step, event_step_by, event_step_if}
-use Rattle.pod_events.specs.Traps.{after_call as traps_made, after_call_as, after_machine_step, after_trap, after_trap_and_call as traps_called, agent_event_of, but_call, is_catch, is_given, notice, refused_by, trap_of, trap_refusal}
+use Rattle.pod_events.specs.Traps.{after_call as traps_made, after_call_as, after_machine_step, after_trap, after_trap_and_call as traps_called, agent_event_of, but_call, is_catch, is_given, notice, after_refusal, trap_of, trap_refusal}
 use Rattle.pod_laws.proofs.Opening.{Lawful-opening}
 use Rattle.pod_runner.specs.Play.{play}
-use Rattle.pod_runner.specs.Session.{Live, Session, Setting, after_answer as rows_answered, after_poll, after_settle, after_settle_by, call_move, move, move_by, move_row, opening_session, proc_of, row_of, row_opened, rows_born, take_move, thread_in, with_row, without_row}
+use Rattle.pod_runner.specs.Session.{Live, Session, Setting, after_answer as rows_answered, after_poll, after_settle, after_settle_by, call_move, move, move_by, move_row, opening_session, proc_of, row_of, rows_of_new, rows_born, take_move, thread_in, with_row, without_row}
 use Rattle.pod_runner.specs.declared.session.Row.{Row}
 use Rattle.pod_runner.specs.declared.session.Took.{Took}
 use Rattle.script_body.specs.Naming.{after_name, after_name_by, with_condition_name_by, with_monitor_name_by, with_thread_name_by}
-use Rattle.script_body.specs.ScriptBody.{ScriptBody, after_take as body_taken, polled_by, script_next}
+use Rattle.script_body.specs.ScriptBody.{ScriptBody, after_take as body_taken, poll_of_answer, script_next}
 use Rattle.script_program.specs.Bodies.{body_next}
 use Rattle.script_program.specs.declared.body.ThreadBody.{ThreadBody}
 use Rattle.script_program.specs.declared.body.ThreadBody.TheVariants.{Scripted, Serving, Storing}
@@ -85,7 +85,7 @@ module _ (st : State) (was : Lawful st None) where
       by_refusal e None = (tt, (tt, tt))
       by_refusal e (Some why) = (tt, (tt, tt))
 
-      by_agent : (b : Bool) → AllNamed (cond b (refused_by st trapped t c error.InUse) (after_machine_step trapped (step st c))).state.births (cond b (refused_by st trapped t c error.InUse) (after_machine_step trapped (step st c))).effects
+      by_agent : (b : Bool) → AllNamed (cond b (after_refusal st trapped t c error.InUse) (after_machine_step trapped (step st c))).state.births (cond b (after_refusal st trapped t c error.InUse) (after_machine_step trapped (step st c))).effects
       by_agent true = (tt, (tt, tt))
       by_agent false = step_named st born_now c
 
@@ -103,7 +103,7 @@ module _ (st : State) (was : Lawful st None) where
       by_given false true = (tt, named_drop (step st (call.ExcNotify e)).after.births (step st (call.ExcNotify e)).effects (step_named st born_now (call.ExcNotify e)))
       by_given false false = (tt, named_drop (step st (call.Destroy t)).after.births (step st (call.Destroy t)).effects (step_named st born_now (call.Destroy t)))
 
-named_said : (n : ℕ) (after : State) (es : List Effect) (reports : List ℕ) → AllNamed n es → AllNamed n (rites_said after es reports).effects
+named_said : (n : ℕ) (after : State) (es : List Effect) (reports : List ℕ) → AllNamed n es → AllNamed n (after_rites after es reports).effects
 named_said n after es reports all = by_armed (is_event_armed after rites_event) reports
   where
     by_armed : (b : Bool) (rs : List ℕ) → AllNamed n (cond b (after_first_report after es rs) (record { state = after; reports = rs; effects = es })).effects
@@ -120,7 +120,7 @@ event_named es was c = by_choice (choice es.state)
     by_choice (Some t) =
         let out = traps_called es.state es.trapped t c es.pending in
         let reports = reports_after es.state out.state es.reports out.effects in
-        subst (λ n. AllNamed n (rites_said out.state out.effects reports).effects) (sym (births_said out.state out.effects reports)) (named_said out.state.births out.state out.effects reports (named_called es.state was es.trapped t c es.pending))
+        subst (λ n. AllNamed n (after_rites out.state out.effects reports).effects) (sym (births_said out.state out.effects reports)) (named_said out.state.births out.state out.effects reports (named_called es.state was es.trapped t c es.pending))
 
 take_named : (n : ℕ) (es : EventState) (e : ℕ) (text : List ℕ) → AllNamed n (take_event es e text).effects
 unfolding take_event
@@ -158,7 +158,7 @@ module _ {B : Type 0} (n : ℕ) where
       by_test true rest = all.1
       by_test false rest = (all.0, rest)
 
-  rows_opened : (t : ℕ) (o : Option B) → RowsNamed (row_opened t o)
+  rows_opened : (t : ℕ) (o : Option B) → RowsNamed (rows_of_new t o)
   rows_opened t None = tt
   rows_opened t (Some body) = (tt, tt)
 
@@ -238,7 +238,7 @@ module _ (n : ℕ) where
   last_kept a None names below all = all
   last_kept a (Some s) names below all = stmt_kept a s names below all
 
-  taken_kept : (body : ScriptBody) (names : Names) (a : Answer) (now : Option ScriptBody) → Below n (thread_in a) → AllKnown n names → AllKnown n (polled_by body names a now).2
+  taken_kept : (body : ScriptBody) (names : Names) (a : Answer) (now : Option ScriptBody) → Below n (thread_in a) → AllKnown n names → AllKnown n (poll_of_answer body names a now).2
   taken_kept body names a None below all = all
   taken_kept body names a (Some now) below all = last_kept a body.last names below all
 
@@ -268,8 +268,8 @@ module _ (setting : Setting ThreadBody) (scripts : setting.next ≡ body_next) w
   tells_row : (live : Live ThreadBody) → Lawful live.pod.state None → Tells live → (t : ℕ) (o : Option (Row ThreadBody)) → row_of t live.rows ≡ o → Tells (move_row body_next setting.bodies live t o).live
   tells_row live was h t None found = h
   tells_row live was h t (Some row) found =
-      let reply = body_next row.body (polled_as t live.names) row.answer in
-      tells_called live was t reply (event_fades 0 live.pod reply.0).births h.rows (body_kept live.pod.state.births row.body (polled_as t live.names) row.answer (row_named live.pod.state.births t live.rows h.rows row found) h.names)
+      let reply = body_next row.body (names_for_poll t live.names) row.answer in
+      tells_called live was t reply (event_fades 0 live.pod reply.0).births h.rows (body_kept live.pod.state.births row.body (names_for_poll t live.names) row.answer (row_named live.pod.state.births t live.rows h.rows row found) h.names)
 
   tells_call : (live : Live ThreadBody) → Lawful live.pod.state None → Tells live → Tells (move body_next setting.bodies live).live
   unfolding move
@@ -333,17 +333,17 @@ module _ (n : ℕ) (body : SessionBody) (names : Names) (known : AllKnown n name
   sends_reads text true = λ to room words e. absurd (cc)
   sends_reads text false = sends_commands text (command_of text)
 
-  sends_received : (x : Answer) → SendsKnown (session_received body names x).0
+  sends_received : (x : Answer) → SendsKnown (session_turn_after_letter body names x).0
   sends_received (answer.Letter from text room) = sends_reads text (is_quit text)
   sends_received (answer.Refused why) = λ to room text e. absurd (cc)
   sends_received _ = λ to room text e. absurd (cc)
 
-  sends_opened : (x : Answer) → SendsKnown (session_opened body x).0
+  sends_opened : (x : Answer) → SendsKnown (session_turn_after_agent body x).0
   sends_opened (answer.Thread a) to room text e = absurd (cc)
   sends_opened (answer.Refused why) to room text e = absurd (cc)
   sends_opened _ to room text e = absurd (cc)
 
-  sends_told : (x : Answer) → SendsKnown (session_told body x).0
+  sends_told : (x : Answer) → SendsKnown (session_turn_after_reply body x).0
   sends_told (answer.Reply words) to room text e = absurd (cc)
   sends_told (answer.Refused why) to room text e = absurd (cc)
   sends_told _ to room text e = absurd (cc)
@@ -372,4 +372,4 @@ module _ (n : ℕ) (body : SessionBody) (names : Names) (known : AllKnown n name
 pub sessions_send_to_the_born : SessionsSendToTheBorn
 sessions_send_to_the_born bodies params names least most known takes n defined s body heard row =
     let session = play (script_setting bodies params names) takes n in
-    sends_next session.live.pod.state.births body (polled_as s session.live.names) (names_are_of_the_born bodies params names least most known takes n defined) heard
+    sends_next session.live.pod.state.births body (names_for_poll s session.live.names) (names_are_of_the_born bodies params names least most known takes n defined) heard

@@ -1,7 +1,7 @@
 -- What frames that go and deaths do to a thread that waits for a letter or a reply at most, and has written to none of those who go.
 use Rattle.answer_laws.proofs.Sights.{Attends, Away, Turn, Turn.Left, Turn.Woken, attends_after, away_after, blocked_other, first_other, answers_push, not_own, own_row, pushed_own, replied_other, rowed, sight_same, turn_plain, turn_still, turn_then, turn_waked, turn_wake, without_own}
 use Rattle.answer_laws.specs.Sights.{answer_for, going_on, is_attentive, Hears, sight, sight_by}
-use Rattle.lwp_types.specs.Agents.{agent_gone, agents_of, belongs_to, end_agent}
+use Rattle.lwp_types.specs.Agents.{after_agent_end, agents_of, belongs_to, end_agent}
 use Rattle.lwp_types.specs.Case.{Case, Check, refusal_case, unless}
 use Rattle.lwp_types.specs.Conditions.{after_wake, after_wake_all, condition_of, is_lock_of, waking}
 use Rattle.lwp_types.specs.CountLaws.{count-cons, one}
@@ -12,7 +12,7 @@ use Rattle.lwp_types.specs.Lawful.{NineParts}
 use Rattle.lwp_types.specs.Messages.{as_answer, as_received, awaits, post, takes_from, is_letter_of, receivers_of, after_reply, senders_to, with_holding, without_letter}
 use Rattle.lwp_types.specs.MonitorRelease.{grant, last_lock, next_owner, release, without_lock}
 use Rattle.lwp_types.specs.Monitors.{after_exit, depth_in, with_depth}
-use Rattle.lwp_types.specs.State.{Outcome, State, ThreadRow, for_each, in_order, is_agent, is_agent_row, is_number, marks_in, marks_set, passes, still, suspension_set, thread_of, times_in, with_block, with_marks_of, with_suspension}
+use Rattle.lwp_types.specs.State.{Outcome, State, ThreadRow, for_each, in_order, is_agent, is_agent_row, is_number, marks_in, row_with_marks, passes, still, row_with_suspension, thread_of, times_in, with_block, with_marks_of, with_suspension}
 use Rattle.lwp_types.specs.Unblock.{nonexist, unblock, zero_answer}
 use Rattle.lwp_types.specs.declared.call.Answer.{Answer}
 use Rattle.lwp_types.specs.declared.call.Effect.{Effect}
@@ -109,8 +109,8 @@ module _ (u : ℕ) (Fits : Option ℕ → Answer → Type 0) where
   pub turn_suspension : (s : State) → Attends u Fits s → (v : ℕ) (b : Bool) (out : Outcome) → out.after.threads ≡ with_suspension v b s.threads → out.after.letters ≡ s.letters → out.effects ≡ [] → T s out
   turn_suspension s was v b out threads letters none = turn_plain u Fits s out sight_by_rows none
     where
-      rows : find (is_number u) out.after.threads ≡ Some (suspension_set v b was.row)
-      rows = ap (find (is_number u)) threads ∙ find_rowed (suspension_set v b) (λ row. refl) s.threads u ∙ ap (option_map (suspension_set v b)) was.known
+      rows : find (is_number u) out.after.threads ≡ Some (row_with_suspension v b was.row)
+      rows = ap (find (is_number u)) threads ∙ find_rowed (row_with_suspension v b) (λ row. refl) s.threads u ∙ ap (option_map (row_with_suspension v b)) was.known
 
       sight_by_rows : sight out.after u ≡ sight s u
       sight_by_rows = (λ i. sight_by (rows i) (filter (is_letter_of u) (letters i))) ∙ ap (λ o. sight_by o (filter (is_letter_of u) s.letters)) (sym was.known)
@@ -165,9 +165,9 @@ module _ (u : ℕ) (Fits : Option ℕ → Answer → Type 0) where
 
   -- marks of another are put
   marked_seen : (s : State) → Attends u Fits s → (v : ℕ) → v ≢ u → (ms : List Mark) → sight (with_marks_of s v ms) u ≡ sight s u
-  marked_seen s was v other ms = sight_same u Fits s (with_marks_of s v ms) was.row was.known (rowed u Fits (marks_set v ms) (λ row. refl) s was.row was.known off) refl
+  marked_seen s was v other ms = sight_same u Fits s (with_marks_of s v ms) was.row was.known (rowed u Fits (row_with_marks v ms) (λ row. refl) s was.row was.known off) refl
     where
-      off : marks_set v ms was.row ≡ was.row
+      off : row_with_marks v ms was.row ≡ was.row
       off = rw (ne_eqb was.row.number v (λ e. other (sym e ∙ number_known s.threads u was.row was.known))) refl
 
   -- from a state that is seen alike
@@ -219,8 +219,8 @@ module _ (u : ℕ) (Fits : Option ℕ → Answer → Type 0) where
       let woke = for_each (unblock nonexist) (receivers_of s a) s in
       let one = wake_turn v (awaits a) (awaits_alone a) nonexist (awaits_fits a) s d nine ready in
       let here = (ready_after v s woke ready one).attends in
-      turn_then u Fits s woke (λ now. still (agent_gone a now)) one
-      (turn_plain u Fits woke.after (still (agent_gone a woke.after)) (sight_same u Fits woke.after (agent_gone a woke.after) here.row here.known here.known (without_own u Fits a other woke.after.letters)) refl)
+      turn_then u Fits s woke (λ now. still (after_agent_end a now)) one
+      (turn_plain u Fits woke.after (still (after_agent_end a woke.after)) (sight_same u Fits woke.after (after_agent_end a woke.after) here.row here.known here.known (without_own u Fits a other woke.after.letters)) refl)
 
   -- the changes of a list, one by one
   turn_first : (v : ℕ) (change : State → Outcome) (changes : List (State → Outcome)) (s : State) → Ready v s → T s (change s) → (Ready v (change s).after → T (change s).after (in_order changes (change s).after)) → T s (in_order (change ∷ changes) s)
@@ -238,11 +238,11 @@ module _ (u : ℕ) (Fits : Option ℕ → Answer → Type 0) where
         calm : State
         calm = record s { threads = with_block v block.Not s.threads }
 
-        unmoved : suspension_set v false ready.attends.row ≡ ready.attends.row
+        unmoved : row_with_suspension v false ready.attends.row ≡ ready.attends.row
         unmoved = rw (ne_eqb ready.attends.row.number v (λ e. other (sym e ∙ number_known s.threads u ready.attends.row ready.attends.known))) refl
 
         now : find (is_number u) (with_suspension v false (with_block v block.Not s.threads)) ≡ Some ready.attends.row
-        now = rowed u Fits (suspension_set v false) (λ row. refl) calm ready.attends.row (blocked_other u Fits s ready.attends v block.Not other ∙ ready.attends.known) unmoved
+        now = rowed u Fits (row_with_suspension v false) (λ row. refl) calm ready.attends.row (blocked_other u Fits s ready.attends v block.Not other ∙ ready.attends.known) unmoved
 
     release_all_turn : (s : State) → NineParts s (Some v) → Ready v s → T s (release_all v s)
     release_all_turn s nine ready = turn_each v (λ s. NineParts s (Some v)) release (λ m s was. NineParts-released s (Some v) was m) (λ m s was r. turn_release s (Some v) was r.attends m) _ s nine ready

@@ -1,7 +1,7 @@
 -- The answers to lines that are short are short.
 use Rattle.answer_laws.specs.Lengths.{ShortLinesHaveShortAnswers, is_short}
-use Rattle.line_server.specs.Commands.{Command, Del, Get, Put, alone, asked_by, command_of, is_key_length, key_len, put_of}
-use Rattle.line_server.specs.Tables.{Table, Told, at_key, is_quit, key_cmp, replies, told_command, told_text, told_value, value_reply}
+use Rattle.line_server.specs.Commands.{Command, Del, Get, Put, alone, command_by, command_of, is_key_length, key_len, put_command}
+use Rattle.line_server.specs.Tables.{Table, ServedTable, at_key, is_quit, key_cmp, replies, served_command, served_text, get_reply, value_reply}
 use Rattle.std.proofs.Common.{Bool, List, None, Option, Some, [], arith, cond, drop, false, length, refl, suc, take, true, zero, ℕ, ◌&&◌, ◌∙◌, ◌∷◌, ◌≡◌, ◌≤◌}
 use Rattle.std.proofs.lemmas.Bool.{and_from, and_parts, le-leb, leb-true}
 use Rattle.std.proofs.lemmas.List.{length-drop}
@@ -28,7 +28,7 @@ either : (b : Bool) (x y : Option Command) → Few (value_of x) → Few (value_o
 either true x y hx hy = hx
 either false x y hx hy = hy
 
-put_few : (key behind : List ℕ) → Few (drop 1 behind) → Few (value_of (put_of key behind))
+put_few : (key behind : List ℕ) → Few (drop 1 behind) → Few (value_of (put_command key behind))
 put_few key [] h = omega arith
 put_few key (s ∷ []) h = omega arith
 put_few key (s ∷ b ∷ bs) h = either (s == 32) _ _ h (omega arith)
@@ -37,7 +37,7 @@ alone_few : (c : Command) → Few (value_of (Some c)) → (behind : List ℕ) �
 alone_few c h [] = h
 alone_few c h (b ∷ bs) = omega arith
 
-asked_few : (word key behind : List ℕ) → Few (drop 1 behind) → Few (value_of (asked_by word key behind))
+asked_few : (word key behind : List ℕ) → Few (drop 1 behind) → Few (value_of (command_by word key behind))
 asked_few word key behind h =
     either (bytes_eq word (codes "put ")) _ _ (put_few key behind h)
     (either (bytes_eq word (codes "get ")) _ _ (alone_few (Get key) (omega arith) behind)
@@ -49,7 +49,7 @@ command_few text h =
     let n = key_len rest in
     let small = leb-true (length text) 240 h in
     let word = take 4 text in
-    either (is_key_length n) (asked_by word (take n rest) (drop n rest)) None
+    either (is_key_length n) (command_by word (take n rest) (drop n rest)) None
     (asked_few word (take n rest) (drop n rest) (omega (arith, small, length-drop 1 (drop n rest), length-drop n rest, length-drop 4 text)))
     (omega arith)
 
@@ -87,27 +87,27 @@ module _ (test : List ℕ → Bool) where
       by_test true rest = parts.1
       by_test false rest = and_from _ _ parts.0 rest
 
-  looked_up : (table : Table) → Kept table → is_short (told_value (lookup test table)) ≡ true
+  looked_up : (table : Table) → Kept table → is_short (get_reply (lookup test table)) ≡ true
   looked_up [] h = refl
   looked_up (e ∷ es) h = by_test (test e.0) (looked_up es parts.1)
     where
       parts : (is_short e.1 ≡ true) × Kept es
       parts = and_parts (is_short e.1) (list_all (λ (e : List ℕ × List ℕ). is_short e.1) es) h
 
-      by_test : (b : Bool) → is_short (told_value (lookup test es)) ≡ true → is_short (told_value (cond b (Some e.1) (lookup test es))) ≡ true
+      by_test : (b : Bool) → is_short (get_reply (lookup test es)) ≡ true → is_short (get_reply (cond b (Some e.1) (lookup test es))) ≡ true
       by_test true rest = parts.0
       by_test false rest = rest
 
 -- ---- replies
 
-command_told : (o : Option Command) → Few (value_of o) → (table : Table) → Kept table → (is_short (told_command o table).reply ≡ true) × Kept (told_command o table).table
+command_told : (o : Option Command) → Few (value_of o) → (table : Table) → Kept table → (is_short (served_command o table).reply ≡ true) × Kept (served_command o table).table
 command_told None few table h = (refl, h)
 command_told (Some (Put key value)) few table h = by_full (nat_le 100 (length table) && is_none (at_key key table))
   where
-    full : Told
+    full : ServedTable
     full = record { reply = codes "full"; table = table }
 
-    put : Told
+    put : ServedTable
     put = record { reply = codes "ok"; table = insert_entry key_cmp table key (value_reply value) }
 
     by_full : (b : Bool) → (is_short (cond b full put).reply ≡ true) × Kept (cond b full put).table
@@ -125,7 +125,7 @@ replies_short [] table all h = refl
 replies_short (text ∷ texts) table all h =
     let parts = and_parts (is_short text) (list_all is_short texts) all in
     let now = command_told (command_of text) (command_few text parts.0) table h in
-    and_from _ _ now.0 (replies_short texts (told_text text table).table parts.1 now.1)
+    and_from _ _ now.0 (replies_short texts (served_text text table).table parts.1 now.1)
 
 taken_all : (n : ℕ) (texts : List (List ℕ)) → list_all is_short texts ≡ true → list_all is_short (take n texts) ≡ true
 taken_all zero texts all = refl

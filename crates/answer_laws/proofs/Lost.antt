@@ -6,10 +6,10 @@ use Rattle.answer_laws.proofs.Owners.{told_itself}
 use Rattle.answer_laws.proofs.PodSteps.{tame_deliver}
 use Rattle.answer_laws.proofs.SessionSteps.{told_any}
 use Rattle.answer_laws.proofs.StoreSteps.{Checked, Checked.Free, Checked.Struck, checked}
-use Rattle.answer_laws.specs.Clients.{replied_in, reply_to}
+use Rattle.answer_laws.specs.Clients.{replies_of_step, reply_to}
 use Rattle.answer_laws.specs.Sights.{answers_to}
 use Rattle.line_server.specs.Commands.{Command, command_of}
-use Rattle.line_server.specs.Sessions.{SessionBody, session_at, session_by, session_received, session_receives, session_replies, session_returns, session_sends, session_told}
+use Rattle.line_server.specs.Sessions.{SessionBody, session_at, session_by, session_turn_after_letter, session_receives, session_replies, session_returns, session_sends, session_turn_after_reply}
 use Rattle.line_server.specs.Tables.{is_quit}
 use Rattle.line_server.specs.Turns.{Turn, is_replied, stops}
 use Rattle.line_server.specs.declared.session.SessionPlace.{SessionPlace}
@@ -30,7 +30,7 @@ use Rattle.lwp_types.specs.Time.{tick}
 use Rattle.lwp_types.specs.declared.rows.AgentRow.{AgentRow}
 use Rattle.lwp_types.specs.declared.rows.Letter.{Letter}
 use Rattle.pod_events.specs.Events.{EventState, rites_event}
-use Rattle.pod_events.specs.Rites.{after_first_report, as_rites, report_text, reports_after, rites_said}
+use Rattle.pod_events.specs.Rites.{after_first_report, as_rites, report_text, reports_after, after_rites}
 use Rattle.pod_events.specs.Step.{event_step}
 use Rattle.pod_events.specs.Traps.{Trapping, after_call, after_machine_step, after_trap_and_call, but_call, is_catch, is_given, notice}
 use Rattle.pod_laws.proofs.Absent.{the_absent_are_refused}
@@ -93,7 +93,7 @@ module _ (body : SessionBody) (names : Names) (past : is_late body.place ≡ tru
   late_reads text true = record { agent_is = refl; late = refl; calls = RepliesTo (codes "bye") refl }
   late_reads text false = late_sends text (command_of text)
 
-  late_received : (x : Answer) → IsLate body.agent (session_received body names x)
+  late_received : (x : Answer) → IsLate body.agent (session_turn_after_letter body names x)
   late_received (answer.Letter from text room) = late_reads text (is_quit text)
   late_received (answer.Refused e) = late_returns
   late_received (answer.Thread b) = late_stop
@@ -105,7 +105,7 @@ module _ (body : SessionBody) (names : Names) (past : is_late body.place ≡ tru
   late_received (answer.Caught d m p) = late_stop
   late_received (answer.Ids n ns) = late_stop
 
-  late_told : (x : Answer) → IsLate body.agent (session_told body x)
+  late_told : (x : Answer) → IsLate body.agent (session_turn_after_reply body x)
   late_told (answer.Reply text) = late_replies text
   late_told (answer.Refused e) = late_replies (codes "down")
   late_told (answer.Letter from text room) = late_stop
@@ -160,15 +160,15 @@ no_zero_said s dead after = told_any s (map (as_rites dead) (deliver after rites
 module _ (s b : ℕ) where
   -- whatever is told behind these effects, but no zero for s, a reply of s isn't among them
   abbrev Unheard : List Effect → Type 0
-  Unheard es = (ys : List Effect) → list_any (is_told s is_zero) ys ≡ false → replied_in s b ys ≡ [] → replied_in s b (es ++ ys) ≡ []
+  Unheard es = (ys : List Effect) → list_any (is_told s is_zero) ys ≡ false → replies_of_step s b ys ≡ [] → replies_of_step s b (es ++ ys) ≡ []
 
-  unheard_said : (after : State) (es : List Effect) (reports : List ℕ) → Unheard es → replied_in s b (rites_said after es reports).effects ≡ []
+  unheard_said : (after : State) (es : List Effect) (reports : List ℕ) → Unheard es → replies_of_step s b (after_rites after es reports).effects ≡ []
   unheard_said after es reports quiet = by_armed (is_event_armed after rites_event) reports
     where
-      alone : replied_in s b es ≡ []
-      alone = ap (replied_in s b) (sym (append-nil es)) ∙ quiet [] refl refl
+      alone : replies_of_step s b es ≡ []
+      alone = ap (replies_of_step s b) (sym (append-nil es)) ∙ quiet [] refl refl
 
-      by_armed : (d : Bool) (rs : List ℕ) → replied_in s b (cond d (after_first_report after es rs) (record { state = after; reports = rs; effects = es })).effects ≡ []
+      by_armed : (d : Bool) (rs : List ℕ) → replies_of_step s b (cond d (after_first_report after es rs) (record { state = after; reports = rs; effects = es })).effects ≡ []
       by_armed true [] = alone
       by_armed false rs = alone
       by_armed true (dead ∷ later) = quiet (map (as_rites dead) (deliver after rites_event (report_text dead)).effects) (no_zero_said s dead after)
@@ -183,7 +183,7 @@ module _ (s b : ℕ) where
     step_is = ap (step_if es.state reply) turn ∙ ap (step_outcome s reply) (the_absent_are_refused es.state s a gone.dead reply (eq-eqb a a refl))
 
     refused_unheard : Unheard (step es.state reply).effects
-    refused_unheard ys none quiet = ap (λ (out : Outcome). replied_in s b (out.effects ++ ys)) step_is ∙ ap (λ d. cond (eqb s s && d) (reply_to b reply) []) rest ∙ by_never (eqb s s)
+    refused_unheard ys none quiet = ap (λ (out : Outcome). replies_of_step s b (out.effects ++ ys)) step_is ∙ ap (λ d. cond (eqb s s && d) (reply_to b reply) []) rest ∙ by_never (eqb s s)
       where
         by_never : (d : Bool) → cond (d && false) (reply_to b reply) [] ≡ []
         by_never true = refl
@@ -196,25 +196,25 @@ module _ (s b : ℕ) where
         rest : list_any (is_told s is_zero) ((effect.Answered s (answer.Refused error.NonExist) ∷ end_effects es.state) ++ ys) ≡ false
         rest = (λ i. and_never (eqb s s) i || by_end (ends es.state) i)
 
-    reply_unheard : replied_in s b (event_step es reply).effects ≡ []
-    reply_unheard = ap (λ (out : Outcome). replied_in s b out.effects) (event_is es s reply turn) ∙ by_pending es.pending
+    reply_unheard : replies_of_step s b (event_step es reply).effects ≡ []
+    reply_unheard = ap (λ (out : Outcome). replies_of_step s b out.effects) (event_is es s reply turn) ∙ by_pending es.pending
       where
-        said : (out : Trapping) → Unheard out.effects → replied_in s b (done_by es out).effects ≡ []
+        said : (out : Trapping) → Unheard out.effects → replies_of_step s b (done_by es out).effects ≡ []
         said out quiet = unheard_said out.state out.effects (reports_after es.state out.state es.reports out.effects) quiet
 
         by_given : (e : ℕ) (g d : Bool) → Unheard (effect.Trapped s e ∷ (cond g (after_call es.state es.trapped s reply) (cond d (after_machine_step es.trapped (but_call (step es.state (call.ExcNotify e)))) (after_machine_step es.trapped (but_call (step es.state (call.Destroy s)))))).effects)
-        by_given e true d ys none quiet = ap (λ (out : Trapping). replied_in s b (out.effects ++ ys)) (made_plain es.state es.trapped s reply refl refl) ∙ refused_unheard ys none quiet
+        by_given e true d ys none quiet = ap (λ (out : Trapping). replies_of_step s b (out.effects ++ ys)) (made_plain es.state es.trapped s reply refl refl) ∙ refused_unheard ys none quiet
         by_given e false true ys none quiet = mute_but s b es.state (call.ExcNotify e) ys quiet
         by_given e false false ys none quiet = mute_but s b es.state (call.Destroy s) ys quiet
 
-        by_pending : (p : Option ℕ) → replied_in s b (done_by es (after_trap_and_call es.state es.trapped s reply p)).effects ≡ []
-        by_pending None = said (after_call es.state es.trapped s reply) (λ ys none quiet. ap (λ (out : Trapping). replied_in s b (out.effects ++ ys)) (made_plain es.state es.trapped s reply refl refl) ∙ refused_unheard ys none quiet)
+        by_pending : (p : Option ℕ) → replies_of_step s b (done_by es (after_trap_and_call es.state es.trapped s reply p)).effects ≡ []
+        by_pending None = said (after_call es.state es.trapped s reply) (λ ys none quiet. ap (λ (out : Trapping). replies_of_step s b (out.effects ++ ys)) (made_plain es.state es.trapped s reply refl refl) ∙ refused_unheard ys none quiet)
         by_pending (Some e) = said (after_trap_and_call es.state es.trapped s reply (Some e)) (by_given e (passes is_given (notice es.state s e)) (passes is_catch (notice es.state s e)))
 
   -- no call of a session that is late is heard, if its agent is gone
-  pub late_unheard : (es : EventState) → choice es.state ≡ Some s → (a : ℕ) → IsGone es.state a → (c : Call) → LateCall a c → replied_in s b (event_step es c).effects ≡ []
+  pub late_unheard : (es : EventState) → choice es.state ≡ Some s → (a : ℕ) → IsGone es.state a → (c : Call) → LateCall a c → replies_of_step s b (event_step es c).effects ≡ []
   late_unheard es turn a gone c (RepliesNothing none) = mute_event s b es s c turn (mute_unreplied s b c (none b))
-  late_unheard es turn a gone c (RepliesTo text is) = ap (λ c. replied_in s b (event_step es c).effects) is ∙ reply_unheard es turn a gone text
+  late_unheard es turn a gone c (RepliesTo text is) = ap (λ c. replies_of_step s b (event_step es c).effects) is ∙ reply_unheard es turn a gone text
 
 -- ---- the end of a session
 

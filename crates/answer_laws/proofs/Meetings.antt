@@ -15,7 +15,7 @@ use Rattle.line_server.specs.Sessions.{session_opening}
 use Rattle.line_server.specs.Stores.{StoreBody, store_next, store_opening}
 use Rattle.lwp_types.specs.Choice.{choice}
 use Rattle.lwp_types.specs.Lawful.{Lawful}
-use Rattle.lwp_types.specs.Names.{Names, polled_as}
+use Rattle.lwp_types.specs.Names.{Names, names_for_poll}
 use Rattle.lwp_types.specs.Poll.{Polled}
 use Rattle.lwp_types.specs.State.{State, is_agent, is_id, is_thread}
 use Rattle.lwp_types.specs.Unblock.{zero_answer}
@@ -132,7 +132,7 @@ module _ {B : Type 0} (setting : Setting B) (server : LineServer setting.next) (
 
     row_alone : (t : ℕ) → choice live.pod.state ≡ Some t → (o : Option (Row B)) → row_of t live.rows ≡ o → Then (move_row setting.next setting.bodies live t o).live
     row_alone t turn None found = λ lives free. h
-    row_alone t turn (Some row) found = called_alone t turn row found (polled_as t live.names) (eqb t k) refl
+    row_alone t turn (Some row) found = called_alone t turn row found (names_for_poll t live.names) (eqb t k) refl
 
     call_alone : Then (move setting.next setting.bodies live).live
     unfolding move

@@ -11,7 +11,7 @@ use Rattle.answer_laws.proofs.TalkSteps.{apart_of}
 use Rattle.answer_laws.proofs.Unsent.{IsQuiet, Lone, Quiet, Sent, Sent.IsNone, Sent.IsSend, Unpolled, alone_at, is_quiet_by, lone_moves, own_effects, phase_met, quiet_behind, sent_of}
 use Rattle.answer_laws.proofs.Wholes.{in_whole_sessions, line_server}
 use Rattle.answer_laws.specs.Births.{FromNullNames, InEveryScript, InEverySession, IsAnsweredAlways, IsUnsentTill, begins_in, born_in, is_named, is_send_of, is_unsent_till}
-use Rattle.answer_laws.specs.Clients.{IsAnsweredInTurn, all_sends_to, delivered_to, names_only, replied_to, sends_nothing, sends_only}
+use Rattle.answer_laws.specs.Clients.{IsAnsweredInTurn, all_sends_to, texts_delivered, names_only, replies_accepted, sends_nothing, sends_only}
 use Rattle.answer_laws.specs.Known.{KnowsItsNames, script_setting}
 use Rattle.answer_laws.specs.Lengths.{is_short}
 use Rattle.answer_laws.specs.Served.{Begins, CanGoOn, IsReached, LineServer, Serves, TextsAreShort, after_move, after_moves, line_is_short, steps_of}
@@ -20,7 +20,7 @@ use Rattle.line_server.specs.Sessions.{session_next, session_opening}
 use Rattle.line_server.specs.Stores.{store_opening}
 use Rattle.lwp_types.specs.Choice.{choice}
 use Rattle.lwp_types.specs.Lawful.{Lawful}
-use Rattle.lwp_types.specs.Names.{Names, null_id, null_names, polled_as}
+use Rattle.lwp_types.specs.Names.{Names, null_id, null_names, names_for_poll}
 use Rattle.lwp_types.specs.Poll.{Polled}
 use Rattle.lwp_types.specs.declared.call.Call.{Call}
 use Rattle.lwp_types.specs.declared.call.PodParams.{PodParams}
@@ -89,7 +89,7 @@ module _ {B : Type 0} (setting : Setting B) where
 
   row_none : (u t : ℕ) (live : Live B) (o : Option (Row B)) → row_of u live.rows ≡ None → is_named u (move_row setting.next setting.bodies live t o).effects ≡ false → row_of u (move_row setting.next setting.bodies live t o).live.rows ≡ None
   row_none u t live None none unnamed = none
-  row_none u t live (Some row) none unnamed = called_none u t live (setting.next row.body (polled_as t live.names) row.answer) none unnamed
+  row_none u t live (Some row) none unnamed = called_none u t live (setting.next row.body (names_for_poll t live.names) row.answer) none unnamed
 
   call_none : (u : ℕ) (live : Live B) → row_of u live.rows ≡ None → is_named u (move setting.next setting.bodies live).effects ≡ false → row_of u (move setting.next setting.bodies live).live.rows ≡ None
   unfolding move
@@ -129,7 +129,7 @@ module _ {B : Type 0} (setting : Setting B) where
     where
       by_row : (t : ℕ) → choice live.pod.state ≡ Some t → (o : Option (Row B)) → born_in u (move_row setting.next setting.bodies live t o).effects ≡ Some p → Birth u p live (move_row setting.next setting.bodies live t o).live
       by_row t turn None bears = absurd (cc)
-      by_row t turn (Some row) bears = called_bears u p t live was turn (setting.next row.body (polled_as t live.names) row.answer) bears
+      by_row t turn (Some row) bears = called_bears u p t live was turn (setting.next row.body (names_for_poll t live.names) row.answer) bears
 
       by_choice : (o : Option ℕ) → choice live.pod.state ≡ o → born_in u (move_by setting.next setting.bodies live o).effects ≡ Some p → Birth u p live (move_by setting.next setting.bodies live o).live
       by_choice None e bears = absurd (cc)
@@ -319,15 +319,15 @@ module _ {B : Type 0} (setting : Setting B) (server : LineServer setting.next) (
         begins_s : Begins s (server.serving (session_opening event place)) one.live
         begins_s = begins_at s in_s ns (server.serving (session_opening event place)) body_s
 
-        untold : (b : ℕ) → one.live.pod.state.births ≤ b → eqb null_id b ≡ false → delivered_to b (steps_of one.steps) ≡ []
+        untold : (b : ℕ) → one.live.pod.state.births ≤ b → eqb null_id b ≡ false → texts_delivered b (steps_of one.steps) ≡ []
         untold = move_untold setting server s k s_k first ns.birth was_first (moves_untold setting server s k s_k ns.before start was can_ns (λ b low away. refl))
 
-        silent : (b : ℕ) → replied_to s b (steps_of one.steps) ≡ []
+        silent : (b : ℕ) → replies_accepted s b (steps_of one.steps) ≡ []
         silent = move_silent setting server s k s_k first ns.birth was_first low (moves_silent setting server s k s_k ns.before start was can_ns low (λ a. refl))
 
         lone_one : Lone setting server s k s_k one
         lone_one = Starting (alive_seen one.live.pod.state s block.Not (ap (λ (v : Sight). v.waits) begins_s.thread)) (session_opening event place) zero_answer store_opening zero_answer begins_s.row refl
-            (λ a low away. subst (λ xs. TellsAt s s a one.live.pod.state (session_opening event place) zero_answer store_opening zero_answer xs (replied_to s a (steps_of one.steps))) (sym (untold a low away))
+            (λ a low away. subst (λ xs. TellsAt s s a one.live.pod.state (session_opening event place) zero_answer store_opening zero_answer xs (replies_accepted s a (steps_of one.steps))) (sym (untold a low away))
             (subst (λ xs. TellsAt s s a one.live.pod.state (session_opening event place) zero_answer store_opening zero_answer [] xs) (sym (silent a)) (alone_at s event place a one.live.pod.state was_one begins_s.thread low)))
             refl silent
 
@@ -345,7 +345,7 @@ module _ {B : Type 0} (setting : Setting B) (server : LineServer setting.next) (
 
         lone_two : Lone setting server s k s_k two
         lone_two = subst (Lone setting server s k s_k) two_is (lone_moves setting server s k s_k (i.between ++ nk.birth ∷ []) one was_one can_s.1 quiet_two lone_one
-            (λ a. subst (λ (x : Session B). list_all is_short (delivered_to a (steps_of x.steps)) ≡ true) (sym two_is) (short_before setting server s k s_k a two.steps end.steps (gone_grows setting nk.later two) (short a)))
+            (λ a. subst (λ (x : Session B). list_all is_short (texts_delivered a (steps_of x.steps)) ≡ true) (sym two_is) (short_before setting server s k s_k a two.steps end.steps (gone_grows setting nk.later two) (short a)))
             (subst (λ (x : Session B). x.live.pod.state.births < null_id) (sym two_is) (omega (arith, ends.few, (gone_fades setting k nk.later two).births))))
 
         begins_k : Begins k (server.storing store_opening) two.live
@@ -353,12 +353,12 @@ module _ {B : Type 0} (setting : Setting B) (server : LineServer setting.next) (
 
         stood : Stood setting server s k s_k two
         stood = phase_met s k two.live.pod.state was_two begins_k.thread (S_of setting server s k s_k two.live.rows) (Unpolled setting server s k s_k) (K_of setting server s k s_k two.live.rows) (λ b z is. is) begins_k.row
-            (λ b. delivered_to b (steps_of two.steps)) (λ b. replied_to s b (steps_of two.steps)) lone_two
+            (λ b. texts_delivered b (steps_of two.steps)) (λ b. replies_accepted s b (steps_of two.steps)) lone_two
 
         early_answers : Answered
         early_answers =
             subst (λ (x : Session B). IsAnsweredInTurn s a (steps_of x.steps)) (sym whole)
-            (phase_first s k end.live.pod.state (S_of setting server s k s_k end.live.rows) (K_of setting server s k s_k end.live.rows) (λ b. delivered_to b (steps_of end.steps)) (λ b. replied_to s b (steps_of end.steps))
+            (phase_first s k end.live.pod.state (S_of setting server s k s_k end.live.rows) (K_of setting server s k s_k end.live.rows) (λ b. texts_delivered b (steps_of end.steps)) (λ b. replies_accepted s b (steps_of end.steps))
             (gone_stood setting server s k s_k nk.later two was_two can_end.1 stood (alive_seen two.live.pod.state k block.Not (ap (λ (v : Sight). v.waits) begins_k.thread)) ends.lives ends.sends short ends.few) a)
 
       session_first : s < k → Quiet setting server s (nk.before ++ nk.birth ∷ []) (opening_session setting) → Answered
@@ -417,7 +417,7 @@ module _ (setting : Setting ThreadBody) (scripts : setting.next ≡ body_next) (
   quiet_at session h low sends turn free b z row = by_sent (sent_of c)
     where
       c : Call
-      c = (session_next b (polled_as s session.live.names) z).0
+      c = (session_next b (names_for_poll s session.live.names) z).0
 
       only : names_only k c ≡ true
       only = sends_named s k session.live.pod turn c free (ap (list_all (sends_only s k)) (sym (own_effects setting server s session.live turn b z row)) ∙ sends_last s k session.steps (record { take = None; effects = (move setting.next setting.bodies session.live).effects }) sends)
@@ -428,7 +428,7 @@ module _ (setting : Setting ThreadBody) (scripts : setting.next ≡ body_next) (
 
       by_sent : Sent c → sends_nothing c ≡ true
       by_sent (IsNone none) = none
-      by_sent (IsSend to room text is) = absurd (unknown to (eqb-true to k (subst (λ c. names_only k c ≡ true) is only)) (sends_next session.live.pod.state.births b (polled_as s session.live.names) h.names z to room text is))
+      by_sent (IsSend to room text is) = absurd (unknown to (eqb-true to k (subst (λ c. names_only k c ≡ true) is only)) (sends_next session.live.pod.state.births b (names_for_poll s session.live.names) h.names z to room text is))
 
   quiet_known : (moves : List (Option Took)) (birth : Option Took) (session : Session ThreadBody) → Lawful session.live.pod.state None → CanGoOn setting (moves ++ birth ∷ []) session → Tells session.live → (after_moves setting moves session).live.pod.state.births ≤ k
       → all_sends_to s k (steps_of (after_moves setting (moves ++ birth ∷ []) session).steps) ≡ true → Quiet setting server s (moves ++ birth ∷ []) session

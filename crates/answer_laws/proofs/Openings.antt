@@ -5,13 +5,13 @@ use Rattle.answer_laws.proofs.PodSteps.{births_said, but_texts, lines_told, repo
 use Rattle.answer_laws.proofs.Servings.{chosen_lives, gone_fades, got_push, moved_fades, moved_lawful, said_push}
 use Rattle.answer_laws.proofs.TalkSteps.{either_of, unborn_absent}
 use Rattle.answer_laws.specs.Agents.{deliveries_to}
-use Rattle.answer_laws.specs.Clients.{delivered_to, replied_in, replied_to}
+use Rattle.answer_laws.specs.Clients.{texts_delivered, replies_of_step, replies_accepted}
 use Rattle.answer_laws.specs.Served.{CanGoOn, IsReached, LineServer, SessionsAreReached, after_move, after_moves, steps_of}
 use Rattle.answer_laws.specs.Stands.{texts_in}
 use Rattle.lwp_types.specs.Agents.{deliver, is_event_armed, is_for}
 use Rattle.lwp_types.specs.Choice.{choice}
 use Rattle.lwp_types.specs.Lawful.{Lawful}
-use Rattle.lwp_types.specs.Names.{null_id, polled_as}
+use Rattle.lwp_types.specs.Names.{null_id, names_for_poll}
 use Rattle.lwp_types.specs.State.{State, agent_of, is_agent, is_thread, passes}
 use Rattle.lwp_types.specs.Step.{step}
 use Rattle.lwp_types.specs.declared.call.Call.{Call}
@@ -19,13 +19,13 @@ use Rattle.lwp_types.specs.declared.call.Effect.{Effect}
 use Rattle.lwp_types.specs.declared.call.LwpErr.{LwpErr}
 use Rattle.lwp_types.specs.declared.rows.AgentRow.{AgentRow}
 use Rattle.pod_events.specs.Events.{EventState, after_pass_on, after_take_trap, is_trapped, rites_event, take_event}
-use Rattle.pod_events.specs.Rites.{after_first_report, as_rites, report_text, reports_after, rites_said}
+use Rattle.pod_events.specs.Rites.{after_first_report, as_rites, report_text, reports_after, after_rites}
 use Rattle.pod_events.specs.Step.{event_step, event_step_by, event_step_if}
-use Rattle.pod_events.specs.Traps.{after_call as traps_made, after_call_as, after_machine_step, after_trap, after_trap_and_call as traps_called, agent_event_of, but_call, is_catch, is_given, notice, refused_by, trap_of, trap_refusal}
+use Rattle.pod_events.specs.Traps.{after_call as traps_made, after_call_as, after_machine_step, after_trap, after_trap_and_call as traps_called, agent_event_of, but_call, is_catch, is_given, notice, after_refusal, trap_of, trap_refusal}
 use Rattle.pod_laws.proofs.Elements.{differ}
 use Rattle.pod_laws.proofs.EveryStep.{Lawful-step}
 use Rattle.pod_runner.specs.Due.{AllDue, IsDefined, TakeDue, is_call_due, is_take_due}
-use Rattle.pod_runner.specs.Play.{calls_made, play, session_of_takes, with_take}
+use Rattle.pod_runner.specs.Play.{session_of_calls, play, session_of_takes, with_take}
 use Rattle.pod_runner.specs.Session.{Live, Session, Setting, call_move, call_step, move, move_by, move_row, opening_session, row_of, take_move, take_step}
 use Rattle.pod_runner.specs.declared.session.Row.{Row}
 use Rattle.pod_runner.specs.declared.session.Took.{Took}
@@ -44,7 +44,7 @@ lawful_made st was trapped t c = by_trap (trap_of c)
     by_refusal e None = was
     by_refusal e (Some why) = was
 
-    by_agent : (b : Bool) → Lawful (cond b (refused_by st trapped t c error.InUse) (after_machine_step trapped (step st c))).state None
+    by_agent : (b : Bool) → Lawful (cond b (after_refusal st trapped t c error.InUse) (after_machine_step trapped (step st c))).state None
     by_agent true = was
     by_agent false = Lawful-step st was c
 
@@ -69,7 +69,7 @@ module _ (a : ℕ) where
       by_refusal e None = refl
       by_refusal e (Some why) = refl
 
-      by_agent : (b : Bool) → texts_in a None (cond b (refused_by st trapped t c error.InUse) (after_machine_step trapped (step st c))).effects ≡ []
+      by_agent : (b : Bool) → texts_in a None (cond b (after_refusal st trapped t c error.InUse) (after_machine_step trapped (step st c))).effects ≡ []
       by_agent true = refl
       by_agent false = step_texts a st c
 
@@ -94,7 +94,7 @@ module _ (a : ℕ) where
       by_row None h = refl
       by_row (Some row) h = absurd (cc)
 
-  texts_said : (after : State) (es : List Effect) (reports : List ℕ) → Lawful after None → after.births ≤ a → texts_in a None es ≡ [] → texts_in a None (rites_said after es reports).effects ≡ []
+  texts_said : (after : State) (es : List Effect) (reports : List ℕ) → Lawful after None → after.births ≤ a → texts_in a None es ≡ [] → texts_in a None (after_rites after es reports).effects ≡ []
   texts_said after es reports was low none = by_armed (is_event_armed after rites_event) reports
     where
       by_armed : (b : Bool) (rs : List ℕ) → texts_in a None (cond b (after_first_report after es rs) (record { state = after; reports = rs; effects = es })).effects ≡ []
@@ -129,7 +129,7 @@ module _ (a : ℕ) where
 module _ {B : Type 0} (setting : Setting B) where
   -- of these steps, no text went to who isn't born
   abbrev IsUntold : Session B → Type 0
-  IsUntold session = (a : ℕ) → session.live.pod.state.births ≤ a → eqb null_id a ≡ false → delivered_to a (steps_of session.steps) ≡ []
+  IsUntold session = (a : ℕ) → session.live.pod.state.births ≤ a → eqb null_id a ≡ false → texts_delivered a (steps_of session.steps) ≡ []
 
   call_texts : (live : Live B) → Lawful live.pod.state None → (a : ℕ) → (move setting.next setting.bodies live).live.pod.state.births ≤ a → texts_in a None (move setting.next setting.bodies live).effects ≡ []
   unfolding move call_move
@@ -137,13 +137,13 @@ module _ {B : Type 0} (setting : Setting B) where
     where
       by_row : (t : ℕ) (o : Option (Row B)) → (move_row setting.next setting.bodies live t o).live.pod.state.births ≤ a → texts_in a None (move_row setting.next setting.bodies live t o).effects ≡ []
       by_row t None low = refl
-      by_row t (Some row) low = unborn_texts a live.pod was (setting.next row.body (polled_as t live.names) row.answer).0 low
+      by_row t (Some row) low = unborn_texts a live.pod was (setting.next row.body (names_for_poll t live.names) row.answer).0 low
 
       by_choice : (o : Option ℕ) → (move_by setting.next setting.bodies live o).live.pod.state.births ≤ a → texts_in a None (move_by setting.next setting.bodies live o).effects ≡ []
       by_choice None low = refl
       by_choice (Some t) low = by_row t (row_of t live.rows) low
 
-  call_silent : (live : Live B) → Lawful live.pod.state None → (s a : ℕ) → live.pod.state.births ≤ s → replied_in s a (move setting.next setting.bodies live).effects ≡ []
+  call_silent : (live : Live B) → Lawful live.pod.state None → (s a : ℕ) → live.pod.state.births ≤ s → replies_of_step s a (move setting.next setting.bodies live).effects ≡ []
   unfolding move call_move
   call_silent live was s a low = by_choice (choice live.pod.state) refl
     where
@@ -151,11 +151,11 @@ module _ {B : Type 0} (setting : Setting B) where
       not_s t turn false e = refl
       not_s t turn true e = differ (sym (chosen_lives live.pod.state was t turn) ∙ ap (is_thread live.pod.state) (eqb-true t s e) ∙ (either_of (is_thread live.pod.state s) (is_agent live.pod.state s) (unborn_absent live.pod.state was s low)).0)
 
-      by_row : (t : ℕ) → choice live.pod.state ≡ Some t → (o : Option (Row B)) → replied_in s a (move_row setting.next setting.bodies live t o).effects ≡ []
+      by_row : (t : ℕ) → choice live.pod.state ≡ Some t → (o : Option (Row B)) → replies_of_step s a (move_row setting.next setting.bodies live t o).effects ≡ []
       by_row t turn None = refl
-      by_row t turn (Some row) = (others_reply_nothing s a live.pod).0 t turn (not_s t turn (eqb t s) refl) (setting.next row.body (polled_as t live.names) row.answer).0
+      by_row t turn (Some row) = (others_reply_nothing s a live.pod).0 t turn (not_s t turn (eqb t s) refl) (setting.next row.body (names_for_poll t live.names) row.answer).0
 
-      by_choice : (o : Option ℕ) → choice live.pod.state ≡ o → replied_in s a (move_by setting.next setting.bodies live o).effects ≡ []
+      by_choice : (o : Option ℕ) → choice live.pod.state ≡ o → replies_of_step s a (move_by setting.next setting.bodies live o).effects ≡ []
       by_choice None e = refl
       by_choice (Some t) e = by_row t e (row_of t live.rows)
 
@@ -167,7 +167,7 @@ module _ {B : Type 0} (setting : Setting B) (server : LineServer setting.next) (
   move_untold session (Some took) was untold a low away = sym (got_push setting server s k s_k session.steps (record { take = Some took; effects = (take_move setting.bodies took session.live).effects }) a)
       ∙ (λ i. untold a (omega (arith, low, (moved_fades setting a session (Some took)).births)) away i ++ unborn_line a away session.live.pod was (omega (arith, low, (moved_fades setting a session (Some took)).births)) took.event took.line.text i)
 
-  pub move_silent : (session : Session B) (m : Option Took) → Lawful session.live.pod.state None → session.live.pod.state.births ≤ s → ((a : ℕ) → replied_to s a (steps_of session.steps) ≡ []) → (a : ℕ) → replied_to s a (steps_of (after_move setting session m).steps) ≡ []
+  pub move_silent : (session : Session B) (m : Option Took) → Lawful session.live.pod.state None → session.live.pod.state.births ≤ s → ((a : ℕ) → replies_accepted s a (steps_of session.steps) ≡ []) → (a : ℕ) → replies_accepted s a (steps_of (after_move setting session m).steps) ≡ []
   unfolding take_move
   move_silent session None was low silent a = sym (said_push setting server s k s_k session.steps (record { take = None; effects = (move setting.next setting.bodies session.live).effects }) a)
       ∙ (λ i. silent a i ++ call_silent setting session.live was s a low i)
@@ -178,7 +178,7 @@ module _ {B : Type 0} (setting : Setting B) (server : LineServer setting.next) (
   moves_untold [] session was can untold = untold
   moves_untold (m ∷ ms) session was can untold = moves_untold ms (after_move setting session m) (moved_lawful setting session m can.0 was) can.1 (move_untold session m was untold)
 
-  pub moves_silent : (moves : List (Option Took)) (session : Session B) → Lawful session.live.pod.state None → CanGoOn setting moves session → (after_moves setting moves session).live.pod.state.births ≤ s → ((a : ℕ) → replied_to s a (steps_of session.steps) ≡ []) → (a : ℕ) → replied_to s a (steps_of (after_moves setting moves session).steps) ≡ []
+  pub moves_silent : (moves : List (Option Took)) (session : Session B) → Lawful session.live.pod.state None → CanGoOn setting moves session → (after_moves setting moves session).live.pod.state.births ≤ s → ((a : ℕ) → replies_accepted s a (steps_of session.steps) ≡ []) → (a : ℕ) → replies_accepted s a (steps_of (after_moves setting moves session).steps) ≡ []
   moves_silent [] session was can low silent = silent
   moves_silent (m ∷ ms) session was can low silent = moves_silent ms (after_move setting session m) (moved_lawful setting session m can.0 was) can.1 low
       (move_silent session m was (omega (arith, low, (gone_fades setting s (m ∷ ms) session).births)) silent)
@@ -218,9 +218,9 @@ module _ {B : Type 0} (setting : Setting B) where
     is = ap (take_step setting took) r.is ∙ sym (gone_append r.moves (Some took ∷ []) (opening_session setting));
   }
 
-  calls_reached : (n : ℕ) → AllDue setting [] n → IsReached setting (calls_made setting n)
+  calls_reached : (n : ℕ) → AllDue setting [] n → IsReached setting (session_of_calls setting n)
   calls_reached zero h = record { moves = []; can = tt; is = refl }
-  calls_reached (suc n) h = call_reached (calls_made setting n) h.1 (calls_reached n h.0)
+  calls_reached (suc n) h = call_reached (session_of_calls setting n) h.1 (calls_reached n h.0)
 
   with_reached : (took : Took) (before : ℕ → Session B) (Before : ℕ → Type 0) → ((n : ℕ) → Before n → IsReached setting (before n)) → (n : ℕ) → TakeDue setting took before Before n → IsReached setting (with_take setting took before n)
   with_reached took before Before was zero h = take_reached took (before 0) h.2 (was 0 h.1)

@@ -11,13 +11,13 @@ use Rattle.lwp_types.specs.Counts.{has_its_marks, requests_by, timers_of}
 use Rattle.lwp_types.specs.Death.{death, destroy_case, return_from}
 use Rattle.lwp_types.specs.FirstLaws.{finds_best}
 use Rattle.lwp_types.specs.First.{IsFirstBest}
-use Rattle.lwp_types.specs.Exits.{catch_case, leave_frame, notified_by}
+use Rattle.lwp_types.specs.Exits.{catch_case, leave_frame, excnotify_case_by}
 use Rattle.lwp_types.specs.Lawful.{Lawful, NineParts, is_same_option}
-use Rattle.lwp_types.specs.Messages.{as_answer, is_letter_of, is_open, marked_received, next_letter, post, receive_by, takes_from, with_holding}
+use Rattle.lwp_types.specs.Messages.{as_answer, is_letter_of, is_open, with_reception, next_letter, post, receive_by, takes_from, with_holding}
 use Rattle.lwp_types.specs.Monitors.{after_request, enter_case, is_owned_by_other}
 use Rattle.lwp_types.specs.Exceptions.{caught_marks, first_frames, frames, handler_in, later_frames, searching, with_match}
 use Rattle.lwp_types.specs.MonitorRelease.{grant, last_lock, next_owner, requests_of, without_lock}
-use Rattle.lwp_types.specs.State.{Outcome, State, ThreadRow, for_each, is_agent, is_agent_row, is_id, is_number, is_thread, marks_in, marks_set, passes, priority_in, priority_set, still, thread_of, with_block, with_marks}
+use Rattle.lwp_types.specs.State.{Outcome, State, ThreadRow, for_each, is_agent, is_agent_row, is_id, is_number, is_thread, marks_in, row_with_marks, passes, priority_in, row_with_priority, still, thread_of, with_block, with_marks}
 use Rattle.lwp_types.specs.Step.{case_of, end_effects, ends, own_effects, step, step_by, step_if, step_outcome}
 use Rattle.lwp_types.specs.Threads.{new_thread}
 use Rattle.lwp_types.specs.Time.{after_tick, due_threads, is_due, tick, time_out}
@@ -93,17 +93,17 @@ module _ (u t : ℕ) (Fits : Option ℕ → Answer → Type 0) (s : State) (nine
 
   -- the caller's marks are put
   marked_now : (out : Outcome) (ms : List Mark) → out.after.threads ≡ with_marks t ms s.threads → out.after.letters ≡ s.letters → out.effects ≡ [] → Now out
-  marked_now out ms threads letters none = turn_plain u Fits s out (sight_same u Fits s out.after was.row was.known (ap (find (is_number u)) threads ∙ rowed u Fits (marks_set t ms) (λ row. refl) s was.row was.known off) (ap (filter (is_letter_of u)) letters)) none
+  marked_now out ms threads letters none = turn_plain u Fits s out (sight_same u Fits s out.after was.row was.known (ap (find (is_number u)) threads ∙ rowed u Fits (row_with_marks t ms) (λ row. refl) s was.row was.known off) (ap (filter (is_letter_of u)) letters)) none
     where
-      off : marks_set t ms was.row ≡ was.row
+      off : row_with_marks t ms was.row ≡ was.row
       off = rw (ne_eqb was.row.number t (λ e. other (sym e ∙ number_known s.threads u was.row was.known))) refl
 
   -- a priority is put
-  priority_now : (v p : ℕ) (out : Outcome) → out.after.threads ≡ map (priority_set v p) s.threads → out.after.letters ≡ s.letters → out.effects ≡ [] → Now out
+  priority_now : (v p : ℕ) (out : Outcome) → out.after.threads ≡ map (row_with_priority v p) s.threads → out.after.letters ≡ s.letters → out.effects ≡ [] → Now out
   priority_now v p out threads letters none = turn_plain u Fits s out ((λ i. sight_by (rows i) (filter (is_letter_of u) (letters i))) ∙ ap (λ o. sight_by o (filter (is_letter_of u) s.letters)) (sym was.known)) none
     where
-      rows : find (is_number u) out.after.threads ≡ Some (priority_set v p was.row)
-      rows = ap (find (is_number u)) threads ∙ find_rowed (priority_set v p) (λ row. refl) s.threads u ∙ ap (option_map (priority_set v p)) was.known
+      rows : find (is_number u) out.after.threads ≡ Some (row_with_priority v p was.row)
+      rows = ap (find (is_number u)) threads ∙ find_rowed (row_with_priority v p) (λ row. refl) s.threads u ∙ ap (option_map (row_with_priority v p)) was.known
 
   cond_now : (b : Bool) (one two : Case) → Its one → Its two → Its (cond b one two)
   cond_now true one two first second = first
@@ -125,7 +125,7 @@ module _ (u t : ℕ) (Fits : Option ℕ → Answer → Type 0) (s : State) (nine
 
   -- the caller receives
   received_now : (from : Option ℕ) (how : Mode) (o : Option Letter) → next_letter s.letters t from ≡ o → Its (receive_by s t from how o)
-  received_now from how (Some letter) e = turn_plain u Fits s _ (sight_same u Fits s (record s { letters = marked_received letter.from s.letters }) was.row was.known was.known (received_own u Fits letter.from (found_other u Fits t s ready.away (is_open from) letter e) s.letters)) refl
+  received_now from how (Some letter) e = turn_plain u Fits s _ (sight_same u Fits s (record s { letters = with_reception letter.from s.letters }) was.row was.known was.known (received_own u Fits letter.from (found_other u Fits t s ready.away (is_open from) letter e) s.letters)) refl
   received_now from mode.Poll None e = still_now _ refl refl refl
   received_now from mode.Block None e = blocked_now _ (block.Receiving from) refl refl refl
   received_now from (mode.Until ticks) None e = cond_now (eqb ticks 0) (refusal_case s error.Timeout) (silent_case (still (after_block_for s t (block.Receiving from) ticks))) (still_now _ refl refl refl) (blocked_now _ (block.Receiving from) refl refl refl)
@@ -179,7 +179,7 @@ module _ (u t : ℕ) (Fits : Option ℕ → Answer → Type 0) (s : State) (nine
       by_found None e = still_now _ refl refl refl
       by_found (Some f) e = fine f e
 
-  notified_now : (p : ℕ) (f : Found) → handler_in p x.marks ≡ Some f → (h : Func) → Its (notified_by s t p f h)
+  notified_now : (p : ℕ) (f : Found) → handler_in p x.marks ≡ Some f → (h : Func) → Its (excnotify_case_by s t p f h)
   notified_now p f e func.Give = still_now _ refl refl refl
   notified_now p f e func.Sum = still_now _ refl refl refl
   notified_now p f e func.Nothing = caught_now p f e

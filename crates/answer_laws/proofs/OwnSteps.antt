@@ -6,14 +6,14 @@ use Rattle.answer_laws.proofs.SessionSteps.{hears_no_mail, sessions_calls_are_ev
 use Rattle.answer_laws.proofs.Events.{rites_same}
 use Rattle.answer_laws.proofs.StoreSteps.{StoreDoes, StoreDoes.DoesReceive, StoreDoes.DoesReply, StoreDoes.DoesStop, does_by, stores_calls_are_events}
 use Rattle.answer_laws.proofs.TalkSteps.{attends_seen, attentive}
-use Rattle.answer_laws.specs.Clients.{replied_in, reply_to, sends_well}
+use Rattle.answer_laws.specs.Clients.{replies_of_step, reply_to, sends_well}
 use Rattle.answer_laws.specs.Events.{machine_of}
 use Rattle.answer_laws.specs.Owns.{OthersReplyNothing, PodsSessionsCallsAreEvents, PodsStoresCallsAreEvents, SessionComes, SessionComes.GoesOn, SessionComes.IsTurnedAway, SessionComes.Dies}
 use Rattle.answer_laws.specs.Sights.{IsDelivered, IsLeft, IsWoken, Sight, answers_to, is_attentive, sight}
 use Rattle.answer_laws.specs.Stands.{Becomes, OpensInVain, block_of, goes_on_with, is_posted, is_short_reply, is_short_to, mail_letters, texts_in}
 use Rattle.answer_laws.specs.Talks.{Mail.Received, after_events}
 use Rattle.line_server.specs.Commands.{Command, command_of}
-use Rattle.line_server.specs.Sessions.{SessionBody, session_by, session_next, session_at, session_opened, session_received, session_receives, session_returns, session_sends, session_told}
+use Rattle.line_server.specs.Sessions.{SessionBody, session_by, session_next, session_at, session_turn_after_agent, session_turn_after_letter, session_receives, session_returns, session_sends, session_turn_after_reply}
 use Rattle.line_server.specs.Stores.{StoreBody, store_by, store_next}
 use Rattle.line_server.specs.Tables.{is_quit}
 use Rattle.line_server.specs.Turns.{Turn, is_replied, stops}
@@ -34,9 +34,9 @@ use Rattle.lwp_types.specs.declared.call.LwpErr.{LwpErr}
 use Rattle.lwp_types.specs.declared.rows.Block.{Block}
 use Rattle.pod_events.proofs.MildCalls.{case_toll, is_tame}
 use Rattle.pod_events.specs.Events.{EventState, after_pass_on, after_take_trap, is_trapped, rites_event, take_event}
-use Rattle.pod_events.specs.Rites.{after_first_report, as_rites, report_text, reports_after, rites_said}
+use Rattle.pod_events.specs.Rites.{after_first_report, as_rites, report_text, reports_after, after_rites}
 use Rattle.pod_events.specs.Step.{event_step, event_step_by, event_step_if}
-use Rattle.pod_events.specs.Traps.{Trapping, after_call, after_call_as, after_machine_step, after_trap, after_trap_and_call, agent_event_of, but_call, is_catch, is_given, notice, refused_by, trap_of, trap_refusal}
+use Rattle.pod_events.specs.Traps.{Trapping, after_call, after_call_as, after_machine_step, after_trap, after_trap_and_call, agent_event_of, but_call, is_catch, is_given, notice, after_refusal, trap_of, trap_refusal}
 use Rattle.pod_laws.proofs.Elements.{differ}
 use Rattle.pod_laws.proofs.EveryStep.{Lawful-step}
 use Rattle.pod_laws.specs.Forgotten.{IsGone}
@@ -54,7 +54,7 @@ use Rattle.lwp_types.specs.declared.rows.Mark.TheVariants as mark
 
 -- the machine after a call, with the report behind it
 abbrev pub done_by : EventState → Trapping → Outcome
-done_by es out = let said = rites_said out.state out.effects (reports_after es.state out.state es.reports out.effects) in record { after = said.state; effects = said.effects }
+done_by es out = let said = after_rites out.state out.effects (reports_after es.state out.state es.reports out.effects) in record { after = said.state; effects = said.effects }
 
 pub event_is : (es : EventState) (t : ℕ) (c : Call) → choice es.state ≡ Some t → machine_of (event_step es c) ≡ done_by es (after_trap_and_call es.state es.trapped t c es.pending)
 unfolding event_step event_step_by
@@ -65,13 +65,13 @@ event_is es t c turn = ap (λ o. machine_of (event_step_if es c o)) turn
 module _ (s a : ℕ) where
   -- whatever is told behind these effects, a reply of s isn't among them
   abbrev pub Mute : List Effect → Type 0
-  Mute es = (ys : List Effect) → replied_in s a ys ≡ [] → replied_in s a (es ++ ys) ≡ []
+  Mute es = (ys : List Effect) → replies_of_step s a ys ≡ [] → replies_of_step s a (es ++ ys) ≡ []
 
   pub mute_then : (xs ys : List Effect) → Mute xs → Mute ys → Mute (xs ++ ys)
-  mute_then xs ys one two zs none = ap (replied_in s a) (append_assoc xs ys zs) ∙ one (ys ++ zs) (two zs none)
+  mute_then xs ys one two zs none = ap (replies_of_step s a) (append_assoc xs ys zs) ∙ one (ys ++ zs) (two zs none)
 
-  pub mute_whole : (es : List Effect) → Mute es → replied_in s a es ≡ []
-  mute_whole es mute = ap (replied_in s a) (sym (append-nil es)) ∙ mute [] refl
+  pub mute_whole : (es : List Effect) → Mute es → replies_of_step s a es ≡ []
+  mute_whole es mute = ap (replies_of_step s a) (sym (append-nil es)) ∙ mute [] refl
 
   mute_tame : (es : List Effect) → list_all is_tame es ≡ true → Mute es
   mute_tame [] tame ys none = none
@@ -130,7 +130,7 @@ module _ (s a : ℕ) where
         by_refusal e None = none (effect.Answered t zero_answer ∷ [])
         by_refusal e (Some why) = none (effect.Answered t (answer.Refused why) ∷ [])
 
-        by_agent : (b : Bool) → Mute (cond b (refused_by st trapped t c error.InUse) (after_machine_step trapped (step st c))).effects
+        by_agent : (b : Bool) → Mute (cond b (after_refusal st trapped t c error.InUse) (after_machine_step trapped (step st c))).effects
         by_agent true = none (effect.Answered t (answer.Refused error.InUse) ∷ [])
         by_agent false = mute_step st turn
 
@@ -148,26 +148,26 @@ module _ (s a : ℕ) where
         by_given false false ys rest = mute_but st (call.Destroy t) ys rest
 
   -- nor is a report
-  pub mute_said : (after : State) (es : List Effect) (reports : List ℕ) → Mute es → replied_in s a (rites_said after es reports).effects ≡ []
+  pub mute_said : (after : State) (es : List Effect) (reports : List ℕ) → Mute es → replies_of_step s a (after_rites after es reports).effects ≡ []
   mute_said after es reports mute = by_armed (is_event_armed after rites_event) reports
     where
-      by_armed : (b : Bool) (rs : List ℕ) → replied_in s a (cond b (after_first_report after es rs) (record { state = after; reports = rs; effects = es })).effects ≡ []
+      by_armed : (b : Bool) (rs : List ℕ) → replies_of_step s a (cond b (after_first_report after es rs) (record { state = after; reports = rs; effects = es })).effects ≡ []
       by_armed true [] = mute_whole es mute
       by_armed false rs = mute_whole es mute
       by_armed true (dead ∷ later) = let sent = (deliver after rites_event (report_text dead)).effects in mute_whole (es ++ map (as_rites dead) sent) (mute_then es (map (as_rites dead) sent) mute (mute_rites dead sent (tame_deliver after rites_event (report_text dead))))
 
-  taken_mute : (es : EventState) (e : ℕ) (text : List ℕ) → replied_in s a (take_event es e text).effects ≡ []
+  taken_mute : (es : EventState) (e : ℕ) (text : List ℕ) → replies_of_step s a (take_event es e text).effects ≡ []
   unfolding take_event
   taken_mute es e text = by_trapped (is_trapped es.trapped e)
     where
-      by_trapped : (b : Bool) → replied_in s a (cond b (after_take_trap es e) (after_pass_on es (deliver es.state e text))).effects ≡ []
+      by_trapped : (b : Bool) → replies_of_step s a (cond b (after_take_trap es e) (after_pass_on es (deliver es.state e text))).effects ≡ []
       by_trapped true = refl
       by_trapped false = mute_whole (deliver es.state e text).effects (mute_tame (deliver es.state e text).effects (tame_deliver es.state e text))
 
-  pub mute_event : (es : EventState) (t : ℕ) (c : Call) → choice es.state ≡ Some t → ((fs : List Effect) → Mute (effect.Called t c ∷ fs)) → replied_in s a (event_step es c).effects ≡ []
+  pub mute_event : (es : EventState) (t : ℕ) (c : Call) → choice es.state ≡ Some t → ((fs : List Effect) → Mute (effect.Called t c ∷ fs)) → replies_of_step s a (event_step es c).effects ≡ []
   mute_event es t c turn none =
       let out = after_trap_and_call es.state es.trapped t c es.pending in
-      ap (λ (out : Outcome). replied_in s a out.effects) (event_is es t c turn)
+      ap (λ (out : Outcome). replies_of_step s a out.effects) (event_is es t c turn)
       ∙ mute_said out.state out.effects (reports_after es.state out.state es.reports out.effects) (mute_pending t c none es.state es.trapped es.pending turn)
 
   -- another's call is none
@@ -210,7 +210,7 @@ sprung_is st trapped t c e marks = let none = no_notice st t e marks in by_tests
 
 -- a call that sets no trap and asks for no agent is the machine's
 pub made_plain : (st : State) (trapped : List Bool) (t : ℕ) (c : Call) → trap_of c ≡ None → agent_event_of c ≡ None → after_call st trapped t c ≡ after_machine_step trapped (step st c)
-made_plain st trapped t c none away = ap (after_call_as st trapped t c) none ∙ ap (λ o. cond (passes (is_trapped trapped) o) (refused_by st trapped t c error.InUse) (after_machine_step trapped (step st c))) away
+made_plain st trapped t c none away = ap (after_call_as st trapped t c) none ∙ ap (λ o. cond (passes (is_trapped trapped) o) (after_refusal st trapped t c error.InUse) (after_machine_step trapped (step st c))) away
 
 -- ---- the store
 
@@ -251,7 +251,7 @@ pods_stores_calls_are_events s k a es was talk waiting h s_k turn x hears names 
         → Becomes s k a talk talk.session (store_next talk.store names x).1 waiting (texts_in a None out.effects) [] out
 
     gone : (out : Trapping) → IsGone out.state k → Goal (done_by es out)
-    gone out off = λ alive short low. differ (sym alive ∙ gone_thread (rites_said out.state out.effects (reports_after es.state out.state es.reports out.effects)).state k (gone_said k out.state out.effects (reports_after es.state out.state es.reports out.effects) off))
+    gone out off = λ alive short low. differ (sym alive ∙ gone_thread (after_rites out.state out.effects (reports_after es.state out.state es.reports out.effects)).state k (gone_said k out.state out.effects (reports_after es.state out.state es.reports out.effects) off))
 
     by_stop : (b : Bool) → goes_on_with c ≡ b → Goal (done_by es (after_machine_step es.trapped (step es.state c)))
     by_stop true on = λ alive short low. becomes_said s k a talk waiting talk.session (store_next talk.store names x).1 [] (step es.state c).after (step es.state c).effects (reports_after es.state (step es.state c).after es.reports (step es.state c).effects) (Lawful-step es.state was c) (step_texts a es.state c)
@@ -291,7 +291,7 @@ module _ (body : SessionBody) (names : Names) (place : SessionPlace) where
   plain_reads text true = plain_reply _ _
   plain_reads text false = plain_sends text (command_of text)
 
-  plain_opened : (x : Answer) → Calls place (session_opened body x).0
+  plain_opened : (x : Answer) → Calls place (session_turn_after_agent body x).0
   plain_opened (answer.Thread b) = plain_receives (record body { agent = b })
   plain_opened (answer.Refused e) = plain_stop _ refl
   plain_opened (answer.Letter from text room) = plain_stop _ refl
@@ -303,7 +303,7 @@ module _ (body : SessionBody) (names : Names) (place : SessionPlace) where
   plain_opened (answer.Caught d m p) = plain_stop _ refl
   plain_opened (answer.Ids n ns) = plain_stop _ refl
 
-  plain_received : (x : Answer) → Calls place (session_received body names x).0
+  plain_received : (x : Answer) → Calls place (session_turn_after_letter body names x).0
   plain_received (answer.Letter from text room) = plain_reads text (is_quit text)
   plain_received (answer.Refused e) = plain_stop _ refl
   plain_received (answer.Thread b) = plain_stop _ refl
@@ -315,7 +315,7 @@ module _ (body : SessionBody) (names : Names) (place : SessionPlace) where
   plain_received (answer.Caught d m p) = plain_stop _ refl
   plain_received (answer.Ids n ns) = plain_stop _ refl
 
-  plain_told : (x : Answer) → Calls place (session_told body x).0
+  plain_told : (x : Answer) → Calls place (session_turn_after_reply body x).0
   plain_told (answer.Reply text) = plain_reply _ _
   plain_told (answer.Refused e) = plain_reply _ _
   plain_told (answer.Letter from text room) = plain_stop _ refl
@@ -358,17 +358,17 @@ any_append p [] ys none = none
 any_append p (x ∷ xs) ys none = ap (λ b. p x || b) (any_append p xs ys none)
 
 module _ (s a : ℕ) where
-  replied_more : (st : State) (c : Call) → choice st ≡ Some s → (ys : List Effect) → list_any (is_told s is_zero) ys ≡ false → replied_in s a ((step st c).effects ++ ys) ≡ replied_in s a (step st c).effects
+  replied_more : (st : State) (c : Call) → choice st ≡ Some s → (ys : List Effect) → list_any (is_told s is_zero) ys ≡ false → replies_of_step s a ((step st c).effects ++ ys) ≡ replies_of_step s a (step st c).effects
   unfolding step step_by
-  replied_more st c turn ys none = subst (λ o. replied_in s a ((step_if st c o).effects ++ ys) ≡ replied_in s a (step_if st c o).effects) (sym turn)
+  replied_more st c turn ys none = subst (λ o. replies_of_step s a ((step_if st c o).effects ++ ys) ≡ replies_of_step s a (step_if st c o).effects) (sym turn)
       (ap (λ b. cond (eqb s s && b) (reply_to a c) []) (any_append (is_told s is_zero) (drop 1 (step_by st s c).effects) ys none))
 
   -- so a reply is told of behind a report as before it
   replied_said : (st : State) (c : Call) → choice st ≡ Some s → Lawful (step st c).after None → (b : Block) → (sight (step st c).after s).waits ≡ Some b → is_attentive b ≡ true → timers_of (step st c).after.timers s ≡ 0 → (reports : List ℕ)
-      → replied_in s a (rites_said (step st c).after (step st c).effects reports).effects ≡ replied_in s a (step st c).effects
+      → replies_of_step s a (after_rites (step st c).after (step st c).effects reports).effects ≡ replies_of_step s a (step st c).effects
   replied_said st c turn was b seen attentive none reports = by_armed (is_event_armed (step st c).after rites_event) reports
     where
-      by_armed : (b : Bool) (rs : List ℕ) → replied_in s a (cond b (after_first_report (step st c).after (step st c).effects rs) (record { state = (step st c).after; reports = rs; effects = (step st c).effects })).effects ≡ replied_in s a (step st c).effects
+      by_armed : (b : Bool) (rs : List ℕ) → replies_of_step s a (cond b (after_first_report (step st c).after (step st c).effects rs) (record { state = (step st c).after; reports = rs; effects = (step st c).effects })).effects ≡ replies_of_step s a (step st c).effects
       by_armed true [] = refl
       by_armed false rs = refl
       by_armed true (dead ∷ later) = replied_more st c turn (map (as_rites dead) (deliver (step st c).after rites_event (report_text dead)).effects) (no_zero_said s dead (step st c).after was b seen attentive none)
@@ -418,11 +418,11 @@ pods_sessions_calls_are_events s k a es was talk waiting h turn x hears names = 
         reports : List ℕ
         reports = reports_after es.state (step es.state c).after es.reports (step es.state c).effects
 
-        by_coming : Becomes s k a talk (session_next talk.session names x).1 talk.store waiting [] (replied_in s a (step es.state c).effects) (step es.state c) ⊎ OpensInVain s talk (step es.state c)
+        by_coming : Becomes s k a talk (session_next talk.session names x).1 talk.store waiting [] (replies_of_step s a (step es.state c).effects) (step es.state c) ⊎ OpensInVain s talk (step es.state c)
             → SessionComes s k a talk waiting (session_next talk.session names x).1 (done_by es (after_machine_step es.trapped (step es.state c)))
         by_coming (inl b) = GoesOn (subst (λ xs. Becomes s k a talk (session_next talk.session names x).1 talk.store waiting (texts_in a None (done_by es (after_machine_step es.trapped (step es.state c))).effects) xs (done_by es (after_machine_step es.trapped (step es.state c))))
             (sym (replied_said s a es.state c turn (Lawful-step es.state was c) (block_of (Some a) (after_events s a talk b.events).client) (ap (λ (v : Sight). v.waits) b.stands.client) (attentive (Some a) (after_events s a talk b.events).client) b.stands.untimed reports))
-            (becomes_said s k a talk waiting (session_next talk.session names x).1 talk.store (replied_in s a (step es.state c).effects) (step es.state c).after (step es.state c).effects reports (Lawful-step es.state was c) (step_texts a es.state c) b))
+            (becomes_said s k a talk waiting (session_next talk.session names x).1 talk.store (replies_of_step s a (step es.state c).effects) (step es.state c).after (step es.state c).effects reports (Lawful-step es.state was c) (step_texts a es.state c) b))
         by_coming (inr v) = turned (after_machine_step es.trapped (step es.state c)) (Lawful-step es.state was c) v (mute_step s a s c (mute_unreplied s a c (starts v.place)) es.state turn)
     stepped_by free false off =
         let is = stop off kind in
@@ -432,9 +432,9 @@ pods_sessions_calls_are_events s k a es was talk waiting h turn x hears names = 
     made_by free (Plainly plain) = subst (λ out. Goal (done_by es out)) (sym (made_plain es.state es.trapped s c plain.trap plain.agent)) (stepped_by free (goes_on_with c) refl)
     made_by free (Asks e place is) = subst (λ out. Goal (done_by es out)) (sym (ap (after_call_as es.state es.trapped s c) (ap trap_of is))) (by_agent (passes (is_trapped es.trapped) (agent_event_of c)))
       where
-        by_agent : (b : Bool) → Goal (done_by es (cond b (refused_by es.state es.trapped s c error.InUse) (after_machine_step es.trapped (step es.state c))))
+        by_agent : (b : Bool) → Goal (done_by es (cond b (after_refusal es.state es.trapped s c error.InUse) (after_machine_step es.trapped (step es.state c))))
         by_agent false = stepped_by free (goes_on_with c) refl
-        by_agent true = λ short only given. turned (refused_by es.state es.trapped s c error.InUse) was (record { client = seen; untimed = h.untimed; place = place; why = error.InUse; told = rw (eq-eqb s s refl) refl })
+        by_agent true = λ short only given. turned (after_refusal es.state es.trapped s c error.InUse) was (record { client = seen; untimed = h.untimed; place = place; why = error.InUse; told = rw (eq-eqb s s refl) refl })
             (mute_unreplied s a c (starts place) (effect.Answered s (answer.Refused error.InUse) ∷ []))
 
     by_pending : (p : Option ℕ) → es.pending ≡ p → Goal (done_by es (after_trap_and_call es.state es.trapped s c p))

@@ -4,14 +4,14 @@ use Rattle.answer_laws.proofs.AgentTexts.{filter_push_in}
 use Rattle.answer_laws.proofs.Replies.{Never, filter_mapped, filter_none, unless_passed}
 use Rattle.answer_laws.proofs.Sights.{answers_append, pushed_own, received_own, without_own}
 use Rattle.answer_laws.specs.Agents.{agent_sight}
-use Rattle.answer_laws.specs.Owners.{IsRefused, IsSentTo, IsTold, OwnerReceives, OwnersOfNoneAreRefused, OwnersReceive, OwnersReply, Sends, SendsAreLetters, letter_sent, sending}
+use Rattle.answer_laws.specs.Owners.{IsRefused, IsSentTo, IsTold, OwnerReceives, OwnersOfNoneAreRefused, OwnersReceive, OwnersReply, Sends, SendsAreLetters, new_letter, sending}
 use Rattle.answer_laws.specs.Sights.{answers_to, going_on, sight, sight_by}
 use Rattle.lwp_types.specs.Case.{Case, answer_case, refusal_case, silent_case, with_zero}
 use Rattle.lwp_types.specs.Counts.{goes_well, has_owner_and_event, is_owners}
 use Rattle.lwp_types.specs.FirstLaws.{find-filter}
 use Rattle.lwp_types.specs.Lawful.{Lawful}
-use Rattle.lwp_types.specs.Messages.{after_reply, as_answer, as_received, holding_set, is_letter_of, is_to, marked_received, post, receive_by, received_from, reception_set, takes_from, with_holding, without_letter}
-use Rattle.lwp_types.specs.State.{State, ThreadRow, block_set, is_agent, is_agent_row, is_id, is_number, is_thread, passes, still, thread_of, with_block}
+use Rattle.lwp_types.specs.Messages.{after_reply, as_answer, as_received, agent_with_holding, is_letter_of, is_to, with_reception, post, receive_by, received_letter, letter_with_reception, takes_from, with_holding, without_letter}
+use Rattle.lwp_types.specs.State.{State, ThreadRow, row_with_block, is_agent, is_agent_row, is_id, is_number, is_thread, passes, still, thread_of, with_block}
 use Rattle.lwp_types.specs.Step.{case_of, end_effects, ends, own_effects, step, step_by, step_if, step_outcome}
 use Rattle.lwp_types.specs.Unblock.{after_block, unblock, zero_answer}
 use Rattle.lwp_types.specs.declared.call.Answer.{Answer}
@@ -71,12 +71,12 @@ told_other u t other c made = answers_append u made.others (own_effects t made.o
 
 -- who is blocked waits so, and nothing else of it changes
 pub blocked_row : (t : ℕ) (b : Block) (rows : List ThreadRow) (x : ThreadRow) → find (is_number t) rows ≡ Some x → find (is_number t) (with_block t b rows) ≡ Some (record x { block = b })
-blocked_row t b rows x known = find_rowed (block_set t b) (λ row. refl) rows t ∙ ap (option_map (block_set t b)) known ∙ ap Some (rw (eq-eqb x.number t (number_known rows t x known)) refl)
+blocked_row t b rows x known = find_rowed (row_with_block t b) (λ row. refl) rows t ∙ ap (option_map (row_with_block t b)) known ∙ ap Some (rw (eq-eqb x.number t (number_known rows t x known)) refl)
 
 pub other_row : (t u : ℕ) (b : Block) (rows : List ThreadRow) → t ≢ u → find (is_number u) (with_block t b rows) ≡ find (is_number u) rows
-other_row t u b rows other = find_rowed (block_set t b) (λ row. refl) rows u ∙ unmoved (find (is_number u) rows) refl
+other_row t u b rows other = find_rowed (row_with_block t b) (λ row. refl) rows u ∙ unmoved (find (is_number u) rows) refl
   where
-    unmoved : (o : Option ThreadRow) → find (is_number u) rows ≡ o → option_map (block_set t b) o ≡ o
+    unmoved : (o : Option ThreadRow) → find (is_number u) rows ≡ o → option_map (row_with_block t b) o ≡ o
     unmoved None e = refl
     unmoved (Some row) e = ap Some (rw (ne_eqb row.number t (λ is. other (sym is ∙ number_known rows u row e))) refl)
 
@@ -142,8 +142,8 @@ module _ (s : State) (was : Lawful s None) (t a : ℕ) (row : AgentRow) (there :
         by_test true e = refl
         by_test false e = absurd (cc)
 
-    marked : filter (is_letter_of a) (marked_received l.from s.letters) ≡ as_received l ∷ []
-    marked = filter_mapped (is_letter_of a) (reception_set l.from) (λ x. refl) s.letters ∙ ap (map (reception_set l.from)) its ∙ by_test (eqb l.from l.from) (eq-eqb l.from l.from refl)
+    marked : filter (is_letter_of a) (with_reception l.from s.letters) ≡ as_received l ∷ []
+    marked = filter_mapped (is_letter_of a) (letter_with_reception l.from) (λ x. refl) s.letters ∙ ap (map (letter_with_reception l.from)) its ∙ by_test (eqb l.from l.from) (eq-eqb l.from l.from refl)
       where
         by_test : (b : Bool) → b ≡ true → record l { received = b || l.received } ∷ [] ≡ as_received l ∷ []
         by_test true e = refl
@@ -152,12 +152,12 @@ module _ (s : State) (was : Lawful s None) (t a : ℕ) (row : AgentRow) (there :
     -- it receives the letter
     receives : l.received ≡ false → IsTold t a (answer.Letter a l.text l.room ∷ []) (sight s t) (record { row = Some row; letters = as_received l ∷ [] }) (step_outcome t (call.Recv (Some a) mode.Block) (case_of s t (call.Recv (Some a) mode.Block)))
     receives fresh = subst (λ made. IsTold t a (answer.Letter a l.text l.room ∷ []) (sight s t) (record { row = Some row; letters = as_received l ∷ [] }) (step_outcome t (call.Recv (Some a) mode.Block) made)) (sym made_so) (record {
-      told = told_itself t (call.Recv (Some a) mode.Block) (answer_case (record s { letters = marked_received l.from s.letters }) (as_answer l)) ∙ ap (λ n. answer.Letter n l.text l.room ∷ []) from;
+      told = told_itself t (call.Recv (Some a) mode.Block) (answer_case (record s { letters = with_reception l.from s.letters }) (as_answer l)) ∙ ap (λ n. answer.Letter n l.text l.room ∷ []) from;
       itself_then = λ i. sight_by (thread_of s t) (received_own t Never l.from (λ e. away (sym from ∙ e)) s.letters i);
       agent_then = λ i. seen_by (there i) (marked i);
     })
       where
-        made_so : case_of s t (call.Recv (Some a) mode.Block) ≡ answer_case (record s { letters = marked_received l.from s.letters }) (as_answer l)
+        made_so : case_of s t (call.Recv (Some a) mode.Block) ≡ answer_case (record s { letters = with_reception l.from s.letters }) (as_answer l)
         made_so = unless_passed s _ _ (ap not is_there, (ne_eqb a t away, tt)) ∙ ap (receive_by s t (Some a) mode.Block) (found (λ x. not x.received) (ap not fresh))
 
     -- it replies to the letter
@@ -170,9 +170,9 @@ module _ (s : State) (was : Lawful s None) (t a : ℕ) (row : AgentRow) (there :
     })
       where
         rows : find (is_agent_row a) (with_holding a false s.agents) ≡ Some (record row { holding = false })
-        rows = find_map (is_agent_row a) (is_agent_row a) (holding_set a false) (λ row. refl) s.agents ∙ ap (option_map (holding_set a false)) there ∙ ap Some (rw (find_passes (is_agent_row a) s.agents row there) refl)
+        rows = find_map (is_agent_row a) (is_agent_row a) (agent_with_holding a false) (λ row. refl) s.agents ∙ ap (option_map (agent_with_holding a false)) there ∙ ap Some (rw (find_passes (is_agent_row a) s.agents row there) refl)
 
-        found_it : received_from s.letters t a ≡ Some l
+        found_it : received_letter s.letters t a ≡ Some l
         found_it = found (λ x. x.received) received
 
         idle : after_reply a text s ≡ still (record s { letters = without_letter a s.letters; agents = with_holding a false s.agents })
@@ -235,7 +235,7 @@ owners_of_none_are_refused s t a turn absent = (
 
 module _ (s : State) (was : Lawful s None) (t k room : ℕ) (text : List ℕ) (x y : ThreadRow) (known : thread_of s t ≡ Some x) (known_k : thread_of s k ≡ Some y) (other : k ≢ t) where
   abbrev sent : Letter
-  sent = letter_sent t k room text
+  sent = new_letter t k room text
 
   abbrev now : State
   now = after_block s t block.Sending

@@ -8,14 +8,14 @@ use Rattle.answer_laws.proofs.TalkLaws.{Inv, inv_events, inv_first}
 use Rattle.answer_laws.proofs.TalkShort.{session_short}
 use Rattle.answer_laws.proofs.TalkSteps.{unborn_absent, unsome}
 use Rattle.answer_laws.proofs.TalkTexts.{placed_recv}
-use Rattle.answer_laws.specs.Clients.{replied_in, reply_to, sends_well}
+use Rattle.answer_laws.specs.Clients.{replies_of_step, reply_to, sends_well}
 use Rattle.answer_laws.specs.Events.{machine_of}
 use Rattle.answer_laws.specs.Lengths.{is_short}
 use Rattle.answer_laws.specs.Owns.{SessionComes, SessionComes.Dies, SessionComes.GoesOn, SessionComes.IsTurnedAway}
 use Rattle.answer_laws.specs.Sights.{IsLeft, Sight, answers_to, sight}
 use Rattle.answer_laws.specs.Stands.{AgentIs, AgentIs.Gone, AgentIs.Made, AgentIs.Unmade, Becomes, HeardAs, Leaves, Stands, block_of, is_placed, is_posted, is_reading, knows, last_heard, texts_in}
 use Rattle.answer_laws.specs.Talks.{AreFirst, Mail, Mail.Nothing, Mail.Received, Mail.Sent, Stand, Stand.AwaitsLetter, Stand.AwaitsReply, Stand.Hears, Stand.IsOver, Talk, after_events}
-use Rattle.line_server.specs.Sessions.{SessionBody, session_by, session_next, session_opened}
+use Rattle.line_server.specs.Sessions.{SessionBody, session_by, session_next, session_turn_after_agent}
 use Rattle.line_server.specs.Stores.{StoreBody}
 use Rattle.line_server.specs.Tables.{line_answers}
 use Rattle.line_server.specs.declared.session.SessionPlace.{SessionPlace}
@@ -214,7 +214,7 @@ module _ (s k : ℕ) (st : State) (was : Lawful st None) (S S2 : SessionBody →
   got2 b = got b ++ new b
 
   abbrev said2 : ℕ → Texts
-  said2 b = said b ++ replied_in s b out.effects
+  said2 b = said b ++ replies_of_step s b out.effects
 
   abbrev Phase2 : Type 0
   Phase2 = Phase s k out.after S2 K2 got2 said2
@@ -261,14 +261,14 @@ module _ (s k : ℕ) (st : State) (was : Lawful st None) (S S2 : SessionBody →
 
   -- ---- a step in which the session doesn't call
 
-  module _ (silent : (b : ℕ) → replied_in s b out.effects ≡ []) (knext : StoreBody → Answer → StoreBody)
+  module _ (silent : (b : ℕ) → replies_of_step s b out.effects ≡ []) (knext : StoreBody → Answer → StoreBody)
       (s_on : is_thread out.after s ≡ true → (b : SessionBody) (z : Answer) → S b z → S2 b (last_heard z (answers_to s out.effects)))
       (k_on : (b : StoreBody) (z : Answer) → K b z → K2 (knext b z) (last_heard z (answers_to k out.effects)))
       (goes : (a : ℕ) (sb : SessionBody) (sz : Answer) (kb : StoreBody) (kz : Answer) → K kb kz → (t : TellsAt s k a st sb sz kb kz (got a) (said a)) → eqb null_id a ≡ false → (t.talk.agent_lives ≡ true) ⊎ (sb.place ≡ at.Agent) → (sb.place ≡ at.Start → out.after.births ≤ a) → is_thread out.after s ≡ true
       → Becomes s k a t.talk t.talk.session (knext kb kz) t.waiting (new a) [] out ⊎ Leaves s t.talk out)
       (left : sight st s ≡ resting → is_thread out.after s ≡ true → IsLeft s st out) where
     firsts_on : ((b : ℕ) → AreFirst (said b) (line_answers (got b))) → (b : ℕ) → AreFirst (said2 b) (line_answers (got2 b))
-    firsts_on firsts b = still_first (said b) (got b) (new b) (replied_in s b out.effects) (silent b) (firsts b)
+    firsts_on firsts b = still_first (said b) (got b) (new b) (replies_of_step s b out.effects) (silent b) (firsts b)
 
     tells_so : (a : ℕ) (sb : SessionBody) (sz : Answer) (kb : StoreBody) (kz : Answer) → (t : TellsAt s k a st sb sz kb kz (got a) (said a)) → Becomes s k a t.talk t.talk.session (knext kb kz) t.waiting (new a) [] out
         → TellsAt s k a out.after sb (last_heard sz (answers_to s out.effects)) (knext kb kz) (last_heard kz (answers_to k out.effects)) (got2 a) (said2 a)
@@ -305,13 +305,13 @@ module _ (s k : ℕ) (st : State) (was : Lawful st None) (S S2 : SessionBody →
                 absurd (let bad : false ≡ true = ap is_late (sym place ∙ sym (place_is s k a st sb sz kb kz (got a) (said a) t) ∙ recv) in cc)
 
         by_lives : (d : Bool) → is_thread out.after s ≡ d → Phase2
-        by_lives true e = Starting e sb (last_heard sz (answers_to s out.effects)) (knext kb kz) (last_heard kz (answers_to k out.effects)) (s_on e sb sz row) (k_on kb kz row_k) (λ a low away. one a low away e) place (λ a. both_none (said a) (replied_in s a out.effects) (nothing a) (silent a))
+        by_lives true e = Starting e sb (last_heard sz (answers_to s out.effects)) (knext kb kz) (last_heard kz (answers_to k out.effects)) (s_on e sb sz row) (k_on kb kz row_k) (λ a low away. one a low away e) place (λ a. both_none (said a) (replies_of_step s a out.effects) (nothing a) (silent a))
         by_lives false e = dead_now lives e (firsts_on (λ b. none_first (said b) (got b) (nothing b)))
     phase_other (Talking a sb sz kb kz row row_k t away started lives others) = by_lives (is_thread out.after s) refl
       where
         by_fate : is_thread out.after s ≡ true → Becomes s k a t.talk t.talk.session (knext kb kz) t.waiting (new a) [] out ⊎ Leaves s t.talk out → Phase2
         by_fate e (inl b) = settle a sb (last_heard sz (answers_to s out.effects)) (knext kb kz) (last_heard kz (answers_to k out.effects)) (s_on e sb sz row) (k_on kb kz row_k) (tells_so a sb sz kb kz t b) away started
-            (λ b apart. both_none (said b) (replied_in s b out.effects) (others b apart) (silent b))
+            (λ b apart. both_none (said b) (replies_of_step s b out.effects) (others b apart) (silent b))
         by_fate e (inr l) =
             let recv = sym (place_is s k a st sb sz kb kz (got a) (said a) t) ∙ placed_recv t.talk.session.place (subst (λ c. is_placed c t.talk.session.place ≡ true) l.place t.stands.placed) in
             Ending sb (last_heard sz (answers_to s out.effects)) (s_on e sb sz row) (λ names. ap (λ xs. (session_next sb names (last_heard sz xs)).0) l.told ∙ returned sb names recv) l.client (firsts_on (all_first a sb sz kb kz t others))
@@ -341,7 +341,7 @@ late_started at.Bye h = refl
 late_started at.End h = refl
 
 module _ (body : SessionBody) (names : Names) where
-  opened_started : body.place ≡ at.Agent → (x : Answer) → is_started (session_opened body x).1.place ≡ true
+  opened_started : body.place ≡ at.Agent → (x : Answer) → is_started (session_turn_after_agent body x).1.place ≡ true
   opened_started here (answer.Thread b) = refl
   opened_started here (answer.Refused e) = refl
   opened_started here (answer.Letter from text room) = ap is_started here
@@ -353,7 +353,7 @@ module _ (body : SessionBody) (names : Names) where
   opened_started here (answer.Caught d m p) = ap is_started here
   opened_started here (answer.Ids n ns) = ap is_started here
 
-  opened_mute : (b : ℕ) (x : Answer) → reply_to b (session_opened body x).0 ≡ []
+  opened_mute : (b : ℕ) (x : Answer) → reply_to b (session_turn_after_agent body x).0 ≡ []
   opened_mute b (answer.Thread c) = refl
   opened_mute b (answer.Refused e) = refl
   opened_mute b (answer.Letter from text room) = refl
@@ -416,15 +416,15 @@ module _ (s k : ℕ) (es : EventState) (was : Lawful es.state None) (turn : choi
       (k_on : (b : StoreBody) (z : Answer) → K b z → K2 b (last_heard z (answers_to k made_out.effects)))
       (short : (b : ℕ) → list_all is_short (got b) ≡ true) (only : es.pending ≡ None → sends_well s k own ≡ true) (low : eqb null_id es.state.births ≡ false) where
     abbrev PhaseOwn : Type 0
-    PhaseOwn = Phase s k made_out.after S2 K2 (λ b. got b ++ new_texts b) (λ b. said b ++ replied_in s b made_out.effects)
+    PhaseOwn = Phase s k made_out.after S2 K2 (λ b. got b ++ new_texts b) (λ b. said b ++ replies_of_step s b made_out.effects)
 
     lives_now : is_thread es.state s ≡ true
     lives_now = let run = chosen es.state was.nine s turn in ap is_some run.known
 
-    own_dead : is_thread made_out.after s ≡ false → ((b : ℕ) → AreFirst (said b ++ replied_in s b made_out.effects) (line_answers (got b ++ new_texts b))) → PhaseOwn
+    own_dead : is_thread made_out.after s ≡ false → ((b : ℕ) → AreFirst (said b ++ replies_of_step s b made_out.effects) (line_answers (got b ++ new_texts b))) → PhaseOwn
     own_dead off firsts = dead_now s k es.state was S S2 K K2 got said new_texts made_out (λ n. event_fades n es own) lives_now off firsts
 
-    unreplied : (b : ℕ) → reply_to b own ≡ [] → replied_in s b made_out.effects ≡ []
+    unreplied : (b : ℕ) → reply_to b own ≡ [] → replies_of_step s b made_out.effects ≡ []
     unreplied b none = mute_event s b es s own turn (mute_unreplied s b own none)
 
     module _ (a : ℕ) (sb : SessionBody) (sz : Answer) (kb : StoreBody) (kz : Answer) (row : S sb sz) (row_k : K kb kz) (t : TellsAt s k a es.state sb sz kb kz (got a) (said a)) (away : eqb null_id a ≡ false)
@@ -453,12 +453,12 @@ module _ (s k : ℕ) (es : EventState) (was : Lawful es.state None) (turn : choi
           (λ only given. pods_sessions_calls_are_events s k a es was t.talk t.waiting t.stands turn hearing.answer hearing.is names (session_short s a t.talk t.inv hearing.answer hearing.is names (lines_short s k a es.state sb sz kb kz (got a) (said a) t (short a))) only given))
           only given_agent
 
-      firsts_then : replied_in s a made_out.effects ≡ [] → (b : ℕ) → AreFirst (said b ++ replied_in s b made_out.effects) (line_answers (got b ++ new_texts b))
+      firsts_then : replies_of_step s a made_out.effects ≡ [] → (b : ℕ) → AreFirst (said b ++ replies_of_step s b made_out.effects) (line_answers (got b ++ new_texts b))
       firsts_then none b = by_test (eqb a b) refl
         where
-          by_test : (d : Bool) → eqb a b ≡ d → AreFirst (said b ++ replied_in s b made_out.effects) (line_answers (got b ++ new_texts b))
-          by_test true e = still_first (said b) (got b) (new_texts b) (replied_in s b made_out.effects) (ap (λ n. replied_in s n made_out.effects) (sym (eqb-true a b e)) ∙ none) (firsts b)
-          by_test false e = still_first (said b) (got b) (new_texts b) (replied_in s b made_out.effects) (unreplied b (mutes b e)) (firsts b)
+          by_test : (d : Bool) → eqb a b ≡ d → AreFirst (said b ++ replies_of_step s b made_out.effects) (line_answers (got b ++ new_texts b))
+          by_test true e = still_first (said b) (got b) (new_texts b) (replies_of_step s b made_out.effects) (ap (λ n. replies_of_step s n made_out.effects) (sym (eqb-true a b e)) ∙ none) (firsts b)
+          by_test false e = still_first (said b) (got b) (new_texts b) (replies_of_step s b made_out.effects) (unreplied b (mutes b e)) (firsts b)
 
       own_by : SessionComes s k a t.talk t.waiting (session_next sb0 names sz0).1 made_out → PhaseOwn
       unfolding session_next
@@ -468,13 +468,13 @@ module _ (s k : ℕ) (es : EventState) (was : Lawful es.state None) (turn : choi
           Ending (session_next sb0 names sz0).1 (last_heard sz0 (answers_to s made_out.effects)) (s_on (alive_seen made_out.after s block.Not (ap (λ (w : Sight). w.waits) v.client)))
           (λ later. ap (λ xs. (session_next (session_next sb0 names sz0).1 later (last_heard sz0 xs)).0) v.told ∙ away_returns sb0 names later sz0 v.why start) v.client (firsts_then none)
       own_by (GoesOn b) =
-          let told = tells_on s k a es.state sb sz kb kz (got a) (said a) t (session_next sb0 names sz0).1 t.talk.store (new_texts a) (replied_in s a made_out.effects) made_out b in
-          let told_so = subst (λ z. TellsAt s k a made_out.after (session_next sb0 names sz0).1 (last_heard z (answers_to s made_out.effects)) kb (last_heard kz (answers_to k made_out.effects)) (got a ++ new_texts a) (said a ++ replied_in s a made_out.effects)) (same sb sz row).1
-          (subst (λ body. TellsAt s k a made_out.after (session_next sb0 names sz0).1 (last_heard sz (answers_to s made_out.effects)) body (last_heard kz (answers_to k made_out.effects)) (got a ++ new_texts a) (said a ++ replied_in s a made_out.effects)) t.store told) in
+          let told = tells_on s k a es.state sb sz kb kz (got a) (said a) t (session_next sb0 names sz0).1 t.talk.store (new_texts a) (replies_of_step s a made_out.effects) made_out b in
+          let told_so = subst (λ z. TellsAt s k a made_out.after (session_next sb0 names sz0).1 (last_heard z (answers_to s made_out.effects)) kb (last_heard kz (answers_to k made_out.effects)) (got a ++ new_texts a) (said a ++ replies_of_step s a made_out.effects)) (same sb sz row).1
+          (subst (λ body. TellsAt s k a made_out.after (session_next sb0 names sz0).1 (last_heard sz (answers_to s made_out.effects)) body (last_heard kz (answers_to k made_out.effects)) (got a ++ new_texts a) (said a ++ replies_of_step s a made_out.effects)) t.store told) in
           settle s k es.state was S S2 K K2 got said new_texts made_out (λ n. event_fades n es own) a (session_next sb0 names sz0).1 (last_heard sz0 (answers_to s made_out.effects)) kb (last_heard kz (answers_to k made_out.effects))
           (s_on (alive_seen made_out.after s (block_of (Some a) (after_events s a t.talk b.events).client) (ap (λ (w : Sight). w.waits) b.stands.client))) (k_on kb kz row_k) told_so away
           (λ start. differ (sym (started_next sb0 names sz0 sb0.place refl) ∙ ap is_started start))
-          (λ n apart. both_none (said n) (replied_in s n made_out.effects) (others n apart) (unreplied n (mutes n apart)))
+          (λ n apart. both_none (said n) (replies_of_step s n made_out.effects) (others n apart) (unreplied n (mutes n apart)))
 
       pub own_talk : PhaseOwn
       own_talk = own_by comes
@@ -507,8 +507,8 @@ module _ (s k : ℕ) (es : EventState) (was : Lawful es.state None) (turn : choi
         next : IsLate sb0.agent (session_by sb0 names sz0 sb0.place)
         next = late_by sb0 names late0 sz0 sb0.place late0
 
-        firsts2 : (b : ℕ) → AreFirst (said b ++ replied_in s b made_out.effects) (line_answers (got b ++ new_texts b))
-        firsts2 b = still_first (said b) (got b) (new_texts b) (replied_in s b made_out.effects) (late_unheard s b es turn a gone own (subst (λ n. LateCall n own) agent0 next.calls)) (firsts b)
+        firsts2 : (b : ℕ) → AreFirst (said b ++ replies_of_step s b made_out.effects) (line_answers (got b ++ new_texts b))
+        firsts2 b = still_first (said b) (got b) (new_texts b) (replies_of_step s b made_out.effects) (late_unheard s b es turn a gone own (subst (λ n. LateCall n own) agent0 next.calls)) (firsts b)
 
         by_lives : (d : Bool) → is_thread made_out.after s ≡ d → PhaseOwn
         by_lives true e = Lost e a (session_next sb0 names sz0).1 (last_heard sz0 (answers_to s made_out.effects)) (s_on e) (next.agent_is ∙ agent0) next.late (gone_stays a es.state made_out.after (event_fades a es own) gone) firsts2
@@ -517,7 +517,7 @@ module _ (s k : ℕ) (es : EventState) (was : Lawful es.state None) (turn : choi
         let both = same sb sz row in
         let is : own ≡ call.Return = (λ i. (session_next (sym both.0 i) names (sym both.1 i)).0) ∙ returns names in
         own_dead (gone_thread made_out.after s (subst (λ c. IsGone (event_step es c).after.state s) (sym is) (returns_end s es was turn (ap (λ (v : Sight). v.marks) seen) lives_now)))
-        (λ b. still_first (said b) (got b) (new_texts b) (replied_in s b made_out.effects) (unreplied b (ap (reply_to b) is)) (firsts b))
+        (λ b. still_first (said b) (got b) (new_texts b) (replies_of_step s b made_out.effects) (unreplied b (ap (reply_to b) is)) (firsts b))
     phase_own (Starting lives sb sz kb kz row row_k tells place nothing) =
         let start = ap (λ (b : SessionBody). b.place) (sym (same sb sz row).0) ∙ place in
         own_talk es.state.births sb sz kb kz row row_k (tells es.state.births (omega arith) low) low (λ b. none_first (said b) (got b) (nothing b)) (λ b apart. nothing b) (λ b apart. own_start start b) (λ start. refl)

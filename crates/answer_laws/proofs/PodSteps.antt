@@ -32,9 +32,9 @@ use Rattle.lwp_types.specs.declared.rows.Block.{Block}
 use Rattle.pod_events.proofs.Mild.{mild_deliver}
 use Rattle.pod_events.proofs.MildCalls.{case_toll, is_tame, mild_tame}
 use Rattle.pod_events.specs.Events.{EventState, after_pass_on, after_take_trap, is_trapped, may_trap, rites_event, take_event}
-use Rattle.pod_events.specs.Rites.{after_first_report, as_rites, report_text, reports_after, rites_said}
+use Rattle.pod_events.specs.Rites.{after_first_report, as_rites, report_text, reports_after, after_rites}
 use Rattle.pod_events.specs.Step.{event_step, event_step_by, event_step_if}
-use Rattle.pod_events.specs.Traps.{after_call, after_call_as, after_machine_step, after_trap, after_trap_and_call, agent_event_of, but_call, is_catch, is_given, notice, refused_by, trap_of, trap_refusal}
+use Rattle.pod_events.specs.Traps.{after_call, after_call_as, after_machine_step, after_trap, after_trap_and_call, agent_event_of, but_call, is_catch, is_given, notice, after_refusal, trap_of, trap_refusal}
 use Rattle.pod_laws.proofs.EveryStep.{Lawful-step}
 use Rattle.pod_laws.proofs.TimerMoves.{no_timer_comes_unasked}
 use Rattle.std.proofs.Common.{Bool, List, None, Option, Some, [], ap, append-nil, append_assoc, arith, cond, drop, eqb, false, inl, inr, not, refl, subst, sym, true, ℕ, ◌&&◌, ◌++◌, ◌+◌, ◌∙◌, ◌∷◌, ◌≡◌, ◌≤◌, ◌⊎◌}
@@ -204,7 +204,7 @@ module _ (s k a : ℕ) (talk : Talk) (waiting : List (List ℕ)) where
   -- and so it is with the report behind it
   pub becomes_said : (session : SessionBody) (store : StoreBody) (replies : List (List ℕ)) (after : State) (es : List Effect) (reports : List ℕ) → Lawful after None → texts_in a None es ≡ []
       → Becomes s k a talk session store waiting [] replies (record { after = after; effects = es })
-      → Becomes s k a talk session store waiting (texts_in a None (rites_said after es reports).effects) replies (record { after = (rites_said after es reports).state; effects = (rites_said after es reports).effects })
+      → Becomes s k a talk session store waiting (texts_in a None (after_rites after es reports).effects) replies (record { after = (after_rites after es reports).state; effects = (after_rites after es reports).effects })
   becomes_said session store replies after es reports was none b = by_armed (is_event_armed after rites_event) refl reports
     where
       Done : State → List Effect → Type 0
@@ -247,7 +247,7 @@ module _ (s : ℕ) (heard : List Answer) where
       by_fate (inr woken) = absurd (let bad : Some block.Not ≡ Some (block.Receiving woken.from) = ap (λ x. x.waits) (sym l.client) ∙ woken.waited in cc)
 
   -- and so does a report
-  pub rests_said : (after : State) (es : List Effect) (reports : List ℕ) → Lawful after None → Rests s heard (record { after = after; effects = es }) → Rests s heard (record { after = (rites_said after es reports).state; effects = (rites_said after es reports).effects })
+  pub rests_said : (after : State) (es : List Effect) (reports : List ℕ) → Lawful after None → Rests s heard (record { after = after; effects = es }) → Rests s heard (record { after = (after_rites after es reports).state; effects = (after_rites after es reports).effects })
   rests_said after es reports was r = by_armed (is_event_armed after rites_event) reports
     where
       by_armed : (b : Bool) (rs : List ℕ) → Rests s heard (record { after = (cond b (after_first_report after es rs) (record { state = after; reports = rs; effects = es })).state; effects = (cond b (after_first_report after es rs) (record { state = after; reports = rs; effects = es })).effects })
@@ -263,7 +263,7 @@ module _ (s : ℕ) (heard : List Answer) where
           }
 
 -- a report bears nobody
-pub births_said : (after : State) (es : List Effect) (reports : List ℕ) → (rites_said after es reports).state.births ≡ after.births
+pub births_said : (after : State) (es : List Effect) (reports : List ℕ) → (after_rites after es reports).state.births ≡ after.births
 births_said after es reports = by_armed (is_event_armed after rites_event) reports
   where
     by_armed : (b : Bool) (rs : List ℕ) → (cond b (after_first_report after es rs) (record { state = after; reports = rs; effects = es })).state.births ≡ after.births
@@ -356,8 +356,8 @@ module _ (s k a : ℕ) (st : State) (was : Lawful st None) (talk : Talk) (waitin
         by_refusal e None fine low = after_none c _
         by_refusal e (Some why) fine low = after_none c _
 
-        by_agent : (b : Bool) → Fine c (cond b (refused_by st trapped t c error.InUse) (after_machine_step trapped (step st c))).state → Low (cond b (refused_by st trapped t c error.InUse) (after_machine_step trapped (step st c))).state
-            → After (cond b (refused_by st trapped t c error.InUse) (after_machine_step trapped (step st c))).state (cond b (refused_by st trapped t c error.InUse) (after_machine_step trapped (step st c))).effects
+        by_agent : (b : Bool) → Fine c (cond b (after_refusal st trapped t c error.InUse) (after_machine_step trapped (step st c))).state → Low (cond b (after_refusal st trapped t c error.InUse) (after_machine_step trapped (step st c))).state
+            → After (cond b (after_refusal st trapped t c error.InUse) (after_machine_step trapped (step st c))).state (cond b (after_refusal st trapped t c error.InUse) (after_machine_step trapped (step st c))).effects
         by_agent true fine low = after_none c _
         by_agent false fine low = after_step c fine low
 
@@ -383,21 +383,21 @@ module _ (s k a : ℕ) (st : State) (was : Lawful st None) (talk : Talk) (waitin
   abbrev Done : State → List Effect → Type 0
   Done after es = Becomes s k a talk talk.session talk.store waiting (texts_in a None es) [] (record { after = after; effects = es }) ⊎ Leaves s talk (record { after = after; effects = es })
 
-  after_said : (after : State) (es : List Effect) (reports : List ℕ) → After after es → Done (rites_said after es reports).state (rites_said after es reports).effects
+  after_said : (after : State) (es : List Effect) (reports : List ℕ) → After after es → Done (after_rites after es reports).state (after_rites after es reports).effects
   after_said after es reports m = by_comes m.comes
     where
-      by_comes : Becomes s k a talk talk.session talk.store waiting [] [] (record { after = after; effects = es }) ⊎ Leaves s talk (record { after = after; effects = es }) → Done (rites_said after es reports).state (rites_said after es reports).effects
+      by_comes : Becomes s k a talk talk.session talk.store waiting [] [] (record { after = after; effects = es }) ⊎ Leaves s talk (record { after = after; effects = es }) → Done (after_rites after es reports).state (after_rites after es reports).effects
       by_comes (inl b) = inl (becomes_said s k a talk waiting talk.session talk.store [] after es reports m.lawful m.texts b)
       by_comes (inr l) =
           let r = rests_said s (nonexist ∷ []) after es reports m.lawful (record { client = l.client; untimed = l.untimed; told = l.told }) in
           inr (record { client = r.client; untimed = r.untimed; place = l.place; told = r.told })
 
-  low_before : (after : State) (es : List Effect) (reports : List ℕ) → Low (rites_said after es reports).state → Low after
+  low_before : (after : State) (es : List Effect) (reports : List ℕ) → Low (after_rites after es reports).state → Low after
   low_before after es reports low place = omega (arith, low place, births_said after es reports)
 
 module _ (s k a : ℕ) (es : EventState) (was : Lawful es.state None) (talk : Talk) (waiting : List (List ℕ)) (h : Stands s k a es.state talk waiting) (t : ℕ) (turn : choice es.state ≡ Some t)
     (t_s : eqb t s ≡ false) (t_k : eqb t k ≡ false) (c : Call) where
-  fine_before : (after : State) (fs : List Effect) (reports : List ℕ) → Fine s k a es.state was talk waiting h t turn t_s t_k c (rites_said after fs reports).state → Fine s k a es.state was talk waiting h t turn t_s t_k c after
+  fine_before : (after : State) (fs : List Effect) (reports : List ℕ) → Fine s k a es.state was talk waiting h t turn t_s t_k c (after_rites after fs reports).state → Fine s k a es.state was talk waiting h t turn t_s t_k c after
   fine_before after fs reports (inl spared) = inl spared
   fine_before after fs reports (inr alive) = inr (sym (thread_said s after fs reports) ∙ alive.0, sym (thread_said k after fs reports) ∙ alive.1)
 

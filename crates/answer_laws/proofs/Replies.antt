@@ -7,8 +7,8 @@ use Rattle.lwp_types.specs.Case.{Case, Check, answer_case, is_no_id, refusal_cas
 use Rattle.lwp_types.specs.CountLaws.{one-le}
 use Rattle.lwp_types.specs.FirstLaws.{find-filter}
 use Rattle.lwp_types.specs.Lawful.{Lawful}
-use Rattle.lwp_types.specs.Messages.{after_reply, as_answer, as_received, is_from, is_letter_of, is_no_source, is_open, is_to, marked_received, next_letter, receive_by, received_from, reception_set, with_holding, without_letter}
-use Rattle.lwp_types.specs.State.{State, ThreadRow, block_set, is_agent, is_id, is_number, is_thread, passes, still, thread_of, with_block}
+use Rattle.lwp_types.specs.Messages.{after_reply, as_answer, as_received, is_from, is_letter_of, is_no_source, is_open, is_to, with_reception, next_letter, receive_by, received_letter, letter_with_reception, with_holding, without_letter}
+use Rattle.lwp_types.specs.State.{State, ThreadRow, row_with_block, is_agent, is_id, is_number, is_thread, passes, still, thread_of, with_block}
 use Rattle.lwp_types.specs.Step.{case_of, end_effects, ends, step, step_by, step_if, step_outcome}
 use Rattle.lwp_types.specs.Unblock.{after_block, after_block_for, unblock}
 use Rattle.lwp_types.specs.declared.call.Answer.{Answer}
@@ -117,7 +117,7 @@ module _ (s : State) (was : Lawful s None) (t u : ℕ) (l : Letter) (asks : Asks
   swapped false false false = refl
 
   -- it is found by whom it is for
-  found : l.received ≡ true → received_from s.letters t u ≡ Some l
+  found : l.received ≡ true → received_letter s.letters t u ≡ Some l
   found h =
       find-filter (λ (x : Letter). x.received && is_letter_of u x) (is_to t) s.letters
       ∙ (λ i. find (λ (x : Letter). swapped (is_to t x) x.received (is_letter_of u x) i) s.letters)
@@ -139,10 +139,10 @@ module _ (s : State) (was : Lawful s None) (t u : ℕ) (l : Letter) (asks : Asks
   -- ---- a reply
 
   module _ (received : l.received ≡ true) (text : List ℕ) where
-    waits_none : is_none (received_from s.letters t u) ≡ false
+    waits_none : is_none (received_letter s.letters t u) ≡ false
     waits_none = ap is_none (found received)
 
-    too_long : passes (λ (letter : Letter). nat_lt letter.room (length text)) (received_from s.letters t u) ≡ nat_lt l.room (length text)
+    too_long : passes (λ (letter : Letter). nat_lt letter.room (length text)) (received_letter s.letters t u) ≡ nat_lt l.room (length text)
     too_long = ap (passes (λ (letter : Letter). nat_lt letter.room (length text))) (found received)
 
     replied_so : after_reply u text s ≡ unblock (answer.Reply text) u (record s { letters = without_letter u s.letters })
@@ -156,13 +156,13 @@ module _ (s : State) (was : Lawful s None) (t u : ℕ) (l : Letter) (asks : Asks
     made_fits fits = unless_passed s _ _ (ap not is_there, (waits_none, (too_long ∙ le-ltb l.room (length text) fits, tt))) ∙ ap with_zero replied_so
 
     made_exceeds : l.room < length text → case_of s t (call.Reply u text) ≡ refusal_case s error.InvalidArg
-    made_exceeds longer = unless_struck s (is_no_id s u ∷ (is_none (received_from s.letters t u), error.NoWait) ∷ []) (passes (λ (letter : Letter). nat_lt letter.room (length text)) (received_from s.letters t u), error.InvalidArg) (with_zero (after_reply u text s)) (ap not is_there, (waits_none, tt)) (too_long ∙ lt-ltb l.room (length text) longer)
+    made_exceeds longer = unless_struck s (is_no_id s u ∷ (is_none (received_letter s.letters t u), error.NoWait) ∷ []) (passes (λ (letter : Letter). nat_lt letter.room (length text)) (received_letter s.letters t u), error.InvalidArg) (with_zero (after_reply u text s)) (ap not is_there, (waits_none, tt)) (too_long ∙ lt-ltb l.room (length text) longer)
 
     goes_now : sight (unblock (answer.Reply text) u (record s { letters = without_letter u s.letters })).after u ≡ record (going_on (sight s u)) { letters = [] }
     goes_now = (λ i. sight_by (now i) (filter_none (is_letter_of u) s.letters i)) ∙ goes (is_number u row) (eq-eqb row.number u (number_known s.threads u row known))
       where
-        now : find (is_number u) (with_block u block.Not s.threads) ≡ Some (block_set u block.Not row)
-        now = find_rowed (block_set u block.Not) (λ row. refl) s.threads u ∙ ap (option_map (block_set u block.Not)) known
+        now : find (is_number u) (with_block u block.Not s.threads) ≡ Some (row_with_block u block.Not row)
+        now = find_rowed (row_with_block u block.Not) (λ row. refl) s.threads u ∙ ap (option_map (row_with_block u block.Not)) known
 
         goes : (b : Bool) → b ≡ true → sight_by (Some (record row { block = cond b block.Not row.block })) [] ≡ record (going_on (sight s u)) { letters = [] }
         goes true e = ap (λ o. record (going_on (sight_by o [])) { letters = [] }) (sym known)
@@ -192,11 +192,11 @@ module _ (s : State) (was : Lawful s None) (t u : ℕ) (l : Letter) (asks : Asks
     checks : ((is_no_source s from).0 ≡ false) × (passes (λ x. eqb x t) from ≡ false)
     checks = named from (and_parts (not l.received) (is_from from l) (find_passes (is_open from) (filter (is_to t) s.letters) l first)).1
 
-    made_received : case_of s t (call.Recv from how) ≡ answer_case (record s { letters = marked_received l.from s.letters }) (as_answer l)
+    made_received : case_of s t (call.Recv from how) ≡ answer_case (record s { letters = with_reception l.from s.letters }) (as_answer l)
     made_received = unless_passed s _ _ (checks.0, (checks.1, tt)) ∙ ap (receive_by s t from how) first
 
-    marked : filter (is_letter_of u) (marked_received l.from s.letters) ≡ as_received l ∷ []
-    marked = filter_mapped (is_letter_of u) (reception_set l.from) (λ x. refl) s.letters ∙ ap (map (reception_set l.from)) asks.letters ∙ by_test (eqb l.from l.from) (eq-eqb l.from l.from refl)
+    marked : filter (is_letter_of u) (with_reception l.from s.letters) ≡ as_received l ∷ []
+    marked = filter_mapped (is_letter_of u) (letter_with_reception l.from) (λ x. refl) s.letters ∙ ap (map (letter_with_reception l.from)) asks.letters ∙ by_test (eqb l.from l.from) (eq-eqb l.from l.from refl)
       where
         by_test : (b : Bool) → b ≡ true → record l { received = b || l.received } ∷ [] ≡ as_received l ∷ []
         by_test true e = refl
@@ -214,7 +214,7 @@ module _ (s : State) (was : Lawful s None) (t u : ℕ) (l : Letter) (asks : Asks
 
     is_received : IsReceived u t l s (step_outcome t (call.Recv from how) (case_of s t (call.Recv from how)))
     is_received =
-        let after = record s { letters = marked_received l.from s.letters } in
+        let after = record s { letters = with_reception l.from s.letters } in
         subst (λ made. IsReceived u t l s (step_outcome t (call.Recv from how) made)) (sym made_received) (record {
           seen = λ i. sight_by (thread_of s u) (marked i);
           quiet = finished_told u t apart (call.Recv from how) (answer_case after (as_answer l));

@@ -6,7 +6,7 @@ use Rattle.answer_laws.proofs.Fadings.{event_fades}
 use Rattle.answer_laws.proofs.Servings.{gone_fades, got_more, moved_lawful}
 use Rattle.answer_laws.proofs.TalkTexts.{births_deliver}
 use Rattle.answer_laws.specs.Agents.{deliveries_to}
-use Rattle.answer_laws.specs.Clients.{delivered_to}
+use Rattle.answer_laws.specs.Clients.{texts_delivered}
 use Rattle.answer_laws.specs.Lengths.{is_short}
 use Rattle.answer_laws.specs.Served.{CanGoOn, after_move, after_moves, line_is_short, steps_of}
 use Rattle.answer_laws.specs.Stands.{texts_in}
@@ -14,12 +14,12 @@ use Rattle.lwp_types.specs.Agents.{deliver, is_event_armed}
 use Rattle.lwp_types.specs.Choice.{choice}
 use Rattle.lwp_types.specs.CountLaws.{count-append, count-cons, one}
 use Rattle.lwp_types.specs.Lawful.{Lawful}
-use Rattle.lwp_types.specs.Names.{null_id, polled_as}
+use Rattle.lwp_types.specs.Names.{null_id, names_for_poll}
 use Rattle.lwp_types.specs.State.{Outcome, State, all_below}
 use Rattle.lwp_types.specs.declared.call.Call.{Call}
 use Rattle.lwp_types.specs.declared.call.Effect.{Effect}
 use Rattle.pod_events.specs.Events.{EventState, after_pass_on, after_take_trap, has_agent, is_trapped, rites_event, take_event}
-use Rattle.pod_events.specs.Rites.{after_first_report, as_rites, dead_to_report, deaths, is_reported, report_text, reports_after, rites_said}
+use Rattle.pod_events.specs.Rites.{after_first_report, as_rites, dead_to_report, deaths, is_reported, report_text, reports_after, after_rites}
 use Rattle.pod_events.specs.Step.{event_step, event_step_by, event_step_if}
 use Rattle.pod_events.specs.Traps.{after_trap_and_call as traps_called}
 use Rattle.pod_laws.proofs.Elements.{all_filter}
@@ -86,8 +86,8 @@ module _ (a : ℕ) (es : EventState) (was : Lawful es.state None) (h : Below es)
           (all_filter (λ n. nat_lt n now.births) (λ n. nat_lt n now.births) (is_reported es.state) (λ n kept low. low) (deaths fs) (deaths_below now.births fs died))
 
   said : (now : State) (fs : List Effect) (reports : List ℕ) → all_below now.births reports ≡ true → texts_in a None fs ≡ []
-      → (all_below (rites_said now fs reports).state.births (rites_said now fs reports).reports ≡ true) × ((rites_said now fs reports).state.births < null_id → list_all is_short (texts_in a None (rites_said now fs reports).effects) ≡ true)
-  said now fs reports below none = (subst (λ n. all_below n (rites_said now fs reports).reports ≡ true) (sym (births_said now fs reports)) (left_below (is_event_armed now rites_event) reports below), λ few. short_by (omega (arith, few, births_said now fs reports)) (is_event_armed now rites_event) reports below)
+      → (all_below (after_rites now fs reports).state.births (after_rites now fs reports).reports ≡ true) × ((after_rites now fs reports).state.births < null_id → list_all is_short (texts_in a None (after_rites now fs reports).effects) ≡ true)
+  said now fs reports below none = (subst (λ n. all_below n (after_rites now fs reports).reports ≡ true) (sym (births_said now fs reports)) (left_below (is_event_armed now rites_event) reports below), λ few. short_by (omega (arith, few, births_said now fs reports)) (is_event_armed now rites_event) reports below)
     where
       left_below : (b : Bool) (rs : List ℕ) → all_below now.births rs ≡ true → all_below now.births (cond b (after_first_report now fs rs) (record { state = now; reports = rs; effects = fs })).reports ≡ true
       left_below true [] low = refl
@@ -105,7 +105,7 @@ module _ (a : ℕ) (es : EventState) (was : Lawful es.state None) (h : Below es)
 
 -- ---- a call, and a take
 
-died_by : (now : State) (fs : List Effect) (reports : List ℕ) → ((n : ℕ) → 1 ≤ count_by (is_died n) (rites_said now fs reports).effects → n < (rites_said now fs reports).state.births) → (n : ℕ) → 1 ≤ count_by (is_died n) fs → n < now.births
+died_by : (now : State) (fs : List Effect) (reports : List ℕ) → ((n : ℕ) → 1 ≤ count_by (is_died n) (after_rites now fs reports).effects → n < (after_rites now fs reports).state.births) → (n : ℕ) → 1 ≤ count_by (is_died n) fs → n < now.births
 died_by now fs reports died n some = subst (λ m. n < m) (births_said now fs reports) (died n (by_armed (is_event_armed now rites_event) reports))
   where
     by_armed : (b : Bool) (rs : List ℕ) → 1 ≤ count_by (is_died n) (cond b (after_first_report now fs rs) (record { state = now; reports = rs; effects = fs })).effects
@@ -149,10 +149,10 @@ module _ {B : Type 0} (setting : Setting B) where
   -- so far all that was delivered is short, and the dead that are to be reported are below the births
   pub record IsShortSoFar (session : Session B) : Type 0 where
     pub below : Below session.live.pod
-    pub short : (a : ℕ) → list_all is_short (delivered_to a (steps_of session.steps)) ≡ true
+    pub short : (a : ℕ) → list_all is_short (texts_delivered a (steps_of session.steps)) ≡ true
 
-  pushed : (steps : List Made) (m : Made) (a : ℕ) → list_all is_short (delivered_to a (steps_of steps)) ≡ true → list_all is_short (texts_in a (option_map (λ (took : Took). took.line.text) m.take) m.effects) ≡ true → list_all is_short (delivered_to a (steps_of (steps ++ m ∷ []))) ≡ true
-  pushed steps m a one two = ap (list_all is_short) (sym (got_more steps m a)) ∙ all_both (delivered_to a (steps_of steps)) (texts_in a (option_map (λ (took : Took). took.line.text) m.take) m.effects) one two
+  pushed : (steps : List Made) (m : Made) (a : ℕ) → list_all is_short (texts_delivered a (steps_of steps)) ≡ true → list_all is_short (texts_in a (option_map (λ (took : Took). took.line.text) m.take) m.effects) ≡ true → list_all is_short (texts_delivered a (steps_of (steps ++ m ∷ []))) ≡ true
+  pushed steps m a one two = ap (list_all is_short) (sym (got_more steps m a)) ∙ all_both (texts_delivered a (steps_of steps)) (texts_in a (option_map (λ (took : Took). took.line.text) m.take) m.effects) one two
 
   call_short : (live : Live B) → Lawful live.pod.state None → Below live.pod → (a : ℕ) → Reported a live.pod (move setting.next setting.bodies live).live.pod (move setting.next setting.bodies live).effects
   unfolding move call_move
@@ -160,7 +160,7 @@ module _ {B : Type 0} (setting : Setting B) where
     where
       by_row : (t : ℕ) (o : Option (Row B)) → Reported a live.pod (move_row setting.next setting.bodies live t o).live.pod (move_row setting.next setting.bodies live t o).effects
       by_row t None = record { below = h; short = λ few. refl }
-      by_row t (Some row) = call_reported a live.pod was h (setting.next row.body (polled_as t live.names) row.answer).0
+      by_row t (Some row) = call_reported a live.pod was h (setting.next row.body (names_for_poll t live.names) row.answer).0
 
       by_choice : (o : Option ℕ) → Reported a live.pod (move_by setting.next setting.bodies live o).live.pod (move_by setting.next setting.bodies live o).effects
       by_choice None = record { below = h; short = λ few. refl }

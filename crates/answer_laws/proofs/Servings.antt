@@ -10,7 +10,7 @@ use Rattle.answer_laws.proofs.TalkShort.{store_short}
 use Rattle.answer_laws.proofs.TalkSteps.{attends_seen, unsome}
 use Rattle.answer_laws.proofs.StoreSteps.{sends_at}
 use Rattle.answer_laws.proofs.ThreadRows.{row_polled_other, row_polled_own, row_settled}
-use Rattle.answer_laws.specs.Clients.{Step, all_sends_to, delivered_to, names_only, replied_in, replied_to, sends_nothing, sends_only, text_to}
+use Rattle.answer_laws.specs.Clients.{Step, all_sends_to, texts_delivered, names_only, replies_of_step, replies_accepted, sends_nothing, sends_only, text_to}
 use Rattle.answer_laws.specs.Events.{machine_of}
 use Rattle.answer_laws.specs.Lengths.{is_short}
 use Rattle.answer_laws.specs.Served.{CanGoOn, LineServer, after_move, after_moves, is_move_due, step_of, steps_of}
@@ -27,7 +27,7 @@ use Rattle.lwp_types.specs.Agents.{deliver, is_event_armed}
 use Rattle.lwp_types.specs.Lawful.{Lawful}
 use Rattle.lwp_types.specs.Messages.{is_to}
 use Rattle.lwp_types.specs.Unblock.{zero_answer}
-use Rattle.lwp_types.specs.Names.{Names, null_id, polled_as}
+use Rattle.lwp_types.specs.Names.{Names, null_id, names_for_poll}
 use Rattle.lwp_types.specs.Poll.{Polled}
 use Rattle.lwp_types.specs.State.{Outcome, State, ThreadRow, is_number, is_thread, passes, thread_of}
 use Rattle.lwp_types.specs.Step.{step, step_by, step_if}
@@ -36,9 +36,9 @@ use Rattle.lwp_types.specs.declared.call.Call.{Call}
 use Rattle.lwp_types.specs.declared.call.Effect.{Effect}
 use Rattle.lwp_types.specs.declared.call.LwpErr.{LwpErr}
 use Rattle.pod_events.specs.Events.{EventState, is_takeable, is_trapped, rites_event, take_event}
-use Rattle.pod_events.specs.Rites.{after_first_report, as_rites, report_text, reports_after, rites_said}
+use Rattle.pod_events.specs.Rites.{after_first_report, as_rites, report_text, reports_after, after_rites}
 use Rattle.pod_events.specs.Step.{event_step}
-use Rattle.pod_events.specs.Traps.{after_call, after_call_as, after_machine_step, after_trap, after_trap_and_call as traps_called, agent_event_of, refused_by, trap_of, trap_refusal}
+use Rattle.pod_events.specs.Traps.{after_call, after_call_as, after_machine_step, after_trap, after_trap_and_call as traps_called, agent_event_of, after_refusal, trap_of, trap_refusal}
 use Rattle.pod_laws.proofs.Chosen.{chosen}
 use Rattle.pod_laws.proofs.Rowed.{once_threads}
 use Rattle.pod_laws.proofs.Elements.{differ}
@@ -100,7 +100,7 @@ module _ (s k : ℕ) (es : EventState) (turn : choice es.state ≡ Some s) (c : 
       by_refusal e None = head_called (effect.Answered s zero_answer ∷ [])
       by_refusal e (Some why) = head_called (effect.Answered s (answer.Refused why) ∷ [])
 
-      by_agent : (b : Bool) → Heads (cond b (refused_by es.state trapped s c error.InUse) (after_machine_step trapped (step es.state c))).effects
+      by_agent : (b : Bool) → Heads (cond b (after_refusal es.state trapped s c error.InUse) (after_machine_step trapped (step es.state c))).effects
       by_agent true = head_called (effect.Answered s (answer.Refused error.InUse) ∷ [])
       by_agent false = head_step
 
@@ -108,7 +108,7 @@ module _ (s k : ℕ) (es : EventState) (turn : choice es.state ≡ Some s) (c : 
       by_trap None = by_agent (passes (is_trapped trapped) (agent_event_of c))
       by_trap (Some e) = by_refusal e (trap_refusal es.state trapped e)
 
-  head_said : (after : State) (fs : List Effect) (reports : List ℕ) → Heads fs → Heads (rites_said after fs reports).effects
+  head_said : (after : State) (fs : List Effect) (reports : List ℕ) → Heads fs → Heads (after_rites after fs reports).effects
   head_said after fs reports heads = by_armed (is_event_armed after rites_event) reports
     where
       by_armed : (b : Bool) (rs : List ℕ) → Heads (cond b (after_first_report after fs rs) (record { state = after; reports = rs; effects = fs })).effects
@@ -138,10 +138,10 @@ sends_last s k steps m all = (and_parts (list_all (sends_only s k) m.effects) tr
     (sym (list_all-append (λ (step : Step). list_all (sends_only s k) step.effects) (steps_of steps) (step_of m ∷ [])) ∙ ap (all_sends_to s k) (sym (map-append step_of steps (m ∷ []))) ∙ all)).1).0
 
 -- what one step more delivers
-pub got_more : (steps : List Made) (m : Made) (a : ℕ) → delivered_to a (steps_of steps) ++ texts_in a (option_map (λ (took : Took). took.line.text) m.take) m.effects ≡ delivered_to a (steps_of (steps ++ m ∷ []))
-got_more steps m a = sym (ap (delivered_to a) (map-append step_of steps (m ∷ []))
+pub got_more : (steps : List Made) (m : Made) (a : ℕ) → texts_delivered a (steps_of steps) ++ texts_in a (option_map (λ (took : Took). took.line.text) m.take) m.effects ≡ texts_delivered a (steps_of (steps ++ m ∷ []))
+got_more steps m a = sym (ap (texts_delivered a) (map-append step_of steps (m ∷ []))
     ∙ flat_map-append (λ (step : Step). flat_map (text_to a step.text) step.effects) (steps_of steps) (step_of m ∷ [])
-    ∙ ap (λ xs. delivered_to a (steps_of steps) ++ xs) (append-nil (texts_in a (option_map (λ (took : Took). took.line.text) m.take) m.effects)))
+    ∙ ap (λ xs. texts_delivered a (steps_of steps) ++ xs) (append-nil (texts_in a (option_map (λ (took : Took). took.line.text) m.take) m.effects)))
 
 -- ---- a session of a pod
 
@@ -153,10 +153,10 @@ module _ {B : Type 0} (setting : Setting B) (server : LineServer setting.next) (
   K_of rows b z = row_of k rows ≡ Some (record { tid = k; body = server.storing b; answer = z })
 
   abbrev pub got_in : List Made → ℕ → Texts
-  got_in steps a = delivered_to a (steps_of steps)
+  got_in steps a = texts_delivered a (steps_of steps)
 
   abbrev pub said_in : List Made → ℕ → Texts
-  said_in steps a = replied_to s a (steps_of steps)
+  said_in steps a = replies_accepted s a (steps_of steps)
 
   abbrev pub Stood : Session B → Type 0
   Stood session = Phase s k session.live.pod.state (S_of session.live.rows) (K_of session.live.rows) (got_in session.steps) (said_in session.steps)
@@ -164,13 +164,13 @@ module _ {B : Type 0} (setting : Setting B) (server : LineServer setting.next) (
   pub got_push : (steps : List Made) (made : Made) (a : ℕ) → got_in steps a ++ texts_in a (option_map (λ (took : Took). took.line.text) made.take) made.effects ≡ got_in (steps ++ made ∷ []) a
   got_push steps made a = got_more steps made a
 
-  pub said_push : (steps : List Made) (made : Made) (a : ℕ) → said_in steps a ++ replied_in s a made.effects ≡ said_in (steps ++ made ∷ []) a
-  said_push steps made a = sym (ap (replied_to s a) (map-append step_of steps (made ∷ []))
-      ∙ flat_map-append (λ (step : Step). replied_in s a step.effects) (steps_of steps) (step_of made ∷ [])
-      ∙ ap (λ xs. said_in steps a ++ xs) (append-nil (replied_in s a made.effects)))
+  pub said_push : (steps : List Made) (made : Made) (a : ℕ) → said_in steps a ++ replies_of_step s a made.effects ≡ said_in (steps ++ made ∷ []) a
+  said_push steps made a = sym (ap (replies_accepted s a) (map-append step_of steps (made ∷ []))
+      ∙ flat_map-append (λ (step : Step). replies_of_step s a step.effects) (steps_of steps) (step_of made ∷ [])
+      ∙ ap (λ xs. said_in steps a ++ xs) (append-nil (replies_of_step s a made.effects)))
 
   -- a phase behind a step more
-  stood_push : (steps : List Made) (made : Made) (live : Live B) → Phase s k live.pod.state (S_of live.rows) (K_of live.rows) (λ b. got_in steps b ++ texts_in b (option_map (λ (took : Took). took.line.text) made.take) made.effects) (λ b. said_in steps b ++ replied_in s b made.effects)
+  stood_push : (steps : List Made) (made : Made) (live : Live B) → Phase s k live.pod.state (S_of live.rows) (K_of live.rows) (λ b. got_in steps b ++ texts_in b (option_map (λ (took : Took). took.line.text) made.take) made.effects) (λ b. said_in steps b ++ replies_of_step s b made.effects)
       → Stood (record { live = live; steps = steps ++ made ∷ [] })
   stood_push steps made live phase = subst (λ g. Phase s k live.pod.state (S_of live.rows) (K_of live.rows) g (said_in (steps ++ made ∷ []))) (λ i b. got_push steps made b i)
       (subst (λ g. Phase s k live.pod.state (S_of live.rows) (K_of live.rows) (λ b. got_in steps b ++ texts_in b (option_map (λ (took : Took). took.line.text) made.take) made.effects) g) (λ i b. said_push steps made b i) phase)
@@ -208,7 +208,7 @@ module _ {B : Type 0} (setting : Setting B) (server : LineServer setting.next) (
       left_so seen lives = never_woken seen (living_is_left live.pod was t s turn t_s (attends_seen live.pod.state s block.Not (ap (λ (v : Sight). v.waits) seen) refl) (rests_untimed live.pod.state was s seen) (λ v. ap (λ (x : Sight). count_by (is_to v) x.letters) seen) reply.0 lives)
 
       -- any but the store
-      other_call : eqb t k ≡ false → is_thread out.after k ≡ true → Phase s k out.after (S_of rows2) (K_of rows2) (λ b. got_in steps b ++ texts_in b None out.effects) (λ b. said_in steps b ++ replied_in s b out.effects)
+      other_call : eqb t k ≡ false → is_thread out.after k ≡ true → Phase s k out.after (S_of rows2) (K_of rows2) (λ b. got_in steps b ++ texts_in b None out.effects) (λ b. said_in steps b ++ replies_of_step s b out.effects)
       other_call t_k lives = phase_other s k live.pod.state was (S_of live.rows) (S_of rows2) (K_of live.rows) (K_of rows2) (got_in steps) (said_in steps) (λ b. texts_in b None out.effects) out (λ n. event_fades n live.pod reply.0)
           (λ b. (others_reply_nothing s b live.pod).0 t turn t_s reply.0) (λ b z. b) s_on
           (λ b z row. row_settled k setting.bodies (proc_of reply.0) out.effects (after_poll t reply.1 live.rows) (record { tid = k; body = server.storing b; answer = z }) (row_polled_other k t t_k reply.1 live.rows ∙ row) (alive_then live.pod.state out.after out.effects moved k lives))
@@ -237,7 +237,7 @@ module _ {B : Type 0} (setting : Setting B) (server : LineServer setting.next) (
       abbrev rows_k : List (Row B)
       rows_k = after_settle setting.bodies (proc_of reply_k.0) (event_step live.pod reply_k.0).effects (after_poll k reply_k.1 live.rows)
 
-      store_call : ((b : ℕ) → list_all is_short (got_in steps b) ≡ true) → is_thread out_k.after k ≡ true → Phase s k out_k.after (S_of rows_k) (K_of rows_k) (λ b. got_in steps b ++ texts_in b None out_k.effects) (λ b. said_in steps b ++ replied_in s b out_k.effects)
+      store_call : ((b : ℕ) → list_all is_short (got_in steps b) ≡ true) → is_thread out_k.after k ≡ true → Phase s k out_k.after (S_of rows_k) (K_of rows_k) (λ b. got_in steps b ++ texts_in b None out_k.effects) (λ b. said_in steps b ++ replies_of_step s b out_k.effects)
       store_call short lives = phase_other s k live.pod.state was (S_of live.rows) (S_of rows_k) (K_of live.rows) (K_of rows_k) (got_in steps) (said_in steps) (λ b. texts_in b None out_k.effects) out_k (λ n. event_fades n live.pod reply_k.0)
           (λ b. (others_reply_nothing s b live.pod).0 k turn k_s reply_k.0) (λ b z. (store_next b names z).1) (s_on k turn k_s reply_k)
           (λ b z is. row_settled k setting.bodies (proc_of reply_k.0) out_k.effects (after_poll k reply_k.1 live.rows) (record { tid = k; body = server.storing (store_next b names z).1; answer = z })
@@ -293,7 +293,7 @@ module _ {B : Type 0} (setting : Setting B) (server : LineServer setting.next) (
       same_row b z is = let same = unsome (sym is ∙ its.row) in (server.one_session b its.body (ap (λ (r : Row B). r.body) same), ap (λ (r : Row B). r.answer) same)
 
       session_call : ((b : ℕ) → list_all is_short (got_in steps b) ≡ true) → eqb null_id live.pod.state.births ≡ false → is_thread out_s.after k ≡ true → list_all (sends_only s k) out_s.effects ≡ true
-          → Phase s k out_s.after (S_of rows_s) (K_of rows_s) (λ b. got_in steps b ++ texts_in b None out_s.effects) (λ b. said_in steps b ++ replied_in s b out_s.effects)
+          → Phase s k out_s.after (S_of rows_s) (K_of rows_s) (λ b. got_in steps b ++ texts_in b None out_s.effects) (λ b. said_in steps b ++ replies_of_step s b out_s.effects)
       session_call short low lives sends = phase_own s k live.pod was turn (S_of live.rows) (S_of rows_s) (K_of live.rows) (K_of rows_s) (got_in steps) (said_in steps) its.body its.answer names same_row
           (λ lives_s. row_settled s setting.bodies (proc_of next_s.0) out_s.effects (after_poll s (server.serving next_s.1) live.rows) (record { tid = s; body = server.serving next_s.1; answer = its.answer })
           (row_polled_own s (server.serving next_s.1) live.rows (record { tid = s; body = server.serving its.body; answer = its.answer }) its.row) (alive_then live.pod.state out_s.after out_s.effects (call_moved live.pod was next_s.0) s lives_s))
@@ -343,7 +343,7 @@ module _ {B : Type 0} (setting : Setting B) (server : LineServer setting.next) (
 
       row_stood : (t : ℕ) → choice live.pod.state ≡ Some t → (o : Option (Row B)) → row_of t live.rows ≡ o → Behind None (move_row setting.next setting.bodies live t o).live (move_row setting.next setting.bodies live t o).effects
       row_stood t turn None found = λ lives sends. stood_idle live steps stood
-      row_stood t turn (Some row) found = called_stood t turn row found (polled_as t live.names) (eqb t s) (eqb t k) refl refl
+      row_stood t turn (Some row) found = called_stood t turn row found (names_for_poll t live.names) (eqb t s) (eqb t k) refl refl
 
       pub call_stood : Behind None (move setting.next setting.bodies live).live (move setting.next setting.bodies live).effects
       unfolding move
@@ -365,7 +365,7 @@ module _ {B : Type 0} (setting : Setting B) (server : LineServer setting.next) (
       moved_t : Moved live.pod.state out_t.after out_t.effects
       moved_t = take_moved live.pod was took.event took.line.text may
 
-      take_phase : is_thread out_t.after k ≡ true → Phase s k out_t.after (S_of rows_t) (K_of rows_t) (λ b. got_in steps b ++ texts_in b (Some took.line.text) out_t.effects) (λ b. said_in steps b ++ replied_in s b out_t.effects)
+      take_phase : is_thread out_t.after k ≡ true → Phase s k out_t.after (S_of rows_t) (K_of rows_t) (λ b. got_in steps b ++ texts_in b (Some took.line.text) out_t.effects) (λ b. said_in steps b ++ replies_of_step s b out_t.effects)
       take_phase lives = phase_other s k live.pod.state was (S_of live.rows) (S_of rows_t) (K_of live.rows) (K_of rows_t) (got_in steps) (said_in steps) (λ b. texts_in b (Some took.line.text) out_t.effects) out_t (λ n. take_fades n live.pod took.event took.line.text)
           (λ b. (others_reply_nothing s b live.pod).1 took.event took.line.text) (λ b z. b)
           (λ lives_s b z row. row_settled s setting.bodies None out_t.effects live.rows (record { tid = s; body = server.serving b; answer = z }) row (alive_then live.pod.state out_t.after out_t.effects moved_t s lives_s))
@@ -394,7 +394,7 @@ module _ {B : Type 0} (setting : Setting B) where
   row_lawful : (live : Live B) (t : ℕ) (o : Option (Row B)) → Lawful live.pod.state None → Lawful (move_row setting.next setting.bodies live t o).live.pod.state None
   unfolding call_move
   row_lawful live t None was = was
-  row_lawful live t (Some row) was = (call_moved live.pod was (setting.next row.body (polled_as t live.names) row.answer).0).lawful
+  row_lawful live t (Some row) was = (call_moved live.pod was (setting.next row.body (names_for_poll t live.names) row.answer).0).lawful
 
   call_lawful : (live : Live B) → Lawful live.pod.state None → Lawful (move setting.next setting.bodies live).live.pod.state None
   unfolding move
@@ -413,7 +413,7 @@ module _ {B : Type 0} (setting : Setting B) where
     row_fades : (live : Live B) (t : ℕ) (o : Option (Row B)) → Fades n live.pod.state (move_row setting.next setting.bodies live t o).live.pod.state
     unfolding call_move
     row_fades live t None = fades_still n live.pod.state
-    row_fades live t (Some row) = event_fades n live.pod (setting.next row.body (polled_as t live.names) row.answer).0
+    row_fades live t (Some row) = event_fades n live.pod (setting.next row.body (names_for_poll t live.names) row.answer).0
 
     call_fades : (live : Live B) → Fades n live.pod.state (move setting.next setting.bodies live).live.pod.state
     unfolding move
@@ -464,13 +464,13 @@ module _ {B : Type 0} (setting : Setting B) (server : LineServer setting.next) (
   sends_before before after grows all = (and_parts (all_sends_to s k (steps_of before)) (all_sends_to s k (steps_of grows.rest))
       (sym (list_all-append (λ (step : Step). list_all (sends_only s k) step.effects) (steps_of before) (steps_of grows.rest)) ∙ ap (all_sends_to s k) (sym (map-append step_of before grows.rest)) ∙ ap (λ xs. all_sends_to s k (steps_of xs)) (sym grows.is) ∙ all)).0
 
-  pub short_before : (a : ℕ) (before after : List Made) → Grows setting before after → list_all is_short (delivered_to a (steps_of after)) ≡ true → list_all is_short (delivered_to a (steps_of before)) ≡ true
-  short_before a before after grows all = (and_parts (list_all is_short (delivered_to a (steps_of before))) (list_all is_short (delivered_to a (steps_of grows.rest)))
-      (sym (list_all-append is_short (delivered_to a (steps_of before)) (delivered_to a (steps_of grows.rest)))
-      ∙ ap (list_all is_short) (sym (flat_map-append (λ (step : Step). flat_map (text_to a step.text) step.effects) (steps_of before) (steps_of grows.rest)) ∙ ap (delivered_to a) (sym (map-append step_of before grows.rest)) ∙ ap (λ xs. delivered_to a (steps_of xs)) (sym grows.is)) ∙ all)).0
+  pub short_before : (a : ℕ) (before after : List Made) → Grows setting before after → list_all is_short (texts_delivered a (steps_of after)) ≡ true → list_all is_short (texts_delivered a (steps_of before)) ≡ true
+  short_before a before after grows all = (and_parts (list_all is_short (texts_delivered a (steps_of before))) (list_all is_short (texts_delivered a (steps_of grows.rest)))
+      (sym (list_all-append is_short (texts_delivered a (steps_of before)) (texts_delivered a (steps_of grows.rest)))
+      ∙ ap (list_all is_short) (sym (flat_map-append (λ (step : Step). flat_map (text_to a step.text) step.effects) (steps_of before) (steps_of grows.rest)) ∙ ap (texts_delivered a) (sym (map-append step_of before grows.rest)) ∙ ap (λ xs. texts_delivered a (steps_of xs)) (sym grows.is)) ∙ all)).0
 
   pub gone_stood : (moves : List (Option Took)) (session : Session B) → Lawful session.live.pod.state None → CanGoOn setting moves session → Stood setting server s k s_k session → is_thread session.live.pod.state k ≡ true
-      → is_thread (after_moves setting moves session).live.pod.state k ≡ true → all_sends_to s k (steps_of (after_moves setting moves session).steps) ≡ true → ((a : ℕ) → list_all is_short (delivered_to a (steps_of (after_moves setting moves session).steps)) ≡ true) → (after_moves setting moves session).live.pod.state.births < null_id
+      → is_thread (after_moves setting moves session).live.pod.state k ≡ true → all_sends_to s k (steps_of (after_moves setting moves session).steps) ≡ true → ((a : ℕ) → list_all is_short (texts_delivered a (steps_of (after_moves setting moves session).steps)) ≡ true) → (after_moves setting moves session).live.pod.state.births < null_id
       → Stood setting server s k s_k (after_moves setting moves session)
   gone_stood [] session was can stood lives in_end sends short few = stood
   gone_stood (m ∷ ms) session was can stood lives in_end sends short few =

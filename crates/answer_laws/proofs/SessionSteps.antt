@@ -7,14 +7,14 @@ use Rattle.answer_laws.proofs.AgentTexts.{At, at_of}
 use Rattle.answer_laws.proofs.TalkSteps.{apart_of, attends_seen, attentive, awaits, either_of, heard_one, neither, talked_append, unborn_absent, unheard, unsome}
 use Rattle.answer_laws.proofs.TalkTexts.{becomes_as, line_is, unborn_silent}
 use Rattle.answer_laws.specs.Agents.{agent_sight}
-use Rattle.answer_laws.specs.Clients.{names_only, replied_in, reply_to, sends_nothing, sends_well}
+use Rattle.answer_laws.specs.Clients.{names_only, replies_of_step, reply_to, sends_nothing, sends_well}
 use Rattle.answer_laws.specs.Lengths.{is_short}
-use Rattle.answer_laws.specs.Owners.{Sends, letter_sent, sending}
+use Rattle.answer_laws.specs.Owners.{Sends, new_letter, sending}
 use Rattle.answer_laws.specs.Sights.{IsLeft, IsSent, IsWoken, Sight, Spares, answers_to, going_on, sight}
 use Rattle.answer_laws.specs.Stands.{AgentIs, AgentIs.Gone, AgentIs.Made, AgentIs.Unmade, AgentLetters, AgentLetters.Idle, AgentLetters.Owed, AgentLetters.Waiting, Becomes, IsHeard, OpensInVain, SessionsCallsAreEvents, Stands, block_of, goes_on_with, is_posted, is_reading, is_short_reply, knows, line_letter, mail_letters, owes}
-use Rattle.answer_laws.specs.Talks.{Event, Event.Line, Event.OwnLetter, Event.SessionTurn, Mail, Mail.Nothing, Mail.Received, Mail.Sent, Stand, Stand.AwaitsLetter, Stand.AwaitsReply, Stand.Hears, Stand.IsOver, Talk, after_events, agent_told, deed_of, session_calls, session_turn}
+use Rattle.answer_laws.specs.Talks.{Event, Event.Line, Event.OwnLetter, Event.SessionTurn, Mail, Mail.Nothing, Mail.Received, Mail.Sent, Stand, Stand.AwaitsLetter, Stand.AwaitsReply, Stand.Hears, Stand.IsOver, Talk, after_events, after_agent_reply, deed_of, session_calls, session_turn}
 use Rattle.line_server.specs.Commands.{Command, command_of}
-use Rattle.line_server.specs.Sessions.{SessionBody, session_at, session_by, session_next, session_opened, session_received, session_receives, session_replies, session_returns, session_sends, session_told}
+use Rattle.line_server.specs.Sessions.{SessionBody, session_at, session_by, session_next, session_turn_after_agent, session_turn_after_letter, session_receives, session_replies, session_returns, session_sends, session_turn_after_reply}
 use Rattle.line_server.specs.Tables.{is_quit}
 use Rattle.line_server.specs.Turns.{Turn, is_replied, stops}
 use Rattle.line_server.specs.declared.session.SessionPlace.{SessionPlace}
@@ -39,7 +39,7 @@ use Rattle.pod_laws.proofs.Elements.{differ, find_push_new}
 use Rattle.pod_laws.proofs.Holding.{no_thread}
 use Rattle.pod_laws.proofs.Fading.{step_fades}
 use Rattle.pod_laws.proofs.TimerMoves.{no_timer_comes_unasked}
-use Rattle.pod_laws.specs.Timers.{timers_asked}
+use Rattle.pod_laws.specs.Timers.{timers_of_call}
 use Rattle.pod_laws.specs.Waiters.{is_told, is_zero}
 use Rattle.std.proofs.Common.{Bool, List, None, Option, Some, [], ap, append-nil, arith, cond, count_by, eqb, false, inl, inr, length, refl, subst, sym, true, ℕ, ◌&&◌, ◌++◌, ◌<◌, ◌||◌, ◌∙◌, ◌∷◌, ◌≡◌, ◌≢◌, ◌≤◌, ◌⊎◌}
 use Rattle.std.proofs.lemmas.Bool.{eq-eqb, eqb-true, leb-true, ne_eqb}
@@ -99,7 +99,7 @@ module _ (a : ℕ) (body : SessionBody) (names : Names) where
   does_returns true = DoesStop refl
   does_returns false = DoesStop refl
 
-  does_opened : (x : Answer) → knows a body.agent at.Agent (Hears x) ≡ true → SessionDoes a false (session_opened body x)
+  does_opened : (x : Answer) → knows a body.agent at.Agent (Hears x) ≡ true → SessionDoes a false (session_turn_after_agent body x)
   does_opened (answer.Thread b) k = DoesReceive (record body { agent = b }) refl (λ i. (call.Recv (Some (eqb-true b a k i)) mode.Block, session_at (record body { agent = b }) at.Recv)) (eqb-true b a k)
   does_opened (answer.Refused e) k = DoesStop refl
   does_opened (answer.Letter from text room) k = DoesStop refl
@@ -111,7 +111,7 @@ module _ (a : ℕ) (body : SessionBody) (names : Names) where
   does_opened (answer.Caught d m p) k = DoesStop refl
   does_opened (answer.Ids n ns) k = DoesStop refl
 
-  does_received : (x : Answer) → eqb body.agent a ≡ true → SessionDoes a (owes at.Recv (Hears x)) (session_received body names x)
+  does_received : (x : Answer) → eqb body.agent a ≡ true → SessionDoes a (owes at.Recv (Hears x)) (session_turn_after_letter body names x)
   does_received (answer.Letter from text room) k = does_reads text (is_quit text) k
   does_received (answer.Refused e) k = DoesStop refl
   does_received (answer.Thread b) k = DoesStop refl
@@ -123,7 +123,7 @@ module _ (a : ℕ) (body : SessionBody) (names : Names) where
   does_received (answer.Caught d m p) k = DoesStop refl
   does_received (answer.Ids n ns) k = DoesStop refl
 
-  does_told : (x : Answer) → eqb body.agent a ≡ true → SessionDoes a true (session_told body x)
+  does_told : (x : Answer) → eqb body.agent a ≡ true → SessionDoes a true (session_turn_after_reply body x)
   does_told (answer.Reply text) k = does_reply true refl text k
   does_told (answer.Refused e) k = does_reply true refl (codes "down") k
   does_told (answer.Letter from text room) k = DoesStop refl
@@ -187,8 +187,8 @@ module _ (s k a : ℕ) (st : State) (was : Lawful st None) (talk : Talk) (waitin
   unfolding step step_by
   step_is c = ap (step_if st c) turn
 
-  untimed_after : (c : Call) → (u : ℕ) → timers_asked st (Some s) c ≡ [] → timers_of st.timers u ≡ 0 → timers_of (step st c).after.timers u ≡ 0
-  untimed_after c u asks none = omega (arith, none, (no_timer_comes_unasked st (is_timer_of u)).called c, count-append (is_timer_of u) st.timers (timers_asked st (choice st) c), ap (λ o. count_by (is_timer_of u) (timers_asked st o c)) turn, ap (count_by (is_timer_of u)) asks)
+  untimed_after : (c : Call) → (u : ℕ) → timers_of_call st (Some s) c ≡ [] → timers_of st.timers u ≡ 0 → timers_of (step st c).after.timers u ≡ 0
+  untimed_after c u asks none = omega (arith, none, (no_timer_comes_unasked st (is_timer_of u)).called c, count-append (is_timer_of u) st.timers (timers_of_call st (choice st) c), ap (λ o. count_by (is_timer_of u) (timers_of_call st o c)) turn, ap (count_by (is_timer_of u)) asks)
 
   -- the store is left, unless it is written to
   k_left : (c : Call) → Spares st k c → ((room : ℕ) (text : List ℕ) → c ≡ call.Send k room text → ⊥) → eqb s k ≡ false → IsLeft k st (step st c)
@@ -204,25 +204,25 @@ module _ (s k a : ℕ) (st : State) (was : Lawful st None) (talk : Talk) (waitin
 
   -- ---- its replies
 
-  replied_by : (c : Call) → replied_in s a (step st c).effects ≡ cond (eqb s s && list_any (is_told s is_zero) (step st c).effects) (reply_to a c) []
-  replied_by c = ap (λ out. replied_in s a out.effects) (step_is c) ∙ sym (ap (λ out. cond (eqb s s && list_any (is_told s is_zero) out.effects) (reply_to a c) []) (step_is c))
+  replied_by : (c : Call) → replies_of_step s a (step st c).effects ≡ cond (eqb s s && list_any (is_told s is_zero) (step st c).effects) (reply_to a c) []
+  replied_by c = ap (λ out. replies_of_step s a out.effects) (step_is c) ∙ sym (ap (λ out. cond (eqb s s && list_any (is_told s is_zero) out.effects) (reply_to a c) []) (step_is c))
 
-  replied_none : (c : Call) → reply_to a c ≡ [] → replied_in s a (step st c).effects ≡ []
+  replied_none : (c : Call) → reply_to a c ≡ [] → replies_of_step s a (step st c).effects ≡ []
   replied_none c none = replied_by c ∙ ap (λ xs. cond (eqb s s && list_any (is_told s is_zero) (step st c).effects) xs []) none ∙ by_test (eqb s s && list_any (is_told s is_zero) (step st c).effects)
     where
       by_test : (b : Bool) → cond {A = List (List ℕ)} b [] [] ≡ []
       by_test true = refl
       by_test false = refl
 
-  replied_one : (text : List ℕ) (b : Bool) → list_any is_zero (answers_to s (step st (call.Reply a text)).effects) ≡ b → replied_in s a (step st (call.Reply a text)).effects ≡ cond b (text ∷ []) []
+  replied_one : (text : List ℕ) (b : Bool) → list_any is_zero (answers_to s (step st (call.Reply a text)).effects) ≡ b → replies_of_step s a (step st (call.Reply a text)).effects ≡ cond b (text ∷ []) []
   replied_one text b zero = replied_by (call.Reply a text) ∙ rw (eq-eqb s s refl, told_any s (step st (call.Reply a text)).effects, zero, eq-eqb a a refl) refl
 
   -- ---- the whole
 
   goes : (c : Call) (body : SessionBody) (later : Talk) (events : List Event) → after_events s a talk events ≡ later → later.session ≡ body → later.store ≡ talk.store → (waits : List (List ℕ)) → Stands s k a (step st c).after later waits
-      → later.lines ++ waits ≡ (talk.lines ++ waiting) ++ [] → later.told ≡ talk.told ++ replied_in s a (step st c).effects → IsHeard talk.client later.client (answers_to s (step st c).effects) → (eqb s k ≡ false → IsHeard talk.keeper later.keeper (answers_to k (step st c).effects))
-      → SessionGoesOn s k a talk waiting (replied_in s a (step st c).effects) body (step st c)
-  goes c body later events now its its_store waits stands texts said heard heard_keeper = becomes_as s k a talk body talk.store waiting [] (replied_in s a (step st c).effects) (step st c) events later now its its_store waits stands texts said heard heard_keeper
+      → later.lines ++ waits ≡ (talk.lines ++ waiting) ++ [] → later.told ≡ talk.told ++ replies_of_step s a (step st c).effects → IsHeard talk.client later.client (answers_to s (step st c).effects) → (eqb s k ≡ false → IsHeard talk.keeper later.keeper (answers_to k (step st c).effects))
+      → SessionGoesOn s k a talk waiting (replies_of_step s a (step st c).effects) body (step st c)
+  goes c body later events now its its_store waits stands texts said heard heard_keeper = becomes_as s k a talk body talk.store waiting [] (replies_of_step s a (step st c).effects) (step st c) events later now its its_store waits stands texts said heard heard_keeper
 
   gone_after : (c : Call) → is_id st a ≡ false → a < st.births → is_id (step st c).after a ≡ false
   gone_after c off below = let parts = either_of (is_thread st a) (is_agent st a) off in neither (is_thread (step st c).after a) (is_agent (step st c).after a) ((step_fades a st c).threads below parts.0) ((step_fades a st c).agents below parts.1)
@@ -244,12 +244,12 @@ module _ (s k a : ℕ) (st : State) (was : Lawful st None) (talk : Talk) (waitin
       recv = call.Recv (Some a) mode.Block
 
       abbrev Goal : Type 0
-      Goal = SessionGoesOn s k a talk waiting (replied_in s a (step st recv).effects) (session_at body at.Recv) (step st recv)
+      Goal = SessionGoesOn s k a talk waiting (replies_of_step s a (step st recv).effects) (session_at body at.Recv) (step st recv)
 
       left : eqb s k ≡ false → IsLeft k st (step st recv)
       left = k_left recv tt (λ room text e. absurd (cc))
 
-      said_none : talk.told ≡ talk.told ++ replied_in s a (step st recv).effects
+      said_none : talk.told ≡ talk.told ++ replies_of_step s a (step st recv).effects
       said_none = sym (append-nil talk.told) ∙ ap (λ xs. talk.told ++ xs) (sym (replied_none recv refl))
 
       known_so : eqb body.agent a ≡ true
@@ -313,12 +313,12 @@ module _ (s k a : ℕ) (st : State) (was : Lawful st None) (talk : Talk) (waitin
 
     -- ---- it replies
 
-    module _ (body : SessionBody) (text : List ℕ) (later_so : (y : Answer) → Then a false body (Hears y)) (owed : owes talk.session.place (Hears x) ≡ true) (short : talk.agent_lives ≡ true → is_short text ≡ true) (now : after_events s a talk (SessionTurn names ∷ []) ≡ agent_told (record talk { session = body }) text) where
+    module _ (body : SessionBody) (text : List ℕ) (later_so : (y : Answer) → Then a false body (Hears y)) (owed : owes talk.session.place (Hears x) ≡ true) (short : talk.agent_lives ≡ true → is_short text ≡ true) (now : after_events s a talk (SessionTurn names ∷ []) ≡ after_agent_reply (record talk { session = body }) text) where
       abbrev reply : Call
       reply = call.Reply a text
 
       abbrev GoalReply : Type 0
-      GoalReply = SessionGoesOn s k a talk waiting (replied_in s a (step st reply).effects) body (step st reply)
+      GoalReply = SessionGoesOn s k a talk waiting (replies_of_step s a (step st reply).effects) body (step st reply)
 
       left_reply : eqb s k ≡ false → IsLeft k st (step st reply)
       left_reply = k_left reply tt (λ room text e. absurd (cc))
@@ -372,7 +372,7 @@ module _ (s k a : ℕ) (st : State) (was : Lawful st None) (talk : Talk) (waitin
       send = call.Send k 240 text
 
       abbrev GoalSend : Type 0
-      GoalSend = SessionGoesOn s k a talk waiting (replied_in s a (step st send).effects) (session_at body at.Send) (step st send)
+      GoalSend = SessionGoesOn s k a talk waiting (replies_of_step s a (step st send).effects) (session_at body at.Send) (step st send)
 
       sends : Sends st s k 240 text (step st send)
       sends = sends_are_letters st was s k turn (ap is_some (k_row s_k).known) (ne_eqb k s (λ e. apart_of s k s_k (sym e))) 240 text
@@ -380,9 +380,9 @@ module _ (s k a : ℕ) (st : State) (was : Lawful st None) (talk : Talk) (waitin
       agent_kept : s ≢ a → agent_sight (step st send).after a ≡ agent_sight st a
       agent_kept other = ap (λ out. agent_sight out.after a) (step_is send) ∙ by_checks (checked st _ _)
         where
-          by_checks : Checked st (is_no_thread st k ∷ is_itself s k ∷ []) (silent_case (post (letter_sent s k 240 text) (after_block st s block.Sending))) → agent_sight (step_outcome s send (case_of st s send)).after a ≡ agent_sight st a
+          by_checks : Checked st (is_no_thread st k ∷ is_itself s k ∷ []) (silent_case (post (new_letter s k 240 text) (after_block st s block.Sending))) → agent_sight (step_outcome s send (case_of st s send)).after a ≡ agent_sight st a
           by_checks (Struck e is) = ap (λ made. agent_sight (step_outcome s send made).after a) is
-          by_checks (Free passed is) = ap (λ made. agent_sight (step_outcome s send made).after a) is ∙ kept_post a (after_block st s block.Sending) (letter_sent s k 240 text) other
+          by_checks (Free passed is) = ap (λ made. agent_sight (step_outcome s send made).after a) is ∙ kept_post a (after_block st s block.Sending) (new_letter s k 240 text) other
 
       known_send : eqb body.agent a ≡ true
       known_send = eq-eqb body.agent a its
@@ -401,7 +401,7 @@ module _ (s k a : ℕ) (st : State) (was : Lawful st None) (talk : Talk) (waitin
           owed_on kept (Owed line o none letters) = Owed line refl none (kept ∙ letters)
       agent_send later same lives2 (Gone off below lives known2) = Gone (gone_after send off below) (below_after send below) (lives2 ∙ lives) (ap (λ (b : SessionBody). knows a b.agent b.place later.client) same ∙ known_send)
 
-      said_send : talk.told ≡ talk.told ++ replied_in s a (step st send).effects
+      said_send : talk.told ≡ talk.told ++ replies_of_step s a (step st send).effects
       said_send = sym (append-nil talk.told) ∙ ap (λ xs. talk.told ++ xs) (sym (replied_none send refl))
 
       k_takes : (c : Stand) → talk.keeper ≡ c → passes (λ (row : ThreadRow). takes_from s row.block) (thread_of st k) ≡ takes_from s (block_of None c)
@@ -414,7 +414,7 @@ module _ (s k a : ℕ) (st : State) (was : Lawful st None) (talk : Talk) (waitin
           let r = sends.kept (k_takes (Hears y) e) in
           goes send (session_at body at.Send) (record talk { session = session_at body at.Send; mail = Sent text; client = AwaitsReply }) (SessionTurn names ∷ []) now refl refl waiting
           (record {
-            client = r.sender_then ∙ ap (λ (v : Sight). sending v (letter_sent s k 240 text)) s_seen ∙ ap (λ m. record { waits = Some block.Sending; marks = mark.Frame ∷ []; letters = mail_letters s k m ++ letter_sent s k 240 text ∷ [] }) mail;
+            client = r.sender_then ∙ ap (λ (v : Sight). sending v (new_letter s k 240 text)) s_seen ∙ ap (λ m. record { waits = Some block.Sending; marks = mark.Frame ∷ []; letters = mail_letters s k m ++ new_letter s k 240 text ∷ [] }) mail;
             keeper = λ apart. r.receiver_then ∙ h.keeper apart;
             posted = refl;
             placed = refl;
@@ -430,7 +430,7 @@ module _ (s k a : ℕ) (st : State) (was : Lawful st None) (talk : Talk) (waitin
           goes send (session_at body at.Send) (record talk { session = session_at body at.Send; mail = Received text; client = AwaitsReply; keeper = Hears (answer.Letter s text 240) }) (SessionTurn names ∷ OwnLetter ∷ [])
           (talked_append s a talk (SessionTurn names ∷ []) (OwnLetter ∷ []) ∙ ap (λ t. after_events s a t (OwnLetter ∷ [])) now ∙ own_is s a text (record talk { session = session_at body at.Send; mail = Sent text; client = AwaitsReply }) e refl) refl refl waiting
           (record {
-            client = r.sender_then ∙ ap (λ (v : Sight). sending v (as_received (letter_sent s k 240 text))) s_seen ∙ ap (λ m. record { waits = Some block.Sending; marks = mark.Frame ∷ []; letters = mail_letters s k m ++ as_received (letter_sent s k 240 text) ∷ [] }) mail;
+            client = r.sender_then ∙ ap (λ (v : Sight). sending v (as_received (new_letter s k 240 text))) s_seen ∙ ap (λ m. record { waits = Some block.Sending; marks = mark.Frame ∷ []; letters = mail_letters s k m ++ as_received (new_letter s k 240 text) ∷ [] }) mail;
             keeper = λ apart. r.receiver_then ∙ ap going_on (h.keeper apart);
             posted = refl;
             placed = refl;
@@ -446,7 +446,7 @@ module _ (s k a : ℕ) (st : State) (was : Lawful st None) (talk : Talk) (waitin
 
     abbrev Goes : Turn SessionBody → Type 0
     Goes does = (after_events s a talk (SessionTurn names ∷ []) ≡ session_calls a (record talk { session = does.1 }) (deed_of does.0)) → goes_on_with does.0 ≡ true → (talk.agent_lives ≡ true → is_short_reply does.0 ≡ true) → sends_well s k does.0 ≡ true
-        → SessionGoesOn s k a talk waiting (replied_in s a (step st does.0).effects) does.1 (step st does.0)
+        → SessionGoesOn s k a talk waiting (replies_of_step s a (step st does.0).effects) does.1 (step st does.0)
 
     -- who sends has a store, and sends to that
     sends_there : (to : ℕ) (text : List ℕ) (b : Bool) → eqb s k ≡ b → cond b (sends_nothing (call.Send to 240 text)) (names_only k (call.Send to 240 text)) ≡ true → (eqb s k ≡ false) × (eqb to k ≡ true)
@@ -480,10 +480,10 @@ module _ (s k a : ℕ) (st : State) (was : Lawful st None) (talk : Talk) (waitin
     left_ask : eqb s k ≡ false → IsLeft k st (step st ask)
     left_ask = k_left ask tt (λ room text e. absurd (cc))
 
-    opens : SessionGoesOn s k a talk waiting (replied_in s a (step st ask).effects) (session_at talk.session at.Agent) (step st ask) ⊎ OpensInVain s talk (step st ask)
+    opens : SessionGoesOn s k a talk waiting (replies_of_step s a (step st ask).effects) (session_at talk.session at.Agent) (step st ask) ⊎ OpensInVain s talk (step st ask)
     opens = by_checks (checked st _ _)
       where
-        by_checks : Checked st (((eqb e 0) || nat_lt 32 e, error.InvalidArg) ∷ is_full 256 st.agents ∷ is_at_limit st.births st ∷ []) (answer_case (after_agent_birth st s e) (answer.Thread st.births)) → SessionGoesOn s k a talk waiting (replied_in s a (step st ask).effects) (session_at talk.session at.Agent) (step st ask) ⊎ OpensInVain s talk (step st ask)
+        by_checks : Checked st (((eqb e 0) || nat_lt 32 e, error.InvalidArg) ∷ is_full 256 st.agents ∷ is_at_limit st.births st ∷ []) (answer_case (after_agent_birth st s e) (answer.Thread st.births)) → SessionGoesOn s k a talk waiting (replies_of_step s a (step st ask).effects) (session_at talk.session at.Agent) (step st ask) ⊎ OpensInVain s talk (step st ask)
         by_checks (Struck why is) = inr (record {
           client = ap (λ out. sight out.after s) (step_is ask ∙ ap (step_outcome s ask) is) ∙ s_seen ∙ ap (λ m. record { waits = Some block.Not; marks = mark.Frame ∷ []; letters = mail_letters s k m }) mail;
           untimed = untimed_after ask s refl h.untimed;
@@ -513,7 +513,7 @@ module _ (s k a : ℕ) (st : State) (was : Lawful st None) (talk : Talk) (waitin
             (heard_one talk.client (answer.Thread a) (answers_to s (step st ask).effects) (told_so ∙ ap (λ n. answer.Thread n ∷ []) born)) (λ s_k. unheard talk.keeper (answers_to k (step st ask).effects) (left_ask s_k).quiet))
 
 abbrev Coming : (s k a : ℕ) → State → Talk → List (List ℕ) → Turn SessionBody → Type 0
-Coming s k a st talk waiting does = SessionGoesOn s k a talk waiting (replied_in s a (step st does.0).effects) does.1 (step st does.0) ⊎ OpensInVain s talk (step st does.0)
+Coming s k a st talk waiting does = SessionGoesOn s k a talk waiting (replies_of_step s a (step st does.0).effects) does.1 (step st does.0) ⊎ OpensInVain s talk (step st does.0)
 
 abbrev Opening : (s k a : ℕ) → State → Talk → List (List ℕ) → Names → Turn SessionBody → Type 0
 Opening s k a st talk waiting names does = (after_events s a talk (SessionTurn names ∷ []) ≡ session_calls a (record talk { session = does.1 }) (deed_of does.0)) → ((b : ℕ) → answers_to s (step st does.0).effects ≡ answer.Thread b ∷ [] → b ≡ a) → Coming s k a st talk waiting does

@@ -1,8 +1,8 @@
 -- Single changes, as another thread sees them.
-use Rattle.answer_laws.specs.Sights.{IsLeft, IsWoken, answer_for, answers_to, going_on, is_attentive, Hears, sight, sight_by, written_to}
+use Rattle.answer_laws.specs.Sights.{IsLeft, IsWoken, answer_for, answers_to, going_on, is_attentive, Hears, sight, sight_by, open_letters}
 use Rattle.lwp_types.specs.CountLaws.{count-filter, count_agree, count_found_by}
-use Rattle.lwp_types.specs.Messages.{is_letter_of, is_to, marked_received, received_from, reception_set, senders_to, without_letter}
-use Rattle.lwp_types.specs.State.{Outcome, State, ThreadRow, and_then, block_set, is_number, still, thread_of, with_block}
+use Rattle.lwp_types.specs.Messages.{is_letter_of, is_to, with_reception, received_letter, letter_with_reception, senders_to, without_letter}
+use Rattle.lwp_types.specs.State.{Outcome, State, ThreadRow, and_then, row_with_block, is_number, still, thread_of, with_block}
 use Rattle.lwp_types.specs.declared.call.Answer.{Answer}
 use Rattle.lwp_types.specs.declared.call.Effect.{Effect}
 use Rattle.lwp_types.specs.declared.rows.Block.{Block}
@@ -83,7 +83,7 @@ module _ (u : ℕ) (Fits : Option ℕ → Answer → Type 0) where
 
   -- none of its letters is for v
   abbrev pub Away : ℕ → State → Type 0
-  Away v s = written_to s u v ≡ 0
+  Away v s = open_letters s u v ≡ 0
 
   pub turn_still : (s : State) → Turn s (still s)
   turn_still s = Left (record { same = refl; quiet = refl })
@@ -138,14 +138,14 @@ module _ (u : ℕ) (Fits : Option ℕ → Answer → Type 0) where
   rowed g keeps s row known same = find_rowed g keeps s.threads u ∙ ap (option_map g) known ∙ ap Some same
 
   -- a block that is put for another
-  pub block_other : (v : ℕ) (b : Block) (row : ThreadRow) → row.number ≡ u → v ≢ u → block_set v b row ≡ row
+  pub block_other : (v : ℕ) (b : Block) (row : ThreadRow) → row.number ≡ u → v ≢ u → row_with_block v b row ≡ row
   block_other v b row is other = rw (ne_eqb row.number v (λ e. other (sym e ∙ is))) refl
 
   pub sight_same : (s after : State) → (row : ThreadRow) → thread_of s u ≡ Some row → thread_of after u ≡ Some row → filter (is_letter_of u) after.letters ≡ filter (is_letter_of u) s.letters → sight after u ≡ sight s u
   sight_same s after row known now letters = λ i. sight_by ((now ∙ sym known) i) (letters i)
 
   pub blocked_other : (s : State) → Attends s → (v : ℕ) (b : Block) → v ≢ u → find (is_number u) (with_block v b s.threads) ≡ find (is_number u) s.threads
-  blocked_other s was v b other = rowed (block_set v b) (λ row. refl) s was.row was.known (block_other v b was.row (number_known s.threads u was.row was.known) other) ∙ sym was.known
+  blocked_other s was v b other = rowed (row_with_block v b) (λ row. refl) s was.row was.known (block_other v b was.row (number_known s.threads u was.row was.known) other) ∙ sym was.known
 
   -- another goes on
   pub left_wake : (s : State) → Attends s → (out : Outcome) (a : Answer) (v : ℕ) → v ≢ u → out.after.threads ≡ with_block v block.Not s.threads → filter (is_letter_of u) out.after.letters ≡ filter (is_letter_of u) s.letters → out.effects ≡ effect.Answered v a ∷ [] → IsLeft u s out
@@ -173,8 +173,8 @@ module _ (u : ℕ) (Fits : Option ℕ → Answer → Type 0) where
     right = right;
   })
     where
-      now : find (is_number u) out.after.threads ≡ Some (block_set u block.Not was.row)
-      now = ap (find (is_number u)) threads ∙ find_rowed (block_set u block.Not) (λ row. refl) s.threads u ∙ ap (option_map (block_set u block.Not)) was.known
+      now : find (is_number u) out.after.threads ≡ Some (row_with_block u block.Not was.row)
+      now = ap (find (is_number u)) threads ∙ find_rowed (row_with_block u block.Not) (λ row. refl) s.threads u ∙ ap (option_map (row_with_block u block.Not)) was.known
 
       goes : (b : Bool) → b ≡ true → sight_by (Some (record was.row { block = cond b block.Not was.row.block })) (filter (is_letter_of u) s.letters) ≡ going_on (sight s u)
       goes true e = ap (λ o. going_on (sight_by o (filter (is_letter_of u) s.letters))) (sym was.known)
@@ -211,8 +211,8 @@ module _ (u : ℕ) (Fits : Option ℕ → Answer → Type 0) where
   pub without_own : (v : ℕ) → v ≢ u → (letters : List Letter) → filter (is_letter_of u) (without_letter v letters) ≡ filter (is_letter_of u) letters
   without_own v other letters = filter_part (is_letter_of u) (λ letter. not (is_letter_of v letter)) (λ letter e. not_both v other letter.from e) letters
 
-  pub received_own : (v : ℕ) → v ≢ u → (letters : List Letter) → filter (is_letter_of u) (marked_received v letters) ≡ filter (is_letter_of u) letters
-  received_own v other letters = filter_map_same (is_letter_of u) (reception_set v) (λ letter. refl) (λ letter e. off letter (is_letter_of v letter) (not_both v other letter.from e)) letters
+  pub received_own : (v : ℕ) → v ≢ u → (letters : List Letter) → filter (is_letter_of u) (with_reception v letters) ≡ filter (is_letter_of u) letters
+  received_own v other letters = filter_map_same (is_letter_of u) (letter_with_reception v) (λ letter. refl) (λ letter e. off letter (is_letter_of v letter) (not_both v other letter.from e)) letters
     where
       off : (letter : Letter) (b : Bool) → not b ≡ true → record letter { received = b || letter.received } ≡ letter
       off letter true e = absurd (cc)
@@ -239,10 +239,10 @@ module _ (u : ℕ) (Fits : Option ℕ → Answer → Type 0) where
       either false true = refl
       either false false = refl
 
-  pub replied_other : (v : ℕ) (s : State) → Away v s → (w : ℕ) → is_none (received_from s.letters v w) ≡ false → w ≢ u
-  replied_other v s away w some = by_found (received_from s.letters v w) refl some
+  pub replied_other : (v : ℕ) (s : State) → Away v s → (w : ℕ) → is_none (received_letter s.letters v w) ≡ false → w ≢ u
+  replied_other v s away w some = by_found (received_letter s.letters v w) refl some
     where
-      by_found : (o : Option Letter) → received_from s.letters v w ≡ o → is_none o ≡ false → w ≢ u
+      by_found : (o : Option Letter) → received_letter s.letters v w ≡ o → is_none o ≡ false → w ≢ u
       by_found None e h = absurd (cc)
       by_found (Some letter) e h = λ same. found_other v s away (λ letter. letter.received && is_letter_of w letter) letter e
           (eqb-true letter.from w (and_parts letter.received (is_letter_of w letter) (find_passes (λ letter. letter.received && is_letter_of w letter) (filter (is_to v) s.letters) letter e)).1 ∙ same)

@@ -11,8 +11,8 @@ use Rattle.answer_laws.specs.Lengths.{is_short}
 use Rattle.answer_laws.specs.Replies.{Asks, IsReplied, takes_other}
 use Rattle.answer_laws.specs.Sights.{IsLeft, Sight, answers_to, attends, going_on, sight, sight_by}
 use Rattle.answer_laws.specs.Stands.{AgentIs, AgentIs.Gone, AgentIs.Made, AgentIs.Unmade, AgentLetters, Becomes, IsHeard, Stands, StoresCallsAreEvents, block_of, goes_on_with, is_placed, is_posted, is_reading, is_short_to, knows, line_letter, mail_letters, owes}
-use Rattle.answer_laws.specs.Talks.{Deed.Replies, Event, Event.OtherLetter, Event.OwnLetter, Event.StoreTurn, Mail, Mail.Nothing, Mail.Received, Mail.Sent, Stand, Stand.AwaitsLetter, Stand.AwaitsReply, Stand.Hears, Stand.IsOver, Talk, after_events, deed_of, reply_answer, session_told, store_calls, store_turn}
-use Rattle.line_server.specs.Stores.{StoreBody, is_invalid, store_by, store_next, store_received, store_receives}
+use Rattle.answer_laws.specs.Talks.{Deed.Replies, Event, Event.OtherLetter, Event.OwnLetter, Event.StoreTurn, Mail, Mail.Nothing, Mail.Received, Mail.Sent, Stand, Stand.AwaitsLetter, Stand.AwaitsReply, Stand.Hears, Stand.IsOver, Talk, after_events, deed_of, reply_answer, after_session_reply, store_calls, store_turn}
+use Rattle.line_server.specs.Stores.{StoreBody, is_invalid, store_by, store_next, store_turn_after_letter, store_receives}
 use Rattle.line_server.specs.Turns.{Turn, is_replied, stops}
 use Rattle.line_server.specs.declared.session.SessionPlace.{SessionPlace}
 use Rattle.line_server.specs.declared.session.SessionPlace.TheVariants as at
@@ -24,7 +24,7 @@ use Rattle.lwp_types.specs.CountLaws.{count-append}
 use Rattle.lwp_types.specs.Counts.{timers_of}
 use Rattle.lwp_types.specs.FirstLaws.{find-filter}
 use Rattle.lwp_types.specs.Lawful.{Lawful}
-use Rattle.lwp_types.specs.Messages.{after_reply, as_answer, is_letter_of, is_open, is_to, marked_received, next_letter, receive_by, received_from, with_holding, without_letter}
+use Rattle.lwp_types.specs.Messages.{after_reply, as_answer, is_letter_of, is_open, is_to, with_reception, next_letter, receive_by, received_letter, with_holding, without_letter}
 use Rattle.lwp_types.specs.Names.{Names}
 use Rattle.lwp_types.specs.State.{Outcome, State, is_agent, is_id, is_thread, passes, still, thread_of}
 use Rattle.lwp_types.specs.Step.{case_of, step, step_by, step_if, step_outcome}
@@ -37,7 +37,7 @@ use Rattle.pod_laws.proofs.Checks.{Passed}
 use Rattle.pod_laws.proofs.Elements.{differ, find_passes}
 use Rattle.pod_laws.proofs.Fading.{step_fades}
 use Rattle.pod_laws.proofs.TimerMoves.{no_timer_comes_unasked}
-use Rattle.pod_laws.specs.Timers.{timers_asked}
+use Rattle.pod_laws.specs.Timers.{timers_of_call}
 use Rattle.std.proofs.Common.{Bool, List, None, Option, Some, [], ap, append-nil, arith, cond, count_by, eqb, false, length, not, refl, subst, sym, true, ℕ, ◌&&◌, ◌++◌, ◌||◌, ◌∙◌, ◌∷◌, ◌≡◌, ◌≢◌, ◌≤◌}
 use Rattle.std.proofs.lemmas.Bool.{and_parts, eq-eqb, eqb-true, leb-true, ne_eqb}
 use Rattle.std.specs.List.{filter, filter_map, find}
@@ -70,7 +70,7 @@ module _ (body : StoreBody) where
   does_replied true d = DoesReply _ _ _ refl
   does_replied false d = does_after d
 
-  does_received : (x : Answer) → StoreDoes (store_received body x)
+  does_received : (x : Answer) → StoreDoes (store_turn_after_letter body x)
   does_received (answer.Letter from text room) = DoesReply _ _ _ refl
   does_received (answer.Refused e) = DoesReceive _ refl
   does_received (answer.Value v) = DoesStop refl
@@ -224,7 +224,7 @@ module _ (k : ℕ) (st : State) (turn : choice st ≡ Some k) (k_seen : sight st
       ∙ ap (λ o. record (sight_by o (filter (is_letter_of k) st.letters)) { waits = Some (block.Receiving None) }) (sym k_row.known) ∙ ap (λ (v : Sight). record v { waits = Some (block.Receiving None) }) k_seen) refl
 
   pub keeps_letter : (l : Letter) → next_letter st.letters k None ≡ Some l → Keeps recv (Hears (as_answer l)) (as_answer l ∷ [])
-  keeps_letter l e = keeps_made recv (answer_case (record st { letters = marked_received l.from st.letters }) (as_answer l)) (Hears (as_answer l)) (as_answer l ∷ []) (received_by (Some l) e)
+  keeps_letter l e = keeps_made recv (answer_case (record st { letters = with_reception l.from st.letters }) (as_answer l)) (Hears (as_answer l)) (as_answer l ∷ []) (received_by (Some l) e)
       ((λ i. sight_by (thread_of st k) (received_own k Never l.from (found_other k Never k st off (is_open None) l e) st.letters i)) ∙ k_seen) refl
 
   module _ (v : ℕ) (text : List ℕ) where
@@ -273,11 +273,11 @@ module _ (s k a : ℕ) (st : State) (was : Lawful st None) (talk : Talk) (waitin
       Gone (neither (is_thread (step st c).after a) (is_agent (step st c).after a) ((step_fades a st c).threads below parts.0) ((step_fades a st c).agents below parts.1)) (omega (arith, below, (step_fades a st c).births)) lives known
 
   -- a call without a timer
-  untimed_after : (c : Call) → (u : ℕ) → timers_asked st (Some k) c ≡ [] → timers_of st.timers u ≡ 0 → timers_of (step st c).after.timers u ≡ 0
-  untimed_after c u asks none = omega (arith, none, (no_timer_comes_unasked st (is_timer_of u)).called c, count-append (is_timer_of u) st.timers (timers_asked st (choice st) c), ap (λ o. count_by (is_timer_of u) (timers_asked st o c)) turn, ap (count_by (is_timer_of u)) asks)
+  untimed_after : (c : Call) → (u : ℕ) → timers_of_call st (Some k) c ≡ [] → timers_of st.timers u ≡ 0 → timers_of (step st c).after.timers u ≡ 0
+  untimed_after c u asks none = omega (arith, none, (no_timer_comes_unasked st (is_timer_of u)).called c, count-append (is_timer_of u) st.timers (timers_of_call st (choice st) c), ap (λ o. count_by (is_timer_of u) (timers_of_call st o c)) turn, ap (count_by (is_timer_of u)) asks)
 
   -- the whole
-  goes : (c : Call) (body : StoreBody) (stand : Stand) (heard : List Answer) → spares_agent a s c ≡ true → timers_asked st (Some k) c ≡ [] → (talk.session.place ≡ at.Start → (step st c).after.births ≤ a) → Keeps k st turn k_seen c stand heard → is_reading stand ≡ true → IsHeard talk.keeper stand heard
+  goes : (c : Call) (body : StoreBody) (stand : Stand) (heard : List Answer) → spares_agent a s c ≡ true → timers_of_call st (Some k) c ≡ [] → (talk.session.place ≡ at.Start → (step st c).after.births ≤ a) → Keeps k st turn k_seen c stand heard → is_reading stand ≡ true → IsHeard talk.keeper stand heard
       → (client : Stand) (mail : Mail) → sight (step st c).after s ≡ record { waits = Some (block_of (Some a) client); marks = mark.Frame ∷ []; letters = mail_letters s k mail } → is_posted client mail ≡ true → is_placed client talk.session.place ≡ true
       → (AgentIs s a (step st c).after talk waiting → AgentIs s a (step st c).after (record talk { store = body; keeper = stand; client = client; mail = mail }) waiting) → IsHeard talk.client client (answers_to s (step st c).effects)
       → (events : List Event) → after_events s a talk events ≡ record talk { store = body; keeper = stand; client = client; mail = mail } → StoreGoesOn s k a talk waiting body (step st c)
@@ -363,20 +363,20 @@ module _ (s k a : ℕ) (st : State) (was : Lawful st None) (talk : Talk) (waitin
           now_other : (refusal : Option LwpErr) → after_events s a talk (StoreTurn refusal names ∷ []) ≡ record talk { store = body; keeper = Hears (reply_answer refusal) }
           now_other refusal = now refusal ∙ by_test (eqb v s) other
             where
-              by_test : (b : Bool) → b ≡ false → cond b (session_told (record talk { store = body }) text talk.mail) (record talk { store = body; keeper = Hears (reply_answer refusal) }) ≡ record talk { store = body; keeper = Hears (reply_answer refusal) }
+              by_test : (b : Bool) → b ≡ false → cond b (after_session_reply (record talk { store = body }) text talk.mail) (record talk { store = body; keeper = Hears (reply_answer refusal) }) ≡ record talk { store = body; keeper = Hears (reply_answer refusal) }
               by_test true e = absurd (cc)
               by_test false e = refl
 
-          by_checks : Checked st (is_no_id st v ∷ (is_none (received_from st.letters k v), error.NoWait) ∷ (passes (λ (letter : Letter). nat_lt letter.room (length text)) (received_from st.letters k v), error.InvalidArg) ∷ []) (with_zero (after_reply v text st)) → StoreGoesOn s k a talk waiting body (step st reply)
+          by_checks : Checked st (is_no_id st v ∷ (is_none (received_letter st.letters k v), error.NoWait) ∷ (passes (λ (letter : Letter). nat_lt letter.room (length text)) (received_letter st.letters k v), error.InvalidArg) ∷ []) (with_zero (after_reply v text st)) → StoreGoesOn s k a talk waiting body (step st reply)
           by_checks (Struck e is) = reply_left (answer.Refused e) (keeps_refused k st turn k_seen v text e is) left (StoreTurn (Some e) names ∷ []) (now_other (Some e))
           by_checks (Free passed is) = reply_left zero_answer (keeps_replied k st turn k_seen v text (replied_other k Never k st (off k st turn k_seen) v passed.1.0) is) left (StoreTurn None names ∷ []) (now_other None)
 
       -- to the session
       module _ (same : v ≡ s) where
-        now_own : after_events s a talk (StoreTurn None names ∷ []) ≡ session_told (record talk { store = body }) text talk.mail
+        now_own : after_events s a talk (StoreTurn None names ∷ []) ≡ after_session_reply (record talk { store = body }) text talk.mail
         now_own = now None ∙ by_test (eqb v s) (eq-eqb v s same)
           where
-            by_test : (b : Bool) → b ≡ true → cond b (session_told (record talk { store = body }) text talk.mail) (record talk { store = body; keeper = Hears zero_answer }) ≡ session_told (record talk { store = body }) text talk.mail
+            by_test : (b : Bool) → b ≡ true → cond b (after_session_reply (record talk { store = body }) text talk.mail) (record talk { store = body; keeper = Hears zero_answer }) ≡ after_session_reply (record talk { store = body }) text talk.mail
             by_test true e = refl
             by_test false e = absurd (cc)
 
@@ -384,11 +384,11 @@ module _ (s k a : ℕ) (st : State) (was : Lawful st None) (talk : Talk) (waitin
         letters_are m e = ap (λ x. x.letters) h.client ∙ ap (mail_letters s k) e
 
         -- where it has received no letter of it
-        unreceived_one : (m : Mail) → talk.mail ≡ m → (session_told (record talk { store = body }) text m ≡ record talk { store = body; keeper = Hears (answer.Refused error.NoWait) }) → find (λ x. x.received && is_to k x) (mail_letters s k m) ≡ None → StoreGoesOn s k a talk waiting body (step st reply)
-        unreceived_one m e told none = reply_left (answer.Refused error.NoWait) (keeps_refused k st turn k_seen v text error.NoWait is) left (StoreTurn None names ∷ []) (now_own ∙ ap (session_told (record talk { store = body }) text) e ∙ told)
+        unreceived_one : (m : Mail) → talk.mail ≡ m → (after_session_reply (record talk { store = body }) text m ≡ record talk { store = body; keeper = Hears (answer.Refused error.NoWait) }) → find (λ x. x.received && is_to k x) (mail_letters s k m) ≡ None → StoreGoesOn s k a talk waiting body (step st reply)
+        unreceived_one m e told none = reply_left (answer.Refused error.NoWait) (keeps_refused k st turn k_seen v text error.NoWait is) left (StoreTurn None names ∷ []) (now_own ∙ ap (after_session_reply (record talk { store = body }) text) e ∙ told)
           where
-            missing : received_from st.letters k v ≡ None
-            missing = ap (received_from st.letters k) same ∙ letters_swapped st.letters (λ x. x.received) s k ∙ ap (find (λ x. x.received && is_to k x)) (letters_are m e) ∙ none
+            missing : received_letter st.letters k v ≡ None
+            missing = ap (received_letter st.letters k) same ∙ letters_swapped st.letters (λ x. x.received) s k ∙ ap (find (λ x. x.received && is_to k x)) (letters_are m e) ∙ none
 
             there : is_id st v ≡ true
             there = ap (is_id st) same ∙ by_thread (is_thread st s) (ap is_some s_row.known)
@@ -425,13 +425,13 @@ module _ (s k a : ℕ) (st : State) (was : Lawful st None) (talk : Talk) (waitin
             place : talk.session.place ≡ at.Send
             place = sends_at talk.client sent talk.session.place (subst (λ m. is_posted talk.client m ≡ true) e h.posted) h.placed
 
-            by_checks : Checked st (is_no_id st v ∷ (is_none (received_from st.letters k v), error.NoWait) ∷ (passes (λ (letter : Letter). nat_lt letter.room (length text)) (received_from st.letters k v), error.InvalidArg) ∷ []) (with_zero (after_reply v text st)) → StoreGoesOn s k a talk waiting body (step st reply)
+            by_checks : Checked st (is_no_id st v ∷ (is_none (received_letter st.letters k v), error.NoWait) ∷ (passes (λ (letter : Letter). nat_lt letter.room (length text)) (received_letter st.letters k v), error.InvalidArg) ∷ []) (with_zero (after_reply v text st)) → StoreGoesOn s k a talk waiting body (step st reply)
             by_checks (Struck why is) = absurd (let bad : answer.Reply text ∷ [] ≡ [] = sym r.told ∙ ap (λ out. answers_to s out.effects) (step_is k st turn k_seen reply ∙ ap (step_outcome k reply) is) ∙ told_other s k (apart_of k s k_s) reply (refusal_case st why) in cc)
             by_checks (Free passed is) = goes reply body (Hears zero_answer) (zero_answer ∷ []) refl refl low (keeps_replied k st turn k_seen v text (replied_other k Never k st (off k st turn k_seen) v passed.1.0) is) refl (heard_so zero_answer)
                 (Hears (answer.Reply text)) Nothing (r.goes_on ∙ ap (λ (v : Sight). record (going_on v) { letters = [] }) h.client) refl refl
                 (λ agent. agent_sends s a (step st reply).after talk _ waiting place refl refl agent)
                 (heard_one talk.client (answer.Reply text) (answers_to s (step st reply).effects) r.told)
-                (StoreTurn None names ∷ []) (now_own ∙ ap (session_told (record talk { store = body }) text) e)
+                (StoreTurn None names ∷ []) (now_own ∙ ap (after_session_reply (record talk { store = body }) text) e)
 
         to_own : (m : Mail) → talk.mail ≡ m → StoreGoesOn s k a talk waiting body (step st reply)
         to_own Nothing e = unreceived_one Nothing e refl refl

@@ -1,11 +1,11 @@
 -- Whatever happens to a session and its store, what the client is told is a first part of the answers to its lines.
 use Rattle.answer_laws.proofs.AnswerLists.{Texts, clean_push, first_all, first_quit, first_replies, replies_push, table_after, table_push}
-use Rattle.answer_laws.specs.Talks.{AreFirst, Deed, Deed.Opens, Deed.Receives, Deed.Replies, Deed.Sends, Deed.Stops, Event, Event.AgentEnds, Event.Line, Event.OtherLetter, Event.OwnLetter, Event.SessionDies, Event.SessionTurn, Event.StoreTurn, Mail, Mail.Nothing, Mail.Received, Mail.Sent, Stand, Stand.AwaitsLetter, Stand.AwaitsReply, Stand.Hears, Stand.IsOver, Talk, TalksAreAnswers, deed_of, letter_comes, line_comes, mail_comes, opening_talk, other_comes, reply_answer, session_calls, session_told, session_turn, store_calls, store_turn, talk_on}
+use Rattle.answer_laws.specs.Talks.{AreFirst, Deed, Deed.Opens, Deed.Receives, Deed.Replies, Deed.Sends, Deed.Stops, Event, Event.AgentEnds, Event.Line, Event.OtherLetter, Event.OwnLetter, Event.SessionDies, Event.SessionTurn, Event.StoreTurn, Mail, Mail.Nothing, Mail.Received, Mail.Sent, Stand, Stand.AwaitsLetter, Stand.AwaitsReply, Stand.Hears, Stand.IsOver, Talk, TalksAreAnswers, deed_of, letter_comes, line_comes, mail_comes, opening_talk, other_comes, reply_answer, session_calls, after_session_reply, session_turn, store_calls, store_turn, talk_on}
 use Rattle.line_server.proofs.ApartLaws.{other-table, own-table}
 use Rattle.line_server.specs.Commands.{Command, command_of}
-use Rattle.line_server.specs.Sessions.{SessionBody, session_at, session_by, session_next, session_opened, session_received, session_receives, session_replies, session_returns, session_sends}
-use Rattle.line_server.specs.Stores.{StoreBody, is_invalid, store_by, store_next, store_received, store_receives, store_tells, table_of, tables_after, told_sender}
-use Rattle.line_server.specs.Tables.{Table, is_quit, line_answers, replies, told_command, told_text}
+use Rattle.line_server.specs.Sessions.{SessionBody, session_at, session_by, session_next, session_turn_after_agent, session_turn_after_letter, session_receives, session_replies, session_returns, session_sends}
+use Rattle.line_server.specs.Stores.{StoreBody, is_invalid, store_by, store_next, store_turn_after_letter, store_receives, store_tells, table_of, tables_after, served_sender}
+use Rattle.line_server.specs.Tables.{Table, is_quit, line_answers, replies, served_command, served_text}
 use Rattle.line_server.specs.Turns.{Turn, is_replied, stops}
 use Rattle.line_server.specs.declared.session.SessionPlace.{SessionPlace}
 use Rattle.line_server.specs.declared.session.SessionPlace.TheVariants as at
@@ -79,7 +79,7 @@ pub data Phase (said lines : Texts) (table : Table) (mail : Mail) (place : Sessi
   Reads : (done : Texts) (text : List ℕ) (from room : ℕ) → Known said table done → lines ≡ done ++ text ∷ [] → mail ≡ Nothing → place ≡ at.Recv → client ≡ Hears (answer.Letter from text room) → Phase said lines table mail place client
   Asks : (done : Texts) (text : List ℕ) → Known said table done → lines ≡ done ++ text ∷ [] → is_quit text ≡ false → mail ≡ Sent text → place ≡ at.Send → client ≡ AwaitsReply → Phase said lines table mail place client
   Learns : (done : Texts) (text : List ℕ) → said ≡ replies [] done → table ≡ table_after [] (done ++ text ∷ []) → list_any is_quit done ≡ false → is_quit text ≡ false → lines ≡ done ++ text ∷ [] → mail ≡ Nothing → place ≡ at.Send
-      → client ≡ Hears (answer.Reply (told_text text (table_after [] done)).reply) → Phase said lines table mail place client
+      → client ≡ Hears (answer.Reply (served_text text (table_after [] done)).reply) → Phase said lines table mail place client
 
 -- nothing more is said, and nothing more comes
 pub data Closing (lives : Bool) (mail : Mail) (place : SessionPlace) (client : Stand) : Type 0 where
@@ -111,7 +111,7 @@ inv_first s talk (Ends first closing) = first
 
 -- ---- the store's turn
 
-told_apart : (talk : Talk) (text : List ℕ) (m : Mail) → is_received m ≡ false → session_told talk text m ≡ record talk { keeper = Hears (answer.Refused error.NoWait) }
+told_apart : (talk : Talk) (text : List ℕ) (m : Mail) → is_received m ≡ false → after_session_reply talk text m ≡ record talk { keeper = Hears (answer.Refused error.NoWait) }
 told_apart talk text Nothing h = refl
 told_apart talk text (Sent sent) h = refl
 told_apart talk text (Received sent) h = absurd (cc)
@@ -137,7 +137,7 @@ module _ (s : ℕ) (refusal : Option LwpErr) (talk : Talk) where
       → Apart s talk (store_calls s refusal (record talk { store = body }) (Replies to text))
   apart_reply free body to text same = by_test (eqb to s)
     where
-      by_test : (b : Bool) → Apart s talk (cond b (session_told (record talk { store = body }) text talk.mail) (record talk { store = body; keeper = Hears (reply_answer refusal) }))
+      by_test : (b : Bool) → Apart s talk (cond b (after_session_reply (record talk { store = body }) text talk.mail) (record talk { store = body; keeper = Hears (reply_answer refusal) }))
       by_test true = record { store = body; keeper = Hears (answer.Refused error.NoWait); is = told_apart (record talk { store = body }) text talk.mail free; table = same; stand = refl }
       by_test false = record { store = body; keeper = Hears (reply_answer refusal); is = refl; table = same; stand = apart_answer refusal }
 
@@ -156,7 +156,7 @@ module _ (s : ℕ) (refusal : Option LwpErr) (talk : Talk) where
   apart_replied free false d = apart_after d
 
   apart_letter : is_received talk.mail ≡ false → (x : ℕ) (text : List ℕ) → not (eqb x s) ≡ true → Goes_on (store_tells talk.store x text)
-  apart_letter free x text other = apart_reply free (store_tells talk.store x text).1 x (told_sender x text talk.store.tables).reply (other-table s x text talk.store.tables (apart_of (eqb x s) refl other))
+  apart_letter free x text other = apart_reply free (store_tells talk.store x text).1 x (served_sender x text talk.store.tables).reply (other-table s x text talk.store.tables (apart_of (eqb x s) refl other))
     where
       apart_of : (b : Bool) → eqb x s ≡ b → not b ≡ true → nat_eq s x ≡ false
       apart_of true e h = absurd (cc)
@@ -166,7 +166,7 @@ module _ (s : ℕ) (refusal : Option LwpErr) (talk : Talk) where
           by_same true is = let same : eqb x s ≡ true = eq-eqb x s (sym (eqb-true s x is)) in absurd (cc (same, e))
           by_same false is = is
 
-  apart_recv : is_received talk.mail ≡ false → (x : Answer) → is_apart s x ≡ true → Goes_on (store_received talk.store x)
+  apart_recv : is_received talk.mail ≡ false → (x : Answer) → is_apart s x ≡ true → Goes_on (store_turn_after_letter talk.store x)
   apart_recv free (answer.Letter from text room) h = apart_letter free from text h
   apart_recv free (answer.Refused e) h = apart_receives
   apart_recv free (answer.Value v) h = apart_stops
@@ -218,7 +218,7 @@ module _ (s : ℕ) (refusal : Option LwpErr) (names : Names) (talk : Talk) where
       → store_turn s refusal names talk talk.keeper ≡ record talk {
         store = record { tables = tables_after s text talk.store.tables; client = s; place = kept_at.Reply };
         mail = Nothing;
-        client = Hears (answer.Reply (told_sender s text talk.store.tables).reply);
+        client = Hears (answer.Reply (served_sender s text talk.store.tables).reply);
         keeper = Hears zero_answer;
       }
   unfolding store_next
@@ -228,11 +228,11 @@ module _ (s : ℕ) (refusal : Option LwpErr) (names : Names) (talk : Talk) where
       → talk.store.place ≡ kept_at.Recv → talk.keeper ≡ Hears (answer.Letter s text 240) → Inv s (store_turn s refusal names talk talk.keeper)
   inv_told done text known l q m p sp k =
       subst (Inv s) (sym (told_now text m sp k))
-      (Goes (Learns done text known.replied (own-table s text talk.store.tables ∙ ap (λ t. (told_text text t).table) known.kept ∙ sym (table_push done text [])) known.clean q l refl p
-      (ap (λ t. Hears (answer.Reply (told_text text t).reply)) known.kept)) refl)
+      (Goes (Learns done text known.replied (own-table s text talk.store.tables ∙ ap (λ t. (served_text text t).table) known.kept ∙ sym (table_push done text [])) known.clean q l refl p
+      (ap (λ t. Hears (answer.Reply (served_text text t).reply)) known.kept)) refl)
 
   -- where the session is done
-  done_told : (m : Mail) → m ≡ Nothing → (body : StoreBody) (text : List ℕ) → session_told (record talk { store = body }) text m ≡ record talk { store = body; keeper = Hears (answer.Refused error.NoWait) }
+  done_told : (m : Mail) → m ≡ Nothing → (body : StoreBody) (text : List ℕ) → after_session_reply (record talk { store = body }) text m ≡ record talk { store = body; keeper = Hears (answer.Refused error.NoWait) }
   done_told Nothing e body text = refl
   done_told (Sent sent) e body text = refl
   done_told (Received sent) e body text = absurd (cc)
@@ -265,7 +265,7 @@ module _ (s a : ℕ) (names : Names) (talk : Talk) where
         by_lives false = Goes (Idle done known l m refl) stand
 
     -- it replies to the line
-    replies_so : (text : List ℕ) → talk.lines ≡ done ++ text ∷ [] → is_quit text ≡ false → (reply : List ℕ) → reply ≡ (told_text text (table_after [] done)).reply → table_of s talk.store.tables ≡ table_after [] (done ++ text ∷ []) → Comes_to (session_replies talk.session reply)
+    replies_so : (text : List ℕ) → talk.lines ≡ done ++ text ∷ [] → is_quit text ≡ false → (reply : List ℕ) → reply ≡ (served_text text (table_after [] done)).reply → table_of s talk.store.tables ≡ table_after [] (done ++ text ∷ []) → Comes_to (session_replies talk.session reply)
     replies_so text l q reply r t = by_lives talk.agent_lives refl
       where
         now : Talk
@@ -288,7 +288,7 @@ module _ (s a : ℕ) (names : Names) (talk : Talk) where
       after_so true = receives done known m stand l talk.session
       after_so false = stops_over first m talk.session
 
-      opened : (x : Answer) → Comes_to (session_opened talk.session x)
+      opened : (x : Answer) → Comes_to (session_turn_after_agent talk.session x)
       opened (answer.Thread b) = receives done known m stand l (record talk.session { agent = b })
       opened (answer.Refused e) = stops_over first m (session_returns talk.session).1
       opened (answer.Letter from text room) = stops_over first m talk.session
@@ -300,7 +300,7 @@ module _ (s a : ℕ) (names : Names) (talk : Talk) where
       opened (answer.Caught d k p) = stops_over first m talk.session
       opened (answer.Ids k ns) = stops_over first m talk.session
 
-      received_none : (x : Answer) → is_refusal x ≡ true → Comes_to (session_received talk.session names x)
+      received_none : (x : Answer) → is_refusal x ≡ true → Comes_to (session_turn_after_letter talk.session names x)
       received_none (answer.Letter from text room) h = absurd (cc)
       received_none (answer.Refused e) h = stops_over first m (session_returns talk.session).1
       received_none (answer.Thread b) h = stops_over first m talk.session
@@ -333,7 +333,7 @@ module _ (s a : ℕ) (names : Names) (talk : Talk) where
       -- it isn't the last: a command goes to the store
       sends_so : is_quit text ≡ false → (o : Option Command) → command_of text ≡ o → Comes_to (session_sends talk.session names text o)
       sends_so q None e =
-          let bad = ap (λ o. told_command o (table_after [] done)) e in
+          let bad = ap (λ o. served_command o (table_after [] done)) e in
           replies_so done known m stand text l q (codes "bad") (sym (ap (λ x. x.reply) bad)) (known.kept ∙ sym (table_push done text [] ∙ ap (λ x. x.table) bad))
       sends_so q (Some c) e = Goes (Asks done text known l q refl refl refl) stand
 
@@ -359,7 +359,7 @@ module _ (s a : ℕ) (names : Names) (talk : Talk) where
   phase_turn (Learns done text r t clean q l m p c) stand was = turn_as at.Send _ p c (learns talk.agent_lives refl)
     where
       reply : List ℕ
-      reply = (told_text text (table_after [] done)).reply
+      reply = (served_text text (table_after [] done)).reply
 
       now : Talk
       now = record talk { session = session_at talk.session at.Reply }
@@ -411,21 +411,21 @@ module _ (s a : ℕ) (talk : Talk) (first : AreFirst talk.told (line_answers tal
   ends_turn names closing was IsOver c = was
 
   -- whatever the store does
-  ends_told : Closing talk.agent_lives talk.mail talk.session.place talk.client → (body : StoreBody) (text : List ℕ) → Inv s (session_told (record talk { store = body }) text talk.mail)
+  ends_told : Closing talk.agent_lives talk.mail talk.session.place talk.client → (body : StoreBody) (text : List ℕ) → Inv s (after_session_reply (record talk { store = body }) text talk.mail)
   ends_told (Alone e) body text = by_mail talk.mail
     where
-      by_mail : (m : Mail) → Inv s (session_told (record talk { store = body }) text m)
+      by_mail : (m : Mail) → Inv s (after_session_reply (record talk { store = body }) text m)
       by_mail Nothing = Ends first (Alone e)
       by_mail (Sent sent) = Ends first (Alone e)
       by_mail (Received sent) = Ends first (Alone e)
-  ends_told (Done m h) body text = subst (λ n. Inv s (session_told (record talk { store = body }) text n)) (sym m) (Ends first (Done m h))
+  ends_told (Done m h) body text = subst (λ n. Inv s (after_session_reply (record talk { store = body }) text n)) (sym m) (Ends first (Done m h))
 
   ends_calls : (refusal : Option LwpErr) → Closing talk.agent_lives talk.mail talk.session.place talk.client → (body : StoreBody) (d : Deed) → Inv s (store_calls s refusal (record talk { store = body }) d)
   ends_calls refusal closing body Opens = Ends first closing
   ends_calls refusal closing body Receives = Ends first closing
   ends_calls refusal closing body (Replies to text) = by_test (eqb to s)
     where
-      by_test : (b : Bool) → Inv s (cond b (session_told (record talk { store = body }) text talk.mail) (record talk { store = body; keeper = Hears (reply_answer refusal) }))
+      by_test : (b : Bool) → Inv s (cond b (after_session_reply (record talk { store = body }) text talk.mail) (record talk { store = body; keeper = Hears (reply_answer refusal) }))
       by_test true = ends_told closing body text
       by_test false = Ends first closing
   ends_calls refusal closing body (Sends text) = Ends first closing

@@ -7,8 +7,8 @@ use Rattle.answer_laws.specs.Lengths.{is_short}
 use Rattle.answer_laws.specs.Stands.{is_short_reply, is_short_to}
 use Rattle.answer_laws.specs.Talks.{Mail.Received, Stand, Stand.AwaitsLetter, Stand.AwaitsReply, Stand.Hears, Stand.IsOver, Talk, deed_of, session_calls, session_turn}
 use Rattle.line_server.specs.Sessions.{session_by, session_next}
-use Rattle.line_server.specs.Stores.{store_by, store_next, store_received}
-use Rattle.line_server.specs.Tables.{line_answers, replies, told_text}
+use Rattle.line_server.specs.Stores.{store_by, store_next, store_turn_after_letter}
+use Rattle.line_server.specs.Tables.{line_answers, replies, served_text}
 use Rattle.lwp_types.specs.Names.{Names}
 use Rattle.lwp_types.specs.Unblock.{nonexist, zero_answer}
 use Rattle.lwp_types.specs.declared.call.Answer.{Answer}
@@ -22,8 +22,8 @@ last_of : (xs : Texts) (x : List ℕ) → list_all is_short (xs ++ x ∷ []) ≡
 last_of [] x all = (and_parts (is_short x) true all).0
 last_of (y ∷ ys) x all = last_of ys x (and_parts (is_short y) (list_all is_short (ys ++ x ∷ [])) all).1
 
-short_last : (done : Texts) (text : List ℕ) → list_all is_short (done ++ text ∷ []) ≡ true → is_short (told_text text (table_after [] done)).reply ≡ true
-short_last done text all = last_of (replies [] done) (told_text text (table_after [] done)).reply (ap (list_all is_short) (sym (replies_push done text [])) ∙ replies_short (done ++ text ∷ []) [] all refl)
+short_last : (done : Texts) (text : List ℕ) → list_all is_short (done ++ text ∷ []) ≡ true → is_short (served_text text (table_after [] done)).reply ≡ true
+short_last done text all = last_of (replies [] done) (served_text text (table_after [] done)).reply (ap (list_all is_short) (sym (replies_push done text [])) ∙ replies_short (done ++ text ∷ []) [] all refl)
 
 abbrev heard_of : Stand → Answer
 heard_of (Hears x) = x
@@ -44,9 +44,9 @@ store_short s talk (Ends first (Alone gone)) lives all x hears names sent mail =
 store_short s talk (Ends first (Done none done)) lives all x hears names sent mail = differ (sym (ap is_received mail) ∙ ap is_received none)
 store_short s talk (Waits done text known lines q m p c place keeper) lives all x hears names sent mail =
     ap (λ p. is_short_to s (store_by talk.store x p).0) place
-    ∙ ap (λ z. is_short_to s (store_received talk.store z).0) (ap heard_of (sym hears ∙ keeper))
-    ∙ ap (λ t. not (eqb s s) || is_short (told_text text t).reply) known.kept
-    ∙ right_or (not (eqb s s)) (is_short (told_text text (table_after [] done)).reply) (short_last done text (ap (list_all is_short) (sym lines) ∙ all))
+    ∙ ap (λ z. is_short_to s (store_turn_after_letter talk.store z).0) (ap heard_of (sym hears ∙ keeper))
+    ∙ ap (λ t. not (eqb s s) || is_short (served_text text t).reply) known.kept
+    ∙ right_or (not (eqb s s)) (is_short (served_text text (table_after [] done)).reply) (short_last done text (ap (list_all is_short) (sym lines) ∙ all))
 
 -- the session's reply to its client
 pub session_short : (s a : ℕ) (talk : Talk) → Inv s talk → (x : Answer) → talk.client ≡ Hears x → (names : Names) → list_all is_short talk.lines ≡ true → talk.agent_lives ≡ true → is_short_reply (session_next talk.session names x).0 ≡ true

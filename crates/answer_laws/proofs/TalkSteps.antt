@@ -2,9 +2,9 @@
 use Rattle.answer_laws.proofs.AgentSights.{destroyed_agents_are_gone, others_leave_agents}
 use Rattle.answer_laws.proofs.Others.{others_leave_it}
 use Rattle.answer_laws.specs.Agents.{agent_sight, no_agent, spares_agent}
-use Rattle.answer_laws.specs.Sights.{IsLeft, IsSent, IsWoken, Spares, answers_to, attends, going_on, is_attentive, sight, waits_for, written_to}
+use Rattle.answer_laws.specs.Sights.{IsLeft, IsSent, IsWoken, Spares, answers_to, attends, going_on, is_attentive, sight, waits_for, open_letters}
 use Rattle.answer_laws.specs.Stands.{AgentIs, AgentIs.Gone, AgentIs.Made, AgentIs.Unmade, AgentLetters, Becomes, IsHeard, IsUnwritten, Leaves, OthersCallsAreEvents, Stands, block_of, is_placed, is_posted, is_reading, knows, mail_letters, owes}
-use Rattle.answer_laws.specs.Talks.{Event, Event.AgentEnds, Event.OtherLetter, Mail, Mail.Nothing, Mail.Received, Mail.Sent, Stand, Stand.AwaitsLetter, Stand.AwaitsReply, Stand.Hears, Stand.IsOver, Talk, after_events, line_refused, talk_on}
+use Rattle.answer_laws.specs.Talks.{Event, Event.AgentEnds, Event.OtherLetter, Mail, Mail.Nothing, Mail.Received, Mail.Sent, Stand, Stand.AwaitsLetter, Stand.AwaitsReply, Stand.Hears, Stand.IsOver, Talk, after_events, after_line_refusal, talk_on}
 use Rattle.line_server.specs.declared.session.SessionPlace.{SessionPlace}
 use Rattle.line_server.specs.declared.session.SessionPlace.TheVariants as at
 use Rattle.lwp_types.specs.Choice.{choice}
@@ -25,7 +25,7 @@ use Rattle.pod_laws.proofs.EveryStep.{Lawful-step}
 use Rattle.pod_laws.proofs.Fading.{step_fades}
 use Rattle.pod_laws.proofs.Holding.{no_thread}
 use Rattle.pod_laws.proofs.TimerMoves.{no_timer_comes_unasked}
-use Rattle.pod_laws.specs.Timers.{ticks_of, timers_asked, timers_by}
+use Rattle.pod_laws.specs.Timers.{ticks_of, timers_of_call, timers_by}
 use Rattle.std.proofs.Common.{Bool, List, None, Option, Some, [], ap, append-nil, arith, cond, count_by, eqb, false, inl, inr, not, refl, subst, sym, true, ℕ, ◌&&◌, ◌++◌, ◌||◌, ◌<◌, ◌∙◌, ◌∷◌, ◌≡◌, ◌≢◌, ◌≤◌, ◌⊎◌}
 use Rattle.std.proofs.lemmas.Bool.{and_from, and_parts, cases_eq, eq-eqb, eqb-true, leb-false, leb-true, ltb-true, ne_eqb}
 use Rattle.std.specs.List.{find}
@@ -224,7 +224,7 @@ client_left s k a st talk waiting out was left agent = record {
 }
 
 -- who waits for no line isn't refused one
-unrefused : (stand : Stand) → (stand ≡ AwaitsLetter → ⊥) → line_refused stand ≡ stand
+unrefused : (stand : Stand) → (stand ≡ AwaitsLetter → ⊥) → after_line_refusal stand ≡ stand
 unrefused (Hears x) never = refl
 unrefused AwaitsLetter never = absurd (never refl)
 unrefused AwaitsReply never = refl
@@ -309,7 +309,7 @@ module _ (s k a : ℕ) (st : State) (was : Lawful st None) (talk : Talk) (waitin
   lawful = Lawful-step st was c
 
   timers_after : (u : ℕ) → eqb t u ≡ false → timers_of st.timers u ≡ 0 → timers_of out.after.timers u ≡ 0
-  timers_after u other none = omega (arith, none, (no_timer_comes_unasked st (is_timer_of u)).called c, count-append (is_timer_of u) st.timers (timers_asked st (choice st) c), ap (λ o. count_by (is_timer_of u) (timers_asked st o c)) turn, by_ticks (ticks_of c))
+  timers_after u other none = omega (arith, none, (no_timer_comes_unasked st (is_timer_of u)).called c, count-append (is_timer_of u) st.timers (timers_of_call st (choice st) c), ap (λ o. count_by (is_timer_of u) (timers_of_call st o c)) turn, by_ticks (ticks_of c))
     where
       by_ticks : (o : Option ℕ) → count_by (is_timer_of u) (timers_by st t o) ≡ 0
       by_ticks None = refl
@@ -423,7 +423,7 @@ module _ (s k a : ℕ) (st : State) (was : Lawful st None) (talk : Talk) (waitin
                 events = AgentEnds ∷ [];
                 client = Hears nonexist;
                 lives = false;
-                is = λ keeper. λ i. record talk { keeper = keeper; client = line_refused (w.0 i); agent_lives = false };
+                is = λ keeper. λ i. record talk { keeper = keeper; client = after_line_refusal (w.0 i); agent_lives = false };
                 seen = woken.goes_on ∙ ap going_on h.client;
                 posted = posted_on nonexist talk.mail mail;
                 placed = refl;
@@ -456,7 +456,7 @@ others_calls_are_events s k a st was talk waiting h t turn t_s t_k c spared low 
         off : (eqb v s ≡ false) × (eqb v k ≡ false)
         off = parts_of (eqb v s) (eqb v k) (subst (λ c. spares_agent s k c ≡ true) e spared)
 
-        written : written_to st s v ≡ 0
+        written : open_letters st s v ≡ 0
         written = ap (λ x. count_by (is_to v) x.letters) h.client ∙ mail_off s k v (apart_of v k off.1) talk.mail
 
         fate : (row : AgentRow) → agent_of st.agents a ≡ Some row → row.owner ≡ s → (agent_sight (step st c).after a ≡ agent_sight st a) ⊎ (agent_sight (step st c).after a ≡ no_agent)

@@ -1,18 +1,18 @@
 -- What the machine tells others than the caller names no thread; and the caller is answered with somebody born, if with anybody.
-use Rattle.lwp_types.specs.Agents.{agent_gone, agents_of, deliver, deliver_to, end_agent, event_agents, message}
+use Rattle.lwp_types.specs.Agents.{after_agent_end, agents_of, deliver, deliver_to, end_agent, event_agents, message}
 use Rattle.lwp_types.specs.Case.{Case, Check, refusal_case, silent_case, unless, value_case, with_zero}
 use Rattle.lwp_types.specs.Choice.{choice}
 use Rattle.lwp_types.specs.Conditions.{after_wait}
 use Rattle.lwp_types.specs.Death.{answer_joiners, bury, death, destroy, end_agents, refuse_receivers, refuse_sender, refuse_senders, release_all, return_from, run_all_exits, withdraw}
 use Rattle.lwp_types.specs.Exceptions.{caught_marks, exits_of, first_frames, frames, handler_of, later_frames, with_match}
-use Rattle.lwp_types.specs.Exits.{catch_case, exit_case, leave_frame, notified_by, run_exit, unwind}
+use Rattle.lwp_types.specs.Exits.{catch_case, exit_case, leave_frame, excnotify_case_by, run_exit, unwind}
 use Rattle.lwp_types.specs.Messages.{after_reply, as_answer, as_received, next_letter, post, receive_by, receivers_of, senders_to, takes_from, with_holding, without_letter}
 use Rattle.lwp_types.specs.MonitorRelease.{grant, last_lock, next_owner, release, without_lock}
 use Rattle.lwp_types.specs.Monitors.{after_exit, after_request, depth_in, enter_case, is_owned_by_other, with_depth}
 use Rattle.lwp_types.specs.State.{Outcome, State, ThreadRow, and_then, for_each, in_order, is_agent, marks_in, passes, still, thread_of, with_marks_of}
 use Rattle.lwp_types.specs.Step.{case_of, end_effects, ends, own_effects, step, step_by, step_if, step_outcome}
 use Rattle.lwp_types.specs.Time.{after_tick, due_threads, is_asleep_in, tick, time_out}
-use Rattle.lwp_types.specs.Unblock.{after_block, after_block_for, nonexist, timed_out, unblock, zero_answer}
+use Rattle.lwp_types.specs.Unblock.{after_block, after_block_for, nonexist, timeout_answer, unblock, zero_answer}
 use Rattle.lwp_types.specs.declared.call.Answer.{Answer}
 use Rattle.lwp_types.specs.declared.call.Call.{Call}
 use Rattle.lwp_types.specs.declared.call.Effect.{Effect}
@@ -101,7 +101,7 @@ module _ (n : ℕ) where
   named_waited t c (Some lock) s = named_release lock.mon (after_block (record s { waits = s.waits ++ record { cond = c; tid = t; depth = lock.depth } ∷ [] }) t (block.Waiting c))
 
   named_end_agent : (a : ℕ) (s : State) → AllNamed n (end_agent a s).effects
-  named_end_agent a s = named_then (for_each (unblock nonexist) (receivers_of s a) s) (λ now. still (agent_gone a now)) (named_each (unblock nonexist) (λ t s. (tt, tt)) (receivers_of s a) s) tt
+  named_end_agent a s = named_then (for_each (unblock nonexist) (receivers_of s a) s) (λ now. still (after_agent_end a now)) (named_each (unblock nonexist) (λ t s. (tt, tt)) (receivers_of s a) s) tt
 
   -- a case, by its checks
   named_unless : (s : State) (checks : List Check) (otherwise : Case) → AllNamed n otherwise.others → AllNamed n (unless s checks otherwise).others
@@ -139,7 +139,7 @@ module _ (n : ℕ) where
   named_time_out : (t : ℕ) (s : State) → AllNamed n (time_out t s).effects
   named_time_out t s = by_sleep (is_asleep_in s t)
     where
-      by_sleep : (b : Bool) → AllNamed n (unblock (cond b zero_answer timed_out) t s).effects
+      by_sleep : (b : Bool) → AllNamed n (unblock (cond b zero_answer timeout_answer) t s).effects
       by_sleep true = (tt, tt)
       by_sleep false = (tt, tt)
 
@@ -246,7 +246,7 @@ match_names s on_match (Some f) named = named f
 caught_names : (s : State) (t p : ℕ) (f : Found) → CaseNames (catch_case s t p f)
 caught_names s t p f = quiet (λ m. named_unwind m t (caught_marks f (marks_in s t)) (later_frames f.depth (marks_in s t)) s) refl
 
-notified_names : (s : State) (t p : ℕ) (f : Found) (h : Func) → CaseNames (notified_by s t p f h)
+notified_names : (s : State) (t p : ℕ) (f : Found) (h : Func) → CaseNames (excnotify_case_by s t p f h)
 notified_names s t p f func.Give = quiet (λ m. tt) refl
 notified_names s t p f func.Sum = quiet (λ m. tt) refl
 notified_names s t p f func.Nothing = caught_names s t p f
@@ -290,7 +290,7 @@ case_names s t born (call.Wait c) = checked s _ _ (quiet (λ m. named_waited m t
 case_names s t born call.Conditions = quiet (λ m. tt) refl
 case_names s t born call.Return = return_names s t
 case_names s t born (call.Raise p) = checked s _ _ (match_names s (catch_case s t p) (handler_of s t p) (caught_names s t p))
-case_names s t born (call.ExcNotify p) = checked s _ _ (match_names s (λ f. notified_by s t p f f.func) (handler_of s t p) (λ f. notified_names s t p f f.func))
+case_names s t born (call.ExcNotify p) = checked s _ _ (match_names s (λ f. excnotify_case_by s t p f f.func) (handler_of s t p) (λ f. notified_names s t p f f.func))
 case_names s t born (call.Bound p) = checked s _ _ (match_names s _ (handler_of s t p) (λ f. quiet (λ m. tt) refl))
 case_names s t born (call.Agent e) = checked s _ _ (record { others = λ m. tt; own = omega arith })
 case_names s t born call.Agents = quiet (λ m. tt) refl

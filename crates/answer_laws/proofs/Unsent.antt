@@ -10,7 +10,7 @@ use Rattle.answer_laws.proofs.TalkLaws.{Inv.Goes, Phase.Idle}
 use Rattle.answer_laws.proofs.TalkSteps.{attends_seen, unsome}
 use Rattle.answer_laws.proofs.ThreadRows.{row_polled_other, row_polled_own, row_settled}
 use Rattle.answer_laws.specs.Births.{is_send_of}
-use Rattle.answer_laws.specs.Clients.{delivered_to, names_only, replied_in, sends_nothing}
+use Rattle.answer_laws.specs.Clients.{texts_delivered, names_only, replies_of_step, sends_nothing}
 use Rattle.answer_laws.specs.Events.{machine_of}
 use Rattle.answer_laws.specs.Lengths.{is_short}
 use Rattle.answer_laws.specs.Served.{CanGoOn, LineServer, after_move, after_moves, is_move_due, steps_of}
@@ -24,7 +24,7 @@ use Rattle.lwp_types.specs.Agents.{deliver, is_event_armed}
 use Rattle.lwp_types.specs.Choice.{choice}
 use Rattle.lwp_types.specs.Lawful.{Lawful}
 use Rattle.lwp_types.specs.Messages.{is_to}
-use Rattle.lwp_types.specs.Names.{null_id, polled_as}
+use Rattle.lwp_types.specs.Names.{null_id, names_for_poll}
 use Rattle.lwp_types.specs.Poll.{Polled}
 use Rattle.lwp_types.specs.State.{Outcome, State, is_thread, passes}
 use Rattle.lwp_types.specs.Step.{step, step_by, step_if}
@@ -34,9 +34,9 @@ use Rattle.lwp_types.specs.declared.call.Call.{Call}
 use Rattle.lwp_types.specs.declared.call.Effect.{Effect}
 use Rattle.lwp_types.specs.declared.call.LwpErr.{LwpErr}
 use Rattle.pod_events.specs.Events.{EventState, is_takeable, is_trapped, rites_event, take_event}
-use Rattle.pod_events.specs.Rites.{after_first_report, as_rites, report_text, reports_after, rites_said}
+use Rattle.pod_events.specs.Rites.{after_first_report, as_rites, report_text, reports_after, after_rites}
 use Rattle.pod_events.specs.Step.{event_step}
-use Rattle.pod_events.specs.Traps.{after_call as traps_made, after_call_as, after_machine_step, after_trap, after_trap_and_call as traps_called, agent_event_of, refused_by, trap_of, trap_refusal}
+use Rattle.pod_events.specs.Traps.{after_call as traps_made, after_call_as, after_machine_step, after_trap, after_trap_and_call as traps_called, agent_event_of, after_refusal, trap_of, trap_refusal}
 use Rattle.pod_laws.proofs.Elements.{differ}
 use Rattle.pod_runner.specs.Session.{Live, Made, Session, Setting, after_poll, after_settle, call_move, move, move_by, move_row, proc_of, row_of, take_move}
 use Rattle.pod_runner.specs.declared.session.Row.{Row}
@@ -96,7 +96,7 @@ module _ (s : ℕ) where
         by_refusal e None = heads_called (effect.Answered s zero_answer ∷ [])
         by_refusal e (Some why) = heads_called (effect.Answered s (answer.Refused why) ∷ [])
 
-        by_agent : (b : Bool) → Heads (cond b (refused_by es.state es.trapped s c error.InUse) (after_machine_step es.trapped (step es.state c))).effects
+        by_agent : (b : Bool) → Heads (cond b (after_refusal es.state es.trapped s c error.InUse) (after_machine_step es.trapped (step es.state c))).effects
         by_agent true = heads_called (effect.Answered s (answer.Refused error.InUse) ∷ [])
         by_agent false = heads_step
 
@@ -104,7 +104,7 @@ module _ (s : ℕ) where
         by_trap None = by_agent (passes (is_trapped es.trapped) (agent_event_of c))
         by_trap (Some e) = by_refusal e (trap_refusal es.state es.trapped e)
 
-    heads_said : (after : State) (fs : List Effect) (reports : List ℕ) → Heads fs → Heads (rites_said after fs reports).effects
+    heads_said : (after : State) (fs : List Effect) (reports : List ℕ) → Heads fs → Heads (after_rites after fs reports).effects
     heads_said after fs reports heads = by_armed (is_event_armed after rites_event) reports
       where
         by_armed : (b : Bool) (rs : List ℕ) → Heads (cond b (after_first_report after fs rs) (record { state = after; reports = rs; effects = fs })).effects
@@ -124,7 +124,7 @@ module _ {B : Type 0} (setting : Setting B) (server : LineServer setting.next) (
   -- if it calls, the call is no letter
   abbrev pub IsQuiet : Live B → Type 0
   IsQuiet live = choice live.pod.state ≡ Some s → live.pod.pending ≡ None → (b : SessionBody) (z : Answer) → row_of s live.rows ≡ Some (record { tid = s; body = server.serving b; answer = z })
-      → sends_nothing (session_next b (polled_as s live.names) z).0 ≡ true
+      → sends_nothing (session_next b (names_for_poll s live.names) z).0 ≡ true
 
   -- so it is of the calls among these moves
   abbrev pub Quiet : List (Option Took) → Session B → Type 0
@@ -137,16 +137,16 @@ module _ {B : Type 0} (setting : Setting B) (server : LineServer setting.next) (
 
   -- the effects of its call
   pub own_effects : (live : Live B) → choice live.pod.state ≡ Some s → (b : SessionBody) (z : Answer) → row_of s live.rows ≡ Some (record { tid = s; body = server.serving b; answer = z })
-      → (move setting.next setting.bodies live).effects ≡ (event_step live.pod (session_next b (polled_as s live.names) z).0).effects
+      → (move setting.next setting.bodies live).effects ≡ (event_step live.pod (session_next b (names_for_poll s live.names) z).0).effects
   unfolding move call_move
   own_effects live turn b z row = ap (λ o. (move_by setting.next setting.bodies live o).effects) turn ∙ ap (λ o. (move_row setting.next setting.bodies live s o).effects) row
-      ∙ ap (λ (r : Polled B). (call_move setting.bodies live s r).effects) (server.serves b (polled_as s live.names) z)
+      ∙ ap (λ (r : Polled B). (call_move setting.bodies live s r).effects) (server.serves b (names_for_poll s live.names) z)
 
   pub is_quiet_by : (live : Live B) → list_any (is_send_of s) (move setting.next setting.bodies live).effects ≡ false → IsQuiet live
   is_quiet_by live none turn free b z row = by_test (sends_nothing c) refl
     where
       c : Call
-      c = (session_next b (polled_as s live.names) z).0
+      c = (session_next b (names_for_poll s live.names) z).0
 
       by_test : (d : Bool) → sends_nothing c ≡ d → d ≡ true
       by_test true e = refl
@@ -193,7 +193,7 @@ module _ {B : Type 0} (setting : Setting B) (server : LineServer setting.next) (
   Lone session = Phase s s session.live.pod.state (S_of setting server s k s_k session.live.rows) Unpolled (got_in setting server s k s_k session.steps) (said_in setting server s k s_k session.steps)
 
   lone_push : (steps : List Made) (made : Made) (live : Live B)
-      → Phase s s live.pod.state (S_of setting server s k s_k live.rows) Unpolled (λ b. got_in setting server s k s_k steps b ++ texts_in b (option_map (λ (took : Took). took.line.text) made.take) made.effects) (λ b. said_in setting server s k s_k steps b ++ replied_in s b made.effects)
+      → Phase s s live.pod.state (S_of setting server s k s_k live.rows) Unpolled (λ b. got_in setting server s k s_k steps b ++ texts_in b (option_map (λ (took : Took). took.line.text) made.take) made.effects) (λ b. said_in setting server s k s_k steps b ++ replies_of_step s b made.effects)
       → Lone (record { live = live; steps = steps ++ made ∷ [] })
   lone_push steps made live phase = subst (λ g. Phase s s live.pod.state (S_of setting server s k s_k live.rows) Unpolled g (said_in setting server s k s_k (steps ++ made ∷ []))) (λ i b. got_push setting server s k s_k steps made b i)
       (subst (λ g. Phase s s live.pod.state (S_of setting server s k s_k live.rows) Unpolled (λ b. got_in setting server s k s_k steps b ++ texts_in b (option_map (λ (took : Took). took.line.text) made.take) made.effects) g) (λ i b. said_push setting server s k s_k steps made b i) phase)
@@ -217,7 +217,7 @@ module _ {B : Type 0} (setting : Setting B) (server : LineServer setting.next) (
       abbrev rows2 : List (Row B)
       rows2 = after_settle setting.bodies (proc_of reply.0) (event_step live.pod reply.0).effects (after_poll t reply.1 live.rows)
 
-      other_call : Phase s s out.after (S_of setting server s k s_k rows2) Unpolled (λ b. got_in setting server s k s_k steps b ++ texts_in b None out.effects) (λ b. said_in setting server s k s_k steps b ++ replied_in s b out.effects)
+      other_call : Phase s s out.after (S_of setting server s k s_k rows2) Unpolled (λ b. got_in setting server s k s_k steps b ++ texts_in b None out.effects) (λ b. said_in setting server s k s_k steps b ++ replies_of_step s b out.effects)
       other_call = phase_other s s live.pod.state was (S_of setting server s k s_k live.rows) (S_of setting server s k s_k rows2) Unpolled Unpolled (got_in setting server s k s_k steps) (said_in setting server s k s_k steps) (λ b. texts_in b None out.effects) out (λ n. event_fades n live.pod reply.0)
           (λ b. (others_reply_nothing s b live.pod).0 t turn t_s reply.0) (λ b z. b)
           (λ lives b z row. row_settled s setting.bodies (proc_of reply.0) out.effects (after_poll t reply.1 live.rows) (record { tid = s; body = server.serving b; answer = z }) (row_polled_other s t t_s reply.1 live.rows ∙ row)
@@ -238,10 +238,10 @@ module _ {B : Type 0} (setting : Setting B) (server : LineServer setting.next) (
       its = phase_row s s live.pod.state (S_of setting server s k s_k live.rows) Unpolled (got_in setting server s k s_k steps) (said_in setting server s k s_k steps) lone (chosen_lives live.pod.state was s turn)
 
       abbrev next_s : Polled SessionBody
-      next_s = session_next its.body (polled_as s live.names) its.answer
+      next_s = session_next its.body (names_for_poll s live.names) its.answer
 
-      reply_s : setting.next row.body (polled_as s live.names) row.answer ≡ (next_s.0, server.serving next_s.1, next_s.2)
-      reply_s = let same = unsome (sym found ∙ its.row) in (λ i. setting.next (same i).body (polled_as s live.names) (same i).answer) ∙ server.serves its.body (polled_as s live.names) its.answer
+      reply_s : setting.next row.body (names_for_poll s live.names) row.answer ≡ (next_s.0, server.serving next_s.1, next_s.2)
+      reply_s = let same = unsome (sym found ∙ its.row) in (λ i. setting.next (same i).body (names_for_poll s live.names) (same i).answer) ∙ server.serves its.body (names_for_poll s live.names) its.answer
 
       abbrev out_s : Outcome
       out_s = machine_of (event_step live.pod next_s.0)
@@ -253,8 +253,8 @@ module _ {B : Type 0} (setting : Setting B) (server : LineServer setting.next) (
       same_row b z is = let same = unsome (sym is ∙ its.row) in (server.one_session b its.body (ap (λ (r : Row B). r.body) same), ap (λ (r : Row B). r.answer) same)
 
       own_call : IsQuiet setting server s live → ((b : ℕ) → list_all is_short (got_in setting server s k s_k steps b) ≡ true) → eqb null_id live.pod.state.births ≡ false
-          → Phase s s out_s.after (S_of setting server s k s_k rows_s) Unpolled (λ b. got_in setting server s k s_k steps b ++ texts_in b None out_s.effects) (λ b. said_in setting server s k s_k steps b ++ replied_in s b out_s.effects)
-      own_call quiet short low = phase_own s s live.pod was turn (S_of setting server s k s_k live.rows) (S_of setting server s k s_k rows_s) Unpolled Unpolled (got_in setting server s k s_k steps) (said_in setting server s k s_k steps) its.body its.answer (polled_as s live.names) same_row
+          → Phase s s out_s.after (S_of setting server s k s_k rows_s) Unpolled (λ b. got_in setting server s k s_k steps b ++ texts_in b None out_s.effects) (λ b. said_in setting server s k s_k steps b ++ replies_of_step s b out_s.effects)
+      own_call quiet short low = phase_own s s live.pod was turn (S_of setting server s k s_k live.rows) (S_of setting server s k s_k rows_s) Unpolled Unpolled (got_in setting server s k s_k steps) (said_in setting server s k s_k steps) its.body its.answer (names_for_poll s live.names) same_row
           (λ lives. row_settled s setting.bodies (proc_of next_s.0) out_s.effects (after_poll s (server.serving next_s.1) live.rows) (record { tid = s; body = server.serving next_s.1; answer = its.answer })
           (row_polled_own s (server.serving next_s.1) live.rows (record { tid = s; body = server.serving its.body; answer = its.answer }) its.row) (alive_then live.pod.state out_s.after out_s.effects (call_moved live.pod was next_s.0) s lives))
           (λ b z is. is) short (λ free. sends_none s next_s.0 (eqb s s) (eq-eqb s s refl) (quiet turn free its.body its.answer its.row)) low lone
@@ -279,14 +279,14 @@ module _ {B : Type 0} (setting : Setting B) (server : LineServer setting.next) (
       as_own : (r q : Polled B) → r ≡ q → Calls s q → Calls s r
       as_own r q e = subst (Calls s) (sym e)
 
-      called_behind : (t : ℕ) → choice live.pod.state ≡ Some t → (row : Row B) → row_of t live.rows ≡ Some row → (d : Bool) → eqb t s ≡ d → Calls t (setting.next row.body (polled_as t live.names) row.answer)
-      called_behind t turn row found false is = other_behind t turn is (setting.next row.body (polled_as t live.names) row.answer)
+      called_behind : (t : ℕ) → choice live.pod.state ≡ Some t → (row : Row B) → row_of t live.rows ≡ Some row → (d : Bool) → eqb t s ≡ d → Calls t (setting.next row.body (names_for_poll t live.names) row.answer)
+      called_behind t turn row found false is = other_behind t turn is (setting.next row.body (names_for_poll t live.names) row.answer)
       called_behind t turn row found true is =
           let same = eqb-true t s is in
           let turn_s = turn ∙ ap Some same in
           let found_s = ap (λ n. row_of n live.rows) (sym same) ∙ found in
-          subst (λ n. Calls n (setting.next row.body (polled_as n live.names) row.answer)) (sym same)
-          (as_own (setting.next row.body (polled_as s live.names) row.answer) ((next_s turn_s row found_s).0, server.serving (next_s turn_s row found_s).1, (next_s turn_s row found_s).2) (reply_s turn_s row found_s) (own_behind turn_s row found_s))
+          subst (λ n. Calls n (setting.next row.body (names_for_poll n live.names) row.answer)) (sym same)
+          (as_own (setting.next row.body (names_for_poll s live.names) row.answer) ((next_s turn_s row found_s).0, server.serving (next_s turn_s row found_s).1, (next_s turn_s row found_s).2) (reply_s turn_s row found_s) (own_behind turn_s row found_s))
 
       row_behind : (t : ℕ) → choice live.pod.state ≡ Some t → (o : Option (Row B)) → row_of t live.rows ≡ o → Behind (move_row setting.next setting.bodies live t o).live (move_row setting.next setting.bodies live t o).effects
       row_behind t turn None found = lone_idle live steps lone
@@ -309,7 +309,7 @@ module _ {B : Type 0} (setting : Setting B) (server : LineServer setting.next) (
       abbrev rows_t : List (Row B)
       rows_t = after_settle setting.bodies None (take_event live.pod took.event took.line.text).effects live.rows
 
-      take_phase : Phase s s out_t.after (S_of setting server s k s_k rows_t) Unpolled (λ b. got_in setting server s k s_k steps b ++ texts_in b (Some took.line.text) out_t.effects) (λ b. said_in setting server s k s_k steps b ++ replied_in s b out_t.effects)
+      take_phase : Phase s s out_t.after (S_of setting server s k s_k rows_t) Unpolled (λ b. got_in setting server s k s_k steps b ++ texts_in b (Some took.line.text) out_t.effects) (λ b. said_in setting server s k s_k steps b ++ replies_of_step s b out_t.effects)
       take_phase = phase_other s s live.pod.state was (S_of setting server s k s_k live.rows) (S_of setting server s k s_k rows_t) Unpolled Unpolled (got_in setting server s k s_k steps) (said_in setting server s k s_k steps) (λ b. texts_in b (Some took.line.text) out_t.effects) out_t (λ n. take_fades n live.pod took.event took.line.text)
           (λ b. (others_reply_nothing s b live.pod).1 took.event took.line.text) (λ b z. b)
           (λ lives b z row. row_settled s setting.bodies None out_t.effects live.rows (record { tid = s; body = server.serving b; answer = z }) row (alive_then live.pod.state out_t.after out_t.effects (take_moved live.pod was took.event took.line.text may) s lives))
@@ -333,7 +333,7 @@ module _ {B : Type 0} (setting : Setting B) (server : LineServer setting.next) (
   lone_moved session (Some took) was due quiet lone short low = take_behind session.live session.steps was lone took due
 
   pub lone_moves : (moves : List (Option Took)) (session : Session B) → Lawful session.live.pod.state None → CanGoOn setting moves session → Quiet setting server s moves session → Lone session
-      → ((a : ℕ) → list_all is_short (delivered_to a (steps_of (after_moves setting moves session).steps)) ≡ true) → (after_moves setting moves session).live.pod.state.births < null_id → Lone (after_moves setting moves session)
+      → ((a : ℕ) → list_all is_short (texts_delivered a (steps_of (after_moves setting moves session).steps)) ≡ true) → (after_moves setting moves session).live.pod.state.births < null_id → Lone (after_moves setting moves session)
   lone_moves [] session was can quiet lone short few = lone
   lone_moves (m ∷ ms) session was can quiet lone short few =
       let next = after_move setting session m in

@@ -5,7 +5,7 @@ use Rattle.answer_laws.proofs.OwnSteps.{alive_seen}
 use Rattle.answer_laws.proofs.Phases.{Phase.Starting, TellsAt, born_below, phase_first}
 use Rattle.answer_laws.proofs.Reports.{moves_short}
 use Rattle.answer_laws.proofs.Servings.{K_of, S_of, gone_fades, gone_stood, moved_fades, moved_lawful, there_before}
-use Rattle.answer_laws.specs.Clients.{IsAnsweredInTurn, delivered_to, replied_to}
+use Rattle.answer_laws.specs.Clients.{IsAnsweredInTurn, texts_delivered, replies_accepted}
 use Rattle.answer_laws.specs.Served.{Begins, CanGoOn, InWholeSessions, LineServer, Serves, TextsAreShort, after_move, after_moves, steps_of}
 use Rattle.answer_laws.specs.Sights.{Sight}
 use Rattle.answer_laws.specs.Stands.{block_of}
@@ -99,11 +99,11 @@ in_whole_sessions B setting server least most s k event place first moves birth 
         let silent = move_silent setting server s k s_k before birth was_before low_before
         (moves_silent setting server s k s_k moves one was_one can_moves low_before (moves_silent setting server s k s_k first start was can_first_part (omega (arith, low_before, (gone_fades setting s moves one).births)) (λ a. refl))) in
         let stood = Starting lives_s (session_opening event place) zero_answer alone.body alone.answer begins_s.row alone.row
-        (λ a low away. subst (λ xs. TellsAt s k a after.live.pod.state (session_opening event place) zero_answer alone.body alone.answer xs (replied_to s a (steps_of after.steps))) (sym (untold a low away))
+        (λ a low away. subst (λ xs. TellsAt s k a after.live.pod.state (session_opening event place) zero_answer alone.body alone.answer xs (replies_accepted s a (steps_of after.steps))) (sym (untold a low away))
         (subst (λ xs. TellsAt s k a after.live.pod.state (session_opening event place) zero_answer alone.body alone.answer [] xs) (sym (silent a)) (meet s k event place a s_k after.live.pod.state was_after begins_s.thread alone.body alone.answer alone.alone low)))
         refl silent in
         let end = after_moves setting later after in
-        phase_first s k end.live.pod.state (S_of setting server s k s_k end.live.rows) (K_of setting server s k s_k end.live.rows) (λ b. delivered_to b (steps_of end.steps)) (λ b. replied_to s b (steps_of end.steps))
+        phase_first s k end.live.pod.state (S_of setting server s k s_k end.live.rows) (K_of setting server s k s_k end.live.rows) (λ b. texts_delivered b (steps_of end.steps)) (λ b. replies_accepted s b (steps_of end.steps))
         (gone_stood setting server s k s_k later after was_after can_end.1 stood (alive_seen after.live.pod.state k (block_of None alone.alone.stand) (ap (λ (v : Sight). v.waits) alone.alone.seen)) ends.lives ends.sends short ends.few) a
 
 -- the two of the line server among the threads of scripts

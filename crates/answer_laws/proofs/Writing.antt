@@ -12,17 +12,17 @@ use Rattle.answer_laws.proofs.TalkSteps.{attends_seen, unborn_absent, unsome}
 use Rattle.answer_laws.proofs.Naming.{from_null_names}
 use Rattle.answer_laws.proofs.Openings.{sessions_are_reached}
 use Rattle.answer_laws.proofs.Servings.{Grows, gone_grows, moved_fades, moved_lawful}
-use Rattle.answer_laws.specs.Clients.{Step, replied_in, replied_to, reply_to}
+use Rattle.answer_laws.specs.Clients.{Step, replies_of_step, replies_accepted, reply_to}
 use Rattle.answer_laws.specs.Served.{CanGoOn, after_move, after_moves, step_of, steps_of}
 use Rattle.answer_laws.specs.Written.{ClientsAreWritten, RepliesAreWritten, is_reply_of, is_reply_to, replies_are_of, text_lines}
-use Rattle.lwp_types.specs.Names.{polled_as}
+use Rattle.lwp_types.specs.Names.{names_for_poll}
 use Rattle.pod_laws.proofs.Opening.{Lawful-opening}
 use Rattle.pod_runner.specs.Play.{play}
 use Rattle.pod_runner.specs.Session as Sessions
 use Rattle.pod_runner.specs.Session.{Session, Setting, call_move, move, move_by, move_row, opening_session, row_of, take_move}
 use Rattle.pod_runner.specs.declared.session.Row.{Row}
 use Rattle.pod_runner.specs.declared.session.Took.{Took}
-use Rattle.script_answers.specs.Replies.{Known, agent_event, agents_after, call_in, is_event, known_in, known_step, nothing_known, replies_in, reply_line, told_by, with_agent}
+use Rattle.script_answers.specs.Replies.{Known, agent_event, agents_after, call_in, is_event, known_after_steps, known_after_step, nothing_known, replies_in, reply_line, texts_told, with_agent}
 use Rattle.script_answers.specs.Replies.{agent_born as asked_of}
 use Rattle.script_program.specs.Bodies.{bodies_of}
 use Rattle.script_program.specs.declared.body.ThreadBody.{ThreadBody}
@@ -38,7 +38,7 @@ use Rattle.lwp_types.specs.Choice.{choice}
 use Rattle.lwp_types.specs.CountLaws.{count_found_and, one}
 use Rattle.lwp_types.specs.Counts.{is_timed, timers_of}
 use Rattle.lwp_types.specs.Lawful.{Lawful}
-use Rattle.lwp_types.specs.Messages.{received_from, after_reply, without_letter, with_holding}
+use Rattle.lwp_types.specs.Messages.{received_letter, after_reply, without_letter, with_holding}
 use Rattle.lwp_types.specs.State.{Outcome, State, ThreadRow, is_agent, is_id, is_not_blocked, is_number, passes, still, thread_of}
 use Rattle.lwp_types.specs.Step.{case_of, end_effects, ends, own_effects, step, step_by, step_if, step_outcome}
 use Rattle.lwp_types.specs.Unblock.{unblock, zero_answer}
@@ -50,15 +50,15 @@ use Rattle.lwp_types.specs.declared.rows.Block.{Block}
 use Rattle.lwp_types.specs.declared.rows.Letter.{Letter}
 use Rattle.pod_events.proofs.MildCalls.{case_toll, is_tame}
 use Rattle.pod_events.specs.Events.{EventState, is_trapped, rites_event}
-use Rattle.pod_events.specs.Rites.{after_first_report, as_rites, report_text, reports_after, rites_said}
+use Rattle.pod_events.specs.Rites.{after_first_report, as_rites, report_text, reports_after, after_rites}
 use Rattle.pod_events.specs.Step.{event_step}
-use Rattle.pod_events.specs.Traps.{Trapping, after_call as traps_made, after_call_as, after_machine_step, after_trap, after_trap_and_call as traps_called, agent_event_of, but_call, is_catch, is_given, notice, refused_by, trap_of, trap_refusal}
+use Rattle.pod_events.specs.Traps.{Trapping, after_call as traps_made, after_call_as, after_machine_step, after_trap, after_trap_and_call as traps_called, agent_event_of, but_call, is_catch, is_given, notice, after_refusal, trap_of, trap_refusal}
 use Rattle.pod_laws.proofs.Chosen.{chosen}
 use Rattle.pod_laws.proofs.Elements.{differ}
 use Rattle.pod_laws.proofs.EveryStep.{Lawful-step}
 use Rattle.pod_laws.proofs.Rowed.{once_threads}
 use Rattle.pod_laws.specs.Waiters.{is_told, is_zero}
-use Rattle.pod_runner.specs.Calls.{answered_by, made_answered, made_by, made_in, made_now}
+use Rattle.pod_runner.specs.Calls.{call_after_effect, call_with_answer, call_by_effect, call_of_effects, unanswered_call}
 use Rattle.pod_runner.specs.Calls.{is_zero as made_zero}
 use Rattle.pod_runner.specs.Session.{thread_in}
 use Rattle.pod_runner.specs.declared.session.Made.{Made}
@@ -83,15 +83,15 @@ abbrev pub last_thread : Option ℕ → List Answer → Option ℕ
 last_thread o xs = fold (λ before x. thread_in x) o xs
 
 -- a call goes on as the same call
-pub same_call : (m : Made) (es : List Effect) → ((fold answered_by m es).call ≡ m.call) × ((fold answered_by m es).tid ≡ m.tid)
+pub same_call : (m : Made) (es : List Effect) → ((fold call_after_effect m es).call ≡ m.call) × ((fold call_after_effect m es).tid ≡ m.tid)
 same_call m [] = (refl, refl)
-same_call m (e ∷ es) = let rest = same_call (answered_by m e) es in let one = by_effect e in (rest.0 ∙ one.0, rest.1 ∙ one.1)
+same_call m (e ∷ es) = let rest = same_call (call_after_effect m e) es in let one = by_effect e in (rest.0 ∙ one.0, rest.1 ∙ one.1)
   where
-    by_test : (b : Bool) (a : Answer) → ((cond b (made_answered m a) m).call ≡ m.call) × ((cond b (made_answered m a) m).tid ≡ m.tid)
+    by_test : (b : Bool) (a : Answer) → ((cond b (call_with_answer m a) m).call ≡ m.call) × ((cond b (call_with_answer m a) m).tid ≡ m.tid)
     by_test true a = (refl, refl)
     by_test false a = (refl, refl)
 
-    by_effect : (e : Effect) → ((answered_by m e).call ≡ m.call) × ((answered_by m e).tid ≡ m.tid)
+    by_effect : (e : Effect) → ((call_after_effect m e).call ≡ m.call) × ((call_after_effect m e).tid ≡ m.tid)
     by_effect (effect.Answered t a) = by_test (eqb t m.tid) a
     by_effect (effect.Called t c) = (refl, refl)
     by_effect (effect.Exited t reg c a) = (refl, refl)
@@ -103,7 +103,7 @@ same_call m (e ∷ es) = let rest = same_call (answered_by m e) es in let one = 
     by_effect (effect.Rites a d) = (refl, refl)
 
 -- and is answered as its thread is
-pub heard_call : (m : Made) (es : List Effect) → ((fold answered_by m es).zero ≡ last_zero m.zero (answers_to m.tid es)) × ((fold answered_by m es).thread ≡ last_thread m.thread (answers_to m.tid es))
+pub heard_call : (m : Made) (es : List Effect) → ((fold call_after_effect m es).zero ≡ last_zero m.zero (answers_to m.tid es)) × ((fold call_after_effect m es).thread ≡ last_thread m.thread (answers_to m.tid es))
 heard_call m [] = (refl, refl)
 heard_call m (effect.Answered t a ∷ es) = by_test (eqb t m.tid) (λ n. heard_call n es)
   where
@@ -111,9 +111,9 @@ heard_call m (effect.Answered t a ∷ es) = by_test (eqb t m.tid) (λ n. heard_c
     push None rest = rest
     push (Some a) rest = a ∷ rest
 
-    by_test : (b : Bool) → ((n : Made) → ((fold answered_by n es).zero ≡ last_zero n.zero (answers_to n.tid es)) × ((fold answered_by n es).thread ≡ last_thread n.thread (answers_to n.tid es)))
-        → ((fold answered_by (cond b (made_answered m a) m) es).zero ≡ last_zero m.zero (push (cond b (Some a) None) (answers_to m.tid es))) × ((fold answered_by (cond b (made_answered m a) m) es).thread ≡ last_thread m.thread (push (cond b (Some a) None) (answers_to m.tid es)))
-    by_test true rest = rest (made_answered m a)
+    by_test : (b : Bool) → ((n : Made) → ((fold call_after_effect n es).zero ≡ last_zero n.zero (answers_to n.tid es)) × ((fold call_after_effect n es).thread ≡ last_thread n.thread (answers_to n.tid es)))
+        → ((fold call_after_effect (cond b (call_with_answer m a) m) es).zero ≡ last_zero m.zero (push (cond b (Some a) None) (answers_to m.tid es))) × ((fold call_after_effect (cond b (call_with_answer m a) m) es).thread ≡ last_thread m.thread (push (cond b (Some a) None) (answers_to m.tid es)))
+    by_test true rest = rest (call_with_answer m a)
     by_test false rest = rest m
 heard_call m (effect.Called t c ∷ es) = heard_call m es
 heard_call m (effect.Exited t reg c a ∷ es) = heard_call m es
@@ -125,19 +125,19 @@ heard_call m (effect.Trapped t e ∷ es) = heard_call m es
 heard_call m (effect.Rites a d ∷ es) = heard_call m es
 
 -- behind a call no other is taken
-pub call_stays : (m : Made) (es : List Effect) → fold made_by (Some m) es ≡ Some (fold answered_by m es)
+pub call_stays : (m : Made) (es : List Effect) → fold call_by_effect (Some m) es ≡ Some (fold call_after_effect m es)
 call_stays m [] = refl
-call_stays m (e ∷ es) = call_stays (answered_by m e) es
+call_stays m (e ∷ es) = call_stays (call_after_effect m e) es
 
 -- effects that tell of no call
 abbrev pub Callless : List Effect → Type 0
-Callless es = (ys : List Effect) → made_in ys ≡ None → made_in (es ++ ys) ≡ None
+Callless es = (ys : List Effect) → call_of_effects ys ≡ None → call_of_effects (es ++ ys) ≡ None
 
 callless_then : (xs ys : List Effect) → Callless xs → Callless ys → Callless (xs ++ ys)
-callless_then xs ys one two zs none = ap made_in (append_assoc xs ys zs) ∙ one (ys ++ zs) (two zs none)
+callless_then xs ys one two zs none = ap call_of_effects (append_assoc xs ys zs) ∙ one (ys ++ zs) (two zs none)
 
-callless_whole : (es : List Effect) → Callless es → made_in es ≡ None
-callless_whole es none = ap made_in (sym (append-nil es)) ∙ none [] refl
+callless_whole : (es : List Effect) → Callless es → call_of_effects es ≡ None
+callless_whole es none = ap call_of_effects (sym (append-nil es)) ∙ none [] refl
 
 callless_tame : (es : List Effect) → list_all is_tame es ≡ true → Callless es
 callless_tame [] tame ys none = none
@@ -182,10 +182,10 @@ callless_but st c = by_choice (choice st)
         callless_then made.others (own_effects t made.own ++ end_effects made.after) (callless_tame made.others (case_toll st t c).tame)
         (callless_then (own_effects t made.own) (end_effects made.after) (own_none t made.own) (end_none made.after (ends made.after)))
 
-callless_said : (after : State) (es : List Effect) (reports : List ℕ) → Callless es → made_in (rites_said after es reports).effects ≡ None
+callless_said : (after : State) (es : List Effect) (reports : List ℕ) → Callless es → call_of_effects (after_rites after es reports).effects ≡ None
 callless_said after es reports callless = by_armed (is_event_armed after rites_event) reports
   where
-    by_armed : (b : Bool) (rs : List ℕ) → made_in (cond b (after_first_report after es rs) (record { state = after; reports = rs; effects = es })).effects ≡ None
+    by_armed : (b : Bool) (rs : List ℕ) → call_of_effects (cond b (after_first_report after es rs) (record { state = after; reports = rs; effects = es })).effects ≡ None
     by_armed true [] = callless_whole es callless
     by_armed false rs = callless_whole es callless
     by_armed true (dead ∷ later) = let sent = (deliver after rites_event (report_text dead)).effects in callless_whole (es ++ map (as_rites dead) sent) (callless_then es (map (as_rites dead) sent) callless (callless_rites dead sent (tame_deliver after rites_event (report_text dead))))
@@ -238,7 +238,7 @@ pub record Says (t : ℕ) (st : State) (c : Call) (es : List Effect) : Type 0 wh
 pub data Form (t : ℕ) (st : State) (c : Call) (es : List Effect) : Type 0 where
   Plain : Says t st c es → Form t st c es
   Behind : (e : ℕ) (fs : List Effect) → es ≡ effect.Trapped t e ∷ fs → Says t st c fs → Form t st c es
-  Muffled : made_in es ≡ None → ((s a : ℕ) → replied_in s a es ≡ []) → Form t st c es
+  Muffled : call_of_effects es ≡ None → ((s a : ℕ) → replies_of_step s a es ≡ []) → Form t st c es
 
 module _ (t : ℕ) (c : Call) where
   abbrev Headed : List Effect → Type 0
@@ -247,7 +247,7 @@ module _ (t : ℕ) (c : Call) where
   headed_append : (es xs : List Effect) → Headed es → Headed (es ++ xs)
   headed_append es xs h = ap (λ zs. zs ++ xs) h ∙ ap (λ zs. effect.Called t c ∷ zs) (sym (ap (λ zs. drop 1 (zs ++ xs)) h))
 
-  headed_said : (after : State) (es : List Effect) (reports : List ℕ) → Headed es → Headed (rites_said after es reports).effects
+  headed_said : (after : State) (es : List Effect) (reports : List ℕ) → Headed es → Headed (after_rites after es reports).effects
   headed_said after es reports h = by_armed (is_event_armed after rites_event) reports
     where
       by_armed : (b : Bool) (rs : List ℕ) → Headed (cond b (after_first_report after es rs) (record { state = after; reports = rs; effects = es })).effects
@@ -255,7 +255,7 @@ module _ (t : ℕ) (c : Call) where
       by_armed false rs = h
       by_armed true (dead ∷ later) = headed_append es (map (as_rites dead) (deliver after rites_event (report_text dead)).effects) h
 
-  said_answers : (after : State) (es : List Effect) (reports : List ℕ) → Lawful after None → IsFree after t → answers_to t (rites_said after es reports).effects ≡ answers_to t es
+  said_answers : (after : State) (es : List Effect) (reports : List ℕ) → Lawful after None → IsFree after t → answers_to t (after_rites after es reports).effects ≡ answers_to t es
   said_answers after es reports was free = by_armed (is_event_armed after rites_event) reports
     where
       by_armed : (b : Bool) (rs : List ℕ) → answers_to t (cond b (after_first_report after es rs) (record { state = after; reports = rs; effects = es })).effects ≡ answers_to t es
@@ -281,7 +281,7 @@ module _ (st : State) (was : Lawful st None) (t : ℕ) (turn : choice st ≡ Som
       by_refusal e None = refl
       by_refusal e (Some why) = refl
 
-      by_agent : (b : Bool) → Headed t c (cond b (refused_by st trapped t c error.InUse) (after_machine_step trapped (step st c))).effects
+      by_agent : (b : Bool) → Headed t c (cond b (after_refusal st trapped t c error.InUse) (after_machine_step trapped (step st c))).effects
       by_agent true = refl
       by_agent false = headed_step
 
@@ -329,7 +329,7 @@ module _ (st : State) (was : Lawful st None) (t : ℕ) (turn : choice st ≡ Som
       by_kind there false true e is = subst (λ made. Replied v (step_outcome t (call.Reply v text) made)) (sym is) (replied_made v text (with_zero (unblock (answer.Reply text) v (record st { letters = without_letter v st.letters }))) (answer.Reply text ∷ zero_answer ∷ []) (rw e refl) refl (λ any. there) (woken true e))
       by_kind there false false e is = subst (λ made. Replied v (step_outcome t (call.Reply v text) made)) (sym is) (replied_made v text (with_zero (unblock (answer.Reply text) v (record st { letters = without_letter v st.letters }))) (zero_answer ∷ []) (rw e refl) refl (λ any. there) (woken false e))
 
-      by_checks : Checked st (is_no_id st v ∷ (is_none (received_from st.letters t v), error.NoWait) ∷ (passes (λ (letter : Letter). nat_lt letter.room (length text)) (received_from st.letters t v), error.InvalidArg) ∷ []) (with_zero (after_reply v text st)) → Replied v (step_outcome t (call.Reply v text) (case_of st t (call.Reply v text)))
+      by_checks : Checked st (is_no_id st v ∷ (is_none (received_letter st.letters t v), error.NoWait) ∷ (passes (λ (letter : Letter). nat_lt letter.room (length text)) (received_letter st.letters t v), error.InvalidArg) ∷ []) (with_zero (after_reply v text st)) → Replied v (step_outcome t (call.Reply v text) (case_of st t (call.Reply v text)))
       by_checks (Struck e is) = subst (λ made. Replied v (step_outcome t (call.Reply v text) made)) (sym is) (replied_made v text (refusal_case st e) (answer.Refused e ∷ []) refl refl (λ any. absurd (cc)) free_now)
       by_checks (Free passed is) = by_kind (not_not (is_id st v) passed.0) (is_agent st v) (eqb v t) refl is
 
@@ -366,7 +366,7 @@ module _ (st : State) (was : Lawful st None) (t : ℕ) (turn : choice st ≡ Som
       refused_so : answers_to t (effect.Called t (call.Agent e) ∷ effect.Answered t (answer.Refused error.InUse) ∷ []) ≡ answer.Refused error.InUse ∷ []
       refused_so = rw (eq-eqb t t refl) refl
 
-      by_agent : (b : Bool) → Given (cond b (refused_by st trapped t (call.Agent e) error.InUse) (after_machine_step trapped (step st (call.Agent e))))
+      by_agent : (b : Bool) → Given (cond b (after_refusal st trapped t (call.Agent e) error.InUse) (after_machine_step trapped (step st (call.Agent e))))
       by_agent true = record { new = λ b given. absurd (let bad : None ≡ Some b = ap (last_thread None) (sym refused_so) ∙ given in cc); lawful = was; free = free_now }
       by_agent false = record { new = stepped_so.0; lawful = Lawful-step st was (call.Agent e); free = stepped_so.1 }
 
@@ -374,7 +374,7 @@ module _ (st : State) (was : Lawful st None) (t : ℕ) (turn : choice st ≡ Som
 
   module _ (trapped : List Bool) (reports : List ℕ) where
     abbrev All : Call → List Effect
-    All c = (rites_said (traps_made st trapped t c).state (traps_made st trapped t c).effects reports).effects
+    All c = (after_rites (traps_made st trapped t c).state (traps_made st trapped t c).effects reports).effects
 
     headed_all : (c : Call) → Headed t c (All c)
     headed_all c = headed_said t c (traps_made st trapped t c).state (traps_made st trapped t c).effects reports (headed_made trapped c)
@@ -403,7 +403,7 @@ module _ (st : State) (was : Lawful st None) (t : ℕ) (turn : choice st ≡ Som
         let out = traps_made st trapped t (call.Agent e) in
         g.new b (ap (last_thread None) (sym (rest_told (call.Agent e) ∙ said_answers t (call.Agent e) out.state out.effects reports g.lawful g.free)) ∙ given)
 
-  says_made : (trapped : List Bool) (c : Call) (reports : List ℕ) → Says t st c (rites_said (traps_made st trapped t c).state (traps_made st trapped t c).effects reports).effects
+  says_made : (trapped : List Bool) (c : Call) (reports : List ℕ) → Says t st c (after_rites (traps_made st trapped t c).state (traps_made st trapped t c).effects reports).effects
   says_made trapped c reports = record {
     rest = drop 1 (All trapped reports c);
     is = headed_all trapped reports c;
@@ -413,7 +413,7 @@ module _ (st : State) (was : Lawful st None) (t : ℕ) (turn : choice st ≡ Som
     };
   }
 
-trapped_said : (t e : ℕ) (after : State) (es : List Effect) (reports : List ℕ) → (rites_said after (effect.Trapped t e ∷ es) reports).effects ≡ effect.Trapped t e ∷ (rites_said after es reports).effects
+trapped_said : (t e : ℕ) (after : State) (es : List Effect) (reports : List ℕ) → (after_rites after (effect.Trapped t e ∷ es) reports).effects ≡ effect.Trapped t e ∷ (after_rites after es reports).effects
 trapped_said t e after es reports = by_armed (is_event_armed after rites_event) reports
   where
     by_armed : (b : Bool) (rs : List ℕ) → (cond b (after_first_report after (effect.Trapped t e ∷ es) rs) (record { state = after; reports = rs; effects = effect.Trapped t e ∷ es })).effects ≡ effect.Trapped t e ∷ (cond b (after_first_report after es rs) (record { state = after; reports = rs; effects = es })).effects
@@ -423,7 +423,7 @@ trapped_said t e after es reports = by_armed (is_event_armed after rites_event) 
 
 module _ (es : EventState) (was : Lawful es.state None) (t : ℕ) (turn : choice es.state ≡ Some t) (c : Call) where
   abbrev Done : Trapping → List Effect
-  Done out = (rites_said out.state out.effects (reports_after es.state out.state es.reports out.effects)).effects
+  Done out = (after_rites out.state out.effects (reports_after es.state out.state es.reports out.effects)).effects
 
   form_by : (p : Option ℕ) → Form t es.state c (Done (traps_called es.state es.trapped t c p))
   form_by None = let out = traps_made es.state es.trapped t c in Plain (says_made es.state was t turn es.trapped c (reports_after es.state out.state es.reports out.effects))
@@ -439,7 +439,7 @@ module _ (es : EventState) (was : Lawful es.state None) (t : ℕ) (turn : choice
       by_given true d =
           let out = traps_made es.state es.trapped t c in
           let reports = reports_after es.state out.state es.reports (effect.Trapped t e ∷ out.effects) in
-          Behind e (rites_said out.state out.effects reports).effects (trapped_said t e out.state out.effects reports) (says_made es.state was t turn es.trapped c reports)
+          Behind e (after_rites out.state out.effects reports).effects (trapped_said t e out.state out.effects reports) (says_made es.state was t turn es.trapped c reports)
       by_given false true = muffled (call.ExcNotify e)
       by_given false false = muffled (call.Destroy t)
 
@@ -466,10 +466,10 @@ asked event (Some made) = asked_of event made
 
 -- of a step's call, and of the accepted replies of s to a in the step
 pub record Facts (s e a : ℕ) (st : State) (o : Option Made) (rs : List (List ℕ)) : Type 0 where
-  pub written : is_reply_of s a o ≡ true → told_by (a ∷ []) o ≡ text_lines rs
+  pub written : is_reply_of s a o ≡ true → texts_told (a ∷ []) o ≡ text_lines rs
   pub unborn : st.births ≤ a → rs ≡ []
   pub new : (b : ℕ) → asked (Some e) o ≡ Some b → b ≡ st.births
-  pub untold : told_by [] o ≡ []
+  pub untold : texts_told [] o ≡ []
 
 no_facts : (s e a : ℕ) (st : State) → Facts s e a st None []
 no_facts s e a st = record { written = λ of. refl; unborn = λ low. refl; new = λ b bad. absurd (cc); untold = refl }
@@ -509,10 +509,10 @@ module _ (s e a : ℕ) (st : State) (was : Lawful st None) (t : ℕ) where
 
     -- by the call's own words
     facts_made : (c : Call) → Heard st c (answers_to t rest) → (m : Made) → m.call ≡ c → m.tid ≡ t → m.zero ≡ last_zero false (answers_to t rest) → m.thread ≡ last_thread None (answers_to t rest)
-        → Facts s e a st (Some m) (replied_in s a (effect.Called t c ∷ rest))
+        → Facts s e a st (Some m) (replies_of_step s a (effect.Called t c ∷ rest))
     facts_made c heard m call_is tid_is zero_is thread_is = by_kind (kind_of c)
       where
-        told_is : (agents : List ℕ) → told_by agents (Some m) ≡ cond z (reply_line agents c) []
+        told_is : (agents : List ℕ) → texts_told agents (Some m) ≡ cond z (reply_line agents c) []
         told_is agents = λ i. cond (zero_is i) (reply_line agents (call_is i)) []
 
         of_is : is_reply_of s a (Some m) ≡ (not (is_reply_to a c && z) || eqb t s)
@@ -527,7 +527,7 @@ module _ (s e a : ℕ) (st : State) (was : Lawful st None) (t : ℕ) where
         never : (o : Option ℕ) → o ≡ None → (b : ℕ) → asked (Some e) (Some m) ≡ Some b → agent_event c ≡ o → b ≡ st.births
         never o none b given is = absurd (let bad : None ≡ Some b = sym (ap (λ o. cond (is_event (Some e) o) (last_thread None (answers_to t rest)) None) (is ∙ none)) ∙ sym asked_is ∙ given in cc)
 
-        by_kind : Kind c → Facts s e a st (Some m) (replied_in s a (effect.Called t c ∷ rest))
+        by_kind : Kind c → Facts s e a st (Some m) (replies_of_step s a (effect.Called t c ∷ rest))
         by_kind (IsOther lines replies asks) = record {
           written = λ of. told_is (a ∷ []) ∙ none_of z (reply_line (a ∷ []) c) (lines (a ∷ [])) ∙ ap text_lines (sym (no_line a (eqb t s && list_any (is_told s is_zero) rest) c (replies a)));
           unborn = λ low. no_line a (eqb t s && list_any (is_told s is_zero) rest) c (replies a);
@@ -561,19 +561,19 @@ module _ (s e a : ℕ) (st : State) (was : Lawful st None) (t : ℕ) where
                 let there = (heard.reply v text is).1 (sym (heard.reply v text is).0 ∙ sym (any_is v text is e) ∙ f) in
                 differ (sym there ∙ ap (is_id st) (eqb-true v a g) ∙ unborn_absent st was a low)
 
-    facts_called : (c : Call) → Heard st c (answers_to t rest) → Facts s e a st (made_in (effect.Called t c ∷ rest)) (replied_in s a (effect.Called t c ∷ rest))
+    facts_called : (c : Call) → Heard st c (answers_to t rest) → Facts s e a st (call_of_effects (effect.Called t c ∷ rest)) (replies_of_step s a (effect.Called t c ∷ rest))
     facts_called c heard =
-        let m = made_now t c in
-        subst (λ o. Facts s e a st o (replied_in s a (effect.Called t c ∷ rest))) (sym (call_stays m rest))
-        (facts_made c heard (fold answered_by m rest) (same_call m rest).0 (same_call m rest).1 (heard_call m rest).0 (heard_call m rest).1)
+        let m = unanswered_call t c in
+        subst (λ o. Facts s e a st o (replies_of_step s a (effect.Called t c ∷ rest))) (sym (call_stays m rest))
+        (facts_made c heard (fold call_after_effect m rest) (same_call m rest).0 (same_call m rest).1 (heard_call m rest).0 (heard_call m rest).1)
 
-  facts_said : (c : Call) (es : List Effect) → Says t st c es → Facts s e a st (made_in es) (replied_in s a es)
-  facts_said c es says = subst (λ es. Facts s e a st (made_in es) (replied_in s a es)) (sym says.is) (facts_called says.rest c says.heard)
+  facts_said : (c : Call) (es : List Effect) → Says t st c es → Facts s e a st (call_of_effects es) (replies_of_step s a es)
+  facts_said c es says = subst (λ es. Facts s e a st (call_of_effects es) (replies_of_step s a es)) (sym says.is) (facts_called says.rest c says.heard)
 
-  pub facts_form : (c : Call) (es : List Effect) → Form t st c es → Facts s e a st (made_in es) (replied_in s a es)
+  pub facts_form : (c : Call) (es : List Effect) → Form t st c es → Facts s e a st (call_of_effects es) (replies_of_step s a es)
   facts_form c es (Plain says) = facts_said c es says
-  facts_form c es (Behind n fs is says) = subst (λ es. Facts s e a st (made_in es) (replied_in s a es)) (sym is) (facts_said c fs says)
-  facts_form c es (Muffled none mute) = subst (λ o. Facts s e a st o (replied_in s a es)) (sym none) (subst (Facts s e a st None) (sym (mute s a)) (no_facts s e a st))
+  facts_form c es (Behind n fs is says) = subst (λ es. Facts s e a st (call_of_effects es) (replies_of_step s a es)) (sym is) (facts_said c fs says)
+  facts_form c es (Muffled none mute) = subst (λ o. Facts s e a st o (replies_of_step s a es)) (sym none) (subst (Facts s e a st None) (sym (mute s a)) (no_facts s e a st))
 
 -- ---- over a session
 
@@ -595,40 +595,40 @@ module _ {B : Type 0} (setting : Setting B) (s e a : ℕ) where
   call_of session m = call_in (made_of session m).take (made_of session m).effects
 
   abbrev known : Session B → Known
-  known session = known_in (Some e) session.steps
+  known session = known_after_steps (Some e) session.steps
 
   abbrev said : Session B → List (List ℕ)
-  said session = replied_to s a (steps_of session.steps)
+  said session = replies_accepted s a (steps_of session.steps)
 
   pushed : (session : Session B) (m : Option Took) → (after_move setting session m).steps ≡ session.steps ++ made_of session m ∷ []
   pushed session None = refl
   pushed session (Some took) = refl
 
   agents_then : (session : Session B) (m : Option Took) → (known (after_move setting session m)).agents ≡ with_agent (known session).agents (asked (Some e) (call_of session m))
-  agents_then session m = ap (λ steps. (known_in (Some e) steps).agents) (pushed session m) ∙ ap (λ (k : Known). k.agents) (fold_push (known_step (Some e)) nothing_known session.steps (made_of session m)) ∙ by_call (call_of session m)
+  agents_then session m = ap (λ steps. (known_after_steps (Some e) steps).agents) (pushed session m) ∙ ap (λ (k : Known). k.agents) (fold_push (known_after_step (Some e)) nothing_known session.steps (made_of session m)) ∙ by_call (call_of session m)
     where
       by_call : (o : Option Made) → agents_after (Some e) (known session).agents o ≡ with_agent (known session).agents (asked (Some e) o)
       by_call None = refl
       by_call (Some made) = refl
 
-  replies_then : (session : Session B) (m : Option Took) → (known (after_move setting session m)).replies ≡ (known session).replies ++ told_by (known session).agents (call_of session m)
-  replies_then session m = ap (λ steps. (known_in (Some e) steps).replies) (pushed session m) ∙ ap (λ (k : Known). k.replies) (fold_push (known_step (Some e)) nothing_known session.steps (made_of session m))
+  replies_then : (session : Session B) (m : Option Took) → (known (after_move setting session m)).replies ≡ (known session).replies ++ texts_told (known session).agents (call_of session m)
+  replies_then session m = ap (λ steps. (known_after_steps (Some e) steps).replies) (pushed session m) ∙ ap (λ (k : Known). k.replies) (fold_push (known_after_step (Some e)) nothing_known session.steps (made_of session m))
 
-  said_then : (session : Session B) (m : Option Took) → said (after_move setting session m) ≡ said session ++ replied_in s a (made_of session m).effects
-  said_then session m = ap (λ steps. replied_to s a (steps_of steps)) (pushed session m) ∙ ap (replied_to s a) (map-append step_of session.steps (made_of session m ∷ []))
-      ∙ flat_map-append (λ (step : Step). replied_in s a step.effects) (steps_of session.steps) (step_of (made_of session m) ∷ []) ∙ ap (λ xs. said session ++ xs) (append-nil (replied_in s a (made_of session m).effects))
+  said_then : (session : Session B) (m : Option Took) → said (after_move setting session m) ≡ said session ++ replies_of_step s a (made_of session m).effects
+  said_then session m = ap (λ steps. replies_accepted s a (steps_of steps)) (pushed session m) ∙ ap (replies_accepted s a) (map-append step_of session.steps (made_of session m ∷ []))
+      ∙ flat_map-append (λ (step : Step). replies_of_step s a step.effects) (steps_of session.steps) (step_of (made_of session m) ∷ []) ∙ ap (λ xs. said session ++ xs) (append-nil (replies_of_step s a (made_of session m).effects))
 
   -- ---- a move
 
-  move_facts : (session : Session B) (m : Option Took) → Lawful session.live.pod.state None → Facts s e a session.live.pod.state (call_of session m) (replied_in s a (made_of session m).effects)
+  move_facts : (session : Session B) (m : Option Took) → Lawful session.live.pod.state None → Facts s e a session.live.pod.state (call_of session m) (replies_of_step s a (made_of session m).effects)
   unfolding move call_move take_move
   move_facts session None was = by_choice (choice session.live.pod.state) refl
     where
-      by_row : (t : ℕ) → choice session.live.pod.state ≡ Some t → (o : Option (Row B)) → Facts s e a session.live.pod.state (made_in (move_row setting.next setting.bodies session.live t o).effects) (replied_in s a (move_row setting.next setting.bodies session.live t o).effects)
+      by_row : (t : ℕ) → choice session.live.pod.state ≡ Some t → (o : Option (Row B)) → Facts s e a session.live.pod.state (call_of_effects (move_row setting.next setting.bodies session.live t o).effects) (replies_of_step s a (move_row setting.next setting.bodies session.live t o).effects)
       by_row t turn None = no_facts s e a session.live.pod.state
-      by_row t turn (Some row) = let c = (setting.next row.body (polled_as t session.live.names) row.answer).0 in facts_form s e a session.live.pod.state was t c (event_step session.live.pod c).effects (form_of session.live.pod was t turn c)
+      by_row t turn (Some row) = let c = (setting.next row.body (names_for_poll t session.live.names) row.answer).0 in facts_form s e a session.live.pod.state was t c (event_step session.live.pod c).effects (form_of session.live.pod was t turn c)
 
-      by_choice : (o : Option ℕ) → choice session.live.pod.state ≡ o → Facts s e a session.live.pod.state (made_in (move_by setting.next setting.bodies session.live o).effects) (replied_in s a (move_by setting.next setting.bodies session.live o).effects)
+      by_choice : (o : Option ℕ) → choice session.live.pod.state ≡ o → Facts s e a session.live.pod.state (call_of_effects (move_by setting.next setting.bodies session.live o).effects) (replies_of_step s a (move_by setting.next setting.bodies session.live o).effects)
       by_choice None is = no_facts s e a session.live.pod.state
       by_choice (Some t) is = by_row t is (row_of t session.live.rows)
   move_facts session (Some took) was = subst (Facts s e a session.live.pod.state None) (sym ((others_reply_nothing s a session.live.pod).1 took.event took.line.text)) (no_facts s e a session.live.pod.state)
@@ -675,25 +675,25 @@ module _ {B : Type 0} (setting : Setting B) (s e a : ℕ) where
       → (end : List ℕ) → end ≡ a ∷ [] → More (known (after_move setting session m)).agents end → Stage session → Stage (after_move setting session m)
   stage_next session m was low of end last more (Before none unsaid silent) = by_asked (asked (Some e) (call_of session m)) (agents_then session m ∙ ap (λ xs. with_agent xs (asked (Some e) (call_of session m))) none)
     where
-      facts : Facts s e a session.live.pod.state (call_of session m) (replied_in s a (made_of session m).effects)
+      facts : Facts s e a session.live.pod.state (call_of session m) (replies_of_step s a (made_of session m).effects)
       facts = move_facts session m was
 
       said_none : said (after_move setting session m) ≡ []
-      said_none = said_then session m ∙ both_none (said session) (replied_in s a (made_of session m).effects) silent (facts.unborn (low none))
+      said_none = said_then session m ∙ both_none (said session) (replies_of_step s a (made_of session m).effects) silent (facts.unborn (low none))
 
       replies_none : (known (after_move setting session m)).replies ≡ []
-      replies_none = replies_then session m ∙ both_none (known session).replies (told_by (known session).agents (call_of session m)) unsaid (ap (λ xs. told_by xs (call_of session m)) none ∙ facts.untold)
+      replies_none = replies_then session m ∙ both_none (known session).replies (texts_told (known session).agents (call_of session m)) unsaid (ap (λ xs. texts_told xs (call_of session m)) none ∙ facts.untold)
 
       by_asked : (o : Option ℕ) → (known (after_move setting session m)).agents ≡ with_agent [] o → Stage (after_move setting session m)
       by_asked None agents = Before agents replies_none said_none
       by_asked (Some b) agents = During (agents ∙ ap (λ n. n ∷ []) (first_is (known (after_move setting session m)).agents end b agents last more)) (replies_none ∙ ap text_lines (sym said_none))
   stage_next session m was low of end last more (During one told_so) = by_asked (asked (Some e) (call_of session m)) (agents_then session m ∙ ap (λ xs. with_agent xs (asked (Some e) (call_of session m))) one)
     where
-      facts : Facts s e a session.live.pod.state (call_of session m) (replied_in s a (made_of session m).effects)
+      facts : Facts s e a session.live.pod.state (call_of session m) (replies_of_step s a (made_of session m).effects)
       facts = move_facts session m was
 
       replies_so : (known (after_move setting session m)).replies ≡ text_lines (said (after_move setting session m))
-      replies_so = replies_then session m ∙ (λ i. told_so i ++ (ap (λ xs. told_by xs (call_of session m)) one ∙ facts.written of) i) ∙ spelled_append (said session) (replied_in s a (made_of session m).effects) ∙ ap text_lines (sym (said_then session m))
+      replies_so = replies_then session m ∙ (λ i. told_so i ++ (ap (λ xs. texts_told xs (call_of session m)) one ∙ facts.written of) i) ∙ spelled_append (said session) (replies_of_step s a (made_of session m).effects) ∙ ap text_lines (sym (said_then session m))
 
       by_asked : (o : Option ℕ) → (known (after_move setting session m)).agents ≡ with_agent (a ∷ []) o → Stage (after_move setting session m)
       by_asked None agents = During agents replies_so
@@ -723,14 +723,14 @@ replies_are_written B setting least most takes n defined s e a agents of =
     let r = sessions_are_reached B setting takes n defined in
     let start = opening_session setting in
     let is : (play setting takes n).steps ≡ (after_moves setting r.moves start).steps = ap (λ (x : Session B). x.steps) r.is in
-    let last : (known_in (Some e) (after_moves setting r.moves start).steps).agents ≡ a ∷ [] = ap (λ steps. (known_in (Some e) steps).agents) (sym is) ∙ agents in
-    ap (λ steps. (known_in (Some e) steps).replies) is
+    let last : (known_after_steps (Some e) (after_moves setting r.moves start).steps).agents ≡ a ∷ [] = ap (λ steps. (known_after_steps (Some e) steps).agents) (sym is) ∙ agents in
+    ap (λ steps. (known_after_steps (Some e) steps).replies) is
     ∙ written_of setting s e a (after_moves setting r.moves start) last (stages setting s e a r.moves start (Lawful-opening setting.params least most) r.can (Before refl refl refl) last (ap (replies_are_of s a) (sym is) ∙ of))
-    ∙ ap (λ steps. text_lines (replied_to s a (steps_of steps))) (sym is)
+    ∙ ap (λ steps. text_lines (replies_accepted s a (steps_of steps))) (sym is)
 
 pub clients_are_written : ClientsAreWritten
 clients_are_written script least most takes n defined s k in_s in_k event place apart early begins_s body_s begins_k body_k serves lines client e a its agents of = record {
-  texts = replied_to s a (steps_of (session_at script takes n).steps);
+  texts = replies_accepted s a (steps_of (session_at script takes n).steps);
   first = from_null_names (bodies_of script) (params_of script) (length script.names.threads) (length script.names.mons) (length script.names.conds) least most takes n defined s k in_s in_k event place apart early begins_s body_s begins_k body_k serves lines a;
   written = ap (λ o. replies_in o (session_at script takes n).steps) its ∙ replies_are_written ThreadBody (setting_of script) least most takes n defined s e a agents of;
 }

@@ -1,6 +1,6 @@
 -- Steps of two sessions, worked out by hand. The store is thread 1, the client's session 2, and its agent 4.
 use Rattle.answer_laws.specs.Births.{begins_in, is_unsent_till}
-use Rattle.answer_laws.specs.Clients.{Step, all_sends_to, delivered_to, replied_to}
+use Rattle.answer_laws.specs.Clients.{Step, all_sends_to, texts_delivered, replies_accepted}
 use Rattle.lwp_types.specs.Names.{null_id}
 use Rattle.lwp_types.specs.Unblock.{nonexist, zero_answer}
 use Rattle.lwp_types.specs.declared.call.Effect.{Effect}
@@ -21,7 +21,7 @@ takes text es = record { text = Some text; effects = es }
 
 -- these lines were delivered to agent 4, thread 2 has replied so to it, and all that it sent went to thread 1, or not
 abbrev pub Tells : List Step → List (List ℕ) → List (List ℕ) → Bool → Type 0
-Tells steps lines replies alone = (delivered_to 4 steps ≡ lines) × (replied_to 2 4 steps ≡ replies) × (all_sends_to 2 1 steps ≡ alone)
+Tells steps lines replies alone = (texts_delivered 4 steps ≡ lines) × (replies_accepted 2 4 steps ≡ replies) × (all_sends_to 2 1 steps ≡ alone)
 
 -- a client that asks for a key and quits
 abbrev pub asked_and_quit : List Step

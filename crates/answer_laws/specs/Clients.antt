@@ -25,8 +25,8 @@ text_to a text (effect.Rites b dead) = if b == a then report_text dead ∷ [] el
 text_to a text _ = []
 
 -- the texts delivered to an agent, in order
-abbrev pub delivered_to : ℕ → List Step → List (List ℕ)
-delivered_to a steps = flat_map (λ step. flat_map (text_to a step.text) step.effects) steps
+abbrev pub texts_delivered : ℕ → List Step → List (List ℕ)
+texts_delivered a steps = flat_map (λ step. flat_map (text_to a step.text) step.effects) steps
 
 -- ---- replies
 
@@ -36,14 +36,14 @@ reply_to a (call.Reply b text) = if b == a then text ∷ [] else []
 reply_to a _ = []
 
 -- of the effects of a step, which are a call or a trap and then a call: the reply of s to a, if it was accepted, which is to say answered 0
-abbrev pub replied_in : ℕ → ℕ → List Effect → List (List ℕ)
-replied_in s a (effect.Called t c ∷ es) = if (t == s) && list_any (is_told s is_zero) es then reply_to a c else []
-replied_in s a (effect.Trapped t e ∷ es) = replied_in s a es
-replied_in s a _ = []
+abbrev pub replies_of_step : ℕ → ℕ → List Effect → List (List ℕ)
+replies_of_step s a (effect.Called t c ∷ es) = if (t == s) && list_any (is_told s is_zero) es then reply_to a c else []
+replies_of_step s a (effect.Trapped t e ∷ es) = replies_of_step s a es
+replies_of_step s a _ = []
 
 -- the texts of the accepted replies of s to a, in order; a reply by an exit procedure is none
-abbrev pub replied_to : ℕ → ℕ → List Step → List (List ℕ)
-replied_to s a steps = flat_map (λ step. replied_in s a step.effects) steps
+abbrev pub replies_accepted : ℕ → ℕ → List Step → List (List ℕ)
+replies_accepted s a steps = flat_map (λ step. replies_of_step s a step.effects) steps
 
 -- ---- where a session sends
 
@@ -74,4 +74,4 @@ all_sends_to s k steps = list_all (λ step. list_all (sends_only s k) step.effec
 
 -- the accepted replies of s to its agent are a first part of the answers to the lines delivered to that
 abbrev pub IsAnsweredInTurn : ℕ → ℕ → List Step → Type 0
-IsAnsweredInTurn s a steps = AreFirst (replied_to s a steps) (line_answers (delivered_to a steps))
+IsAnsweredInTurn s a steps = AreFirst (replies_accepted s a steps) (line_answers (texts_delivered a steps))

@@ -1,6 +1,6 @@
 -- Whom the names of a script's threads stand for.
 use Rattle.line_server.specs.Sessions.{SessionBody, session_next}
-use Rattle.lwp_types.specs.Names.{Names, id_at, null_id, null_names, polled_as}
+use Rattle.lwp_types.specs.Names.{Names, id_at, null_id, null_names, names_for_poll}
 use Rattle.lwp_types.specs.State.{State}
 use Rattle.lwp_types.specs.declared.call.Answer.{Answer}
 use Rattle.lwp_types.specs.declared.call.Call.TheVariants as call
@@ -40,5 +40,5 @@ abbrev pub SessionsSendToTheBorn : Type 0
 SessionsSendToTheBorn = (bodies : List ThreadBody) (params : PodParams) (names : Names) → 1 ≤ params.maxpri → params.maxpri ≤ 255 → KnowsItsNames (opening_session (script_setting bodies params names))
     → (takes : List Took) (n : ℕ) → IsDefined (script_setting bodies params names) takes n
     → (s : ℕ) (body : SessionBody) (heard : Answer) → row_of s (play (script_setting bodies params names) takes n).live.rows ≡ Some (record { tid = s; body = Serving body; answer = heard })
-    → (to room : ℕ) (text : List ℕ) → (session_next body (polled_as s (play (script_setting bodies params names) takes n).live.names) heard).0 ≡ call.Send to room text
+    → (to room : ℕ) (text : List ℕ) → (session_next body (names_for_poll s (play (script_setting bodies params names) takes n).live.names) heard).0 ≡ call.Send to room text
     → IsKnown (play (script_setting bodies params names) takes n).live.pod.state to

@@ -51,8 +51,8 @@ OwnersOfNoneAreRefused = (s : State) (t a : ℕ) → choice s ≡ Some t → is_
 -- ---- who sends a letter
 
 -- the letter that t sends to k
-abbrev pub letter_sent : ℕ → ℕ → ℕ → List ℕ → Letter
-letter_sent t k room text = record { from = t; to = k; text = text; room = room; received = false }
+abbrev pub new_letter : ℕ → ℕ → ℕ → List ℕ → Letter
+new_letter t k room text = record { from = t; to = k; text = text; room = room; received = false }
 
 -- who has sent this letter waits for the reply
 abbrev pub sending : Sight → Letter → Sight
@@ -67,8 +67,8 @@ pub record IsSentTo (t k : ℕ) (sender receiver : Sight) (said : List Answer) (
 
 -- a letter to another thread: who waits for such a one has received it, and goes on with it; from anybody else it waits to be received
 pub record Sends (s : State) (t k room : ℕ) (text : List ℕ) (out : Outcome) : Type 0 where
-  pub handed : passes (λ row. takes_from t row.block) (thread_of s k) ≡ true → IsSentTo t k (sending (sight s t) (as_received (letter_sent t k room text))) (going_on (sight s k)) (answer.Letter t text room ∷ []) out
-  pub kept : passes (λ row. takes_from t row.block) (thread_of s k) ≡ false → IsSentTo t k (sending (sight s t) (letter_sent t k room text)) (sight s k) [] out
+  pub handed : passes (λ row. takes_from t row.block) (thread_of s k) ≡ true → IsSentTo t k (sending (sight s t) (as_received (new_letter t k room text))) (going_on (sight s k)) (answer.Letter t text room ∷ []) out
+  pub kept : passes (λ row. takes_from t row.block) (thread_of s k) ≡ false → IsSentTo t k (sending (sight s t) (new_letter t k room text)) (sight s k) [] out
 
 abbrev pub SendsAreLetters : Type 0
 SendsAreLetters = (s : State) → Lawful s None → (t k : ℕ) → choice s ≡ Some t → is_thread s k ≡ true → (k == t) ≡ false → (room : ℕ) (text : List ℕ) → Sends s t k room text (step s (call.Send k room text))

@@ -1,5 +1,5 @@
 -- The calls of the two themselves, in a pod with its own events: with the trap before a call, and the report behind it.
-use Rattle.answer_laws.specs.Clients.{replied_in, sends_well}
+use Rattle.answer_laws.specs.Clients.{replies_of_step, sends_well}
 use Rattle.answer_laws.specs.Events.{machine_of}
 use Rattle.answer_laws.specs.Stands.{Becomes, Leaves, OpensInVain, Stands, is_short_reply, is_short_to, texts_in}
 use Rattle.answer_laws.specs.Talks.{Mail.Received, Stand.Hears, Talk}
@@ -22,7 +22,7 @@ use Rattle.std.specs.Prelude.{List, None, Some, [], false, true, ℕ, ◌==◌, 
 
 -- A call of another is no reply of s, and neither is a line that is taken.
 abbrev pub OthersReplyNothing : Type 0
-OthersReplyNothing = (s a : ℕ) (es : EventState) → ((t : ℕ) → choice es.state ≡ Some t → (t == s) ≡ false → (c : Call) → replied_in s a (event_step es c).effects ≡ []) × ((e : ℕ) (text : List ℕ) → replied_in s a (take_event es e text).effects ≡ [])
+OthersReplyNothing = (s a : ℕ) (es : EventState) → ((t : ℕ) → choice es.state ≡ Some t → (t == s) ≡ false → (c : Call) → replies_of_step s a (event_step es c).effects ≡ []) × ((e : ℕ) (text : List ℕ) → replies_of_step s a (take_event es e text).effects ≡ [])
 
 -- A call of another, if the two are there behind it: it is a letter to the store, or the end of the agent, or nothing, and the report.
 abbrev pub LivingCallsAreEvents : Type 0
@@ -41,9 +41,9 @@ PodsStoresCallsAreEvents = (s k a : ℕ) (es : EventState) → Lawful es.state N
 
 -- what a call of the session comes to: it goes on as the talk says; or has asked for an agent in vain; or is gone
 pub data SessionComes (s k a : ℕ) (talk : Talk) (waiting : List (List ℕ)) (body : SessionBody) (out : Outcome) : Type 0 where
-  GoesOn : Becomes s k a talk body talk.store waiting (texts_in a None out.effects) (replied_in s a out.effects) out → SessionComes s k a talk waiting body out
-  IsTurnedAway : OpensInVain s talk out → replied_in s a out.effects ≡ [] → SessionComes s k a talk waiting body out
-  Dies : IsGone out.after s → replied_in s a out.effects ≡ [] → SessionComes s k a talk waiting body out
+  GoesOn : Becomes s k a talk body talk.store waiting (texts_in a None out.effects) (replies_of_step s a out.effects) out → SessionComes s k a talk waiting body out
+  IsTurnedAway : OpensInVain s talk out → replies_of_step s a out.effects ≡ [] → SessionComes s k a talk waiting body out
+  Dies : IsGone out.after s → replies_of_step s a out.effects ≡ [] → SessionComes s k a talk waiting body out
 
 -- The session's call, where its reply to its agent is short and it sends to nobody but the store, and to nobody where there is none, unless a
 -- trap is raised before it.

@@ -1,5 +1,5 @@
 -- Sessions of pods in which a store and a client's session are among the threads.
-use Rattle.answer_laws.specs.Clients.{IsAnsweredInTurn, Step, all_sends_to, delivered_to}
+use Rattle.answer_laws.specs.Clients.{IsAnsweredInTurn, Step, all_sends_to, texts_delivered}
 use Rattle.answer_laws.specs.Lengths.{is_short}
 use Rattle.answer_laws.specs.Sights.{sight}
 use Rattle.line_server.specs.Sessions.{SessionBody, session_next, session_opening}
@@ -77,7 +77,7 @@ pub record Serves {B : Type 0} (s k : ℕ) (end : Session B) : Type 0 where
 
 -- the texts for each agent have room in a letter
 abbrev pub TextsAreShort : {B : Type 0} → Session B → Type 0
-TextsAreShort end = (a : ℕ) → list_all is_short (delivered_to a (steps_of end.steps)) ≡ true
+TextsAreShort end = (a : ℕ) → list_all is_short (texts_delivered a (steps_of end.steps)) ≡ true
 
 -- Where a store and a client's session begin, whatever the others do and whenever lines are taken from there on: the accepted replies of the
 -- session to its agent are a first part of the answers to the lines delivered to that.

@@ -95,19 +95,19 @@ abbrev pub attends : State → ℕ → Bool
 attends s u = passes (λ row. is_attentive row.block) (thread_of s u)
 
 -- how many letters of u to v aren't replied to
-abbrev pub written_to : State → ℕ → ℕ → ℕ
-written_to s u v = count_by (is_to v) (filter (is_letter_of u) s.letters)
+abbrev pub open_letters : State → ℕ → ℕ → ℕ
+open_letters s u v = count_by (is_to v) (filter (is_letter_of u) s.letters)
 
 -- the call destroys neither u nor anybody to whom u has written
 abbrev pub Spares : State → ℕ → Call → Type 0
-Spares s u (call.Destroy v) = ((v == u) ≡ false) × (written_to s u v ≡ 0)
+Spares s u (call.Destroy v) = ((v == u) ≡ false) × (open_letters s u v ≡ 0)
 Spares s u _ = Unit {0}
 
 -- Of a thread that isn't the caller, waits at most for a letter or a reply, has written nothing to the caller, and is spared with
 -- those to whom it has written, a call changes nothing and tells it nothing; unless it waits for a letter, and gets the one that
 -- the caller sends it, or learns that whom it waits for isn't there.
 abbrev pub OthersLeaveIt : Type 0
-OthersLeaveIt = (s : State) → Lawful s None → (t u : ℕ) → choice s ≡ Some t → (t == u) ≡ false → IsTrue (attends s u) → written_to s u t ≡ 0 → (c : Call) → Spares s u c
+OthersLeaveIt = (s : State) → Lawful s None → (t u : ℕ) → choice s ≡ Some t → (t == u) ≡ false → IsTrue (attends s u) → open_letters s u t ≡ 0 → (c : Call) → Spares s u c
     → IsLeft u s (step s c) ⊎ IsWoken u (IsSent t u c) s (step s c)
 
 -- So it is of each delivery, of a thread that attends and has no timer: nothing of it changes, unless it waits for a letter, and gets

@@ -1,7 +1,7 @@
 -- How a pod stands in which a session and a store talk: the machine's state, and the talk that it comes to.
 use Rattle.answer_laws.specs.Agents.{agent_sight, deliveries_to, spares_agent}
 use Rattle.lwp_types.specs.Agents.{deliver, is_event_armed}
-use Rattle.answer_laws.specs.Clients.{replied_in, sends_well, text_to}
+use Rattle.answer_laws.specs.Clients.{replies_of_step, sends_well, text_to}
 use Rattle.answer_laws.specs.Events.{machine_of}
 use Rattle.answer_laws.specs.Lengths.{is_short}
 use Rattle.answer_laws.specs.Sights.{answers_to, sight}
@@ -201,7 +201,7 @@ abbrev pub SessionsCallsAreEvents : Type 0
 SessionsCallsAreEvents = (s k a : ℕ) (state : State) → Lawful state None → (talk : Talk) (waiting : List (List ℕ)) → Stands s k a state talk waiting
     → choice state ≡ Some s → (x : Answer) → talk.client ≡ Hears x → (names : Names) → goes_on_with (session_next talk.session names x).0 ≡ true → (talk.agent_lives ≡ true → is_short_reply (session_next talk.session names x).0 ≡ true) → sends_well s k (session_next talk.session names x).0 ≡ true
     → (talk.session.place ≡ at.Start → (b : ℕ) → answers_to s (step state (session_next talk.session names x).0).effects ≡ answer.Thread b ∷ [] → b ≡ a)
-    → Becomes s k a talk (session_next talk.session names x).1 talk.store waiting [] (replied_in s a (step state (session_next talk.session names x).0).effects) (step state (session_next talk.session names x).0) ⊎ OpensInVain s talk (step state (session_next talk.session names x).0)
+    → Becomes s k a talk (session_next talk.session names x).1 talk.store waiting [] (replies_of_step s a (step state (session_next talk.session names x).0).effects) (step state (session_next talk.session names x).0) ⊎ OpensInVain s talk (step state (session_next talk.session names x).0)
 
 -- ---- the same in a pod with its own events
 

@@ -74,8 +74,8 @@ deed_of (call.Send to room text) = Sends text
 deed_of _ = Stops
 
 -- its reply to the agent is accepted, as long as the agent is there
-abbrev pub agent_told : Talk → List ℕ → Talk
-agent_told talk text = if talk.agent_lives
+abbrev pub after_agent_reply : Talk → List ℕ → Talk
+after_agent_reply talk text = if talk.agent_lives
     then record talk { told = talk.told ++ text ∷ []; client = Hears zero_answer }
     else record talk { client = Hears nonexist }
 
@@ -83,25 +83,25 @@ agent_told talk text = if talk.agent_lives
 abbrev pub session_calls : ℕ → Talk → Deed → Talk
 session_calls a talk Opens = record talk { client = Hears (if talk.agent_lives then answer.Thread a else answer.Refused error.NoRoom) }
 session_calls a talk Receives = record talk { client = if talk.agent_lives then AwaitsLetter else Hears nonexist }
-session_calls a talk (Replies to text) = agent_told talk text
+session_calls a talk (Replies to text) = after_agent_reply talk text
 session_calls a talk (Sends text) = record talk { mail = Sent text; client = AwaitsReply }
 session_calls a talk Stops = record talk { client = IsOver }
 
 -- the session was polled
-abbrev pub session_polled : ℕ → Talk → Polled SessionBody → Talk
-session_polled a talk reply = session_calls a (record talk { session = reply.1 }) (deed_of reply.0)
+abbrev pub after_session_poll : ℕ → Talk → Polled SessionBody → Talk
+after_session_poll a talk reply = session_calls a (record talk { session = reply.1 }) (deed_of reply.0)
 
 -- its turn, if it waits for nothing
 abbrev pub session_turn : ℕ → Names → Talk → Stand → Talk
-session_turn a names talk (Hears x) = session_polled a talk (session_next talk.session names x)
+session_turn a names talk (Hears x) = after_session_poll a talk (session_next talk.session names x)
 session_turn a names talk _ = talk
 
 -- ---- calls of the store
 
 -- a reply to the session goes to its letter, if the store has received that
-abbrev pub session_told : Talk → List ℕ → Mail → Talk
-session_told talk text (Received sent) = record talk { mail = Nothing; client = Hears (answer.Reply text); keeper = Hears zero_answer }
-session_told talk text _ = record talk { keeper = Hears (answer.Refused error.NoWait) }
+abbrev pub after_session_reply : Talk → List ℕ → Mail → Talk
+after_session_reply talk text (Received sent) = record talk { mail = Nothing; client = Hears (answer.Reply text); keeper = Hears zero_answer }
+after_session_reply talk text _ = record talk { keeper = Hears (answer.Refused error.NoWait) }
 
 -- how the store's reply to anybody else is answered: with 0, or refused
 abbrev pub reply_answer : Option LwpErr → Answer
@@ -111,18 +111,18 @@ reply_answer (Some e) = answer.Refused e
 -- what its call comes to, where the session is s
 abbrev pub store_calls : ℕ → Option LwpErr → Talk → Deed → Talk
 store_calls s refusal talk Receives = record talk { keeper = AwaitsLetter }
-store_calls s refusal talk (Replies to text) = if to == s then session_told talk text talk.mail else record talk { keeper = Hears (reply_answer refusal) }
+store_calls s refusal talk (Replies to text) = if to == s then after_session_reply talk text talk.mail else record talk { keeper = Hears (reply_answer refusal) }
 store_calls s refusal talk Opens = record talk { keeper = IsOver }
 store_calls s refusal talk (Sends text) = record talk { keeper = IsOver }
 store_calls s refusal talk Stops = record talk { keeper = IsOver }
 
 -- the store was polled
-abbrev pub store_polled : ℕ → Option LwpErr → Talk → Polled StoreBody → Talk
-store_polled s refusal talk reply = store_calls s refusal (record talk { store = reply.1 }) (deed_of reply.0)
+abbrev pub after_store_poll : ℕ → Option LwpErr → Talk → Polled StoreBody → Talk
+after_store_poll s refusal talk reply = store_calls s refusal (record talk { store = reply.1 }) (deed_of reply.0)
 
 -- its turn, if it waits for nothing
 abbrev pub store_turn : ℕ → Option LwpErr → Names → Talk → Stand → Talk
-store_turn s refusal names talk (Hears x) = store_polled s refusal talk (store_next talk.store names x)
+store_turn s refusal names talk (Hears x) = after_store_poll s refusal talk (store_next talk.store names x)
 store_turn s refusal names talk _ = talk
 
 -- ---- letters
@@ -152,13 +152,13 @@ other_comes s x text room talk _ = talk
 -- ---- ends
 
 -- who waits for a line of an agent that ends is refused
-abbrev pub line_refused : Stand → Stand
-line_refused AwaitsLetter = Hears nonexist
-line_refused stand = stand
+abbrev pub after_line_refusal : Stand → Stand
+after_line_refusal AwaitsLetter = Hears nonexist
+after_line_refusal stand = stand
 
 -- the agent ends
 abbrev pub agent_ends : Talk → Talk
-agent_ends talk = record talk { agent_lives = false; client = line_refused talk.client }
+agent_ends talk = record talk { agent_lives = false; client = after_line_refusal talk.client }
 
 -- the session dies, and its letter is gone
 abbrev pub session_dies : Talk → Talk

@@ -1,6 +1,6 @@
 -- What is written of a client: the replies to the agents of its event, and those of one thread to one agent.
 use Rattle.answer_laws.specs.Births.{HoldsAlways}
-use Rattle.answer_laws.specs.Clients.{delivered_to, replied_to}
+use Rattle.answer_laws.specs.Clients.{texts_delivered, replies_accepted}
 use Rattle.answer_laws.specs.Served.{steps_of}
 use Rattle.answer_laws.specs.Talks.{AreFirst}
 use Rattle.line_server.specs.Tables.{line_answers}
@@ -12,7 +12,7 @@ use Rattle.pod_runner.specs.Session.{Setting}
 use Rattle.pod_runner.specs.Session as Sessions
 use Rattle.pod_runner.specs.declared.session.Made.{Made}
 use Rattle.pod_runner.specs.declared.session.Took.{Took}
-use Rattle.script_answers.specs.Replies.{answers_after, answers_of, call_in, event_of, known_in, replies_in}
+use Rattle.script_answers.specs.Replies.{answers_after, answers_of, call_in, event_of, known_after_steps, replies_in}
 use Rattle.script_plan.specs.Planned.{calls_of, takes_of}
 use Rattle.script_program.specs.declared.body.ThreadBody.TheVariants.{Serving, Storing}
 use Rattle.script_session.specs.SoFar.{setting_of}
@@ -42,20 +42,20 @@ replies_are_of s a steps = list_all (λ step. is_reply_of s a (call_in step.take
 -- of its own.
 abbrev pub RepliesAreWritten : Type 0 → Type 0
 RepliesAreWritten B = (setting : Setting B) → 1 ≤ setting.params.maxpri → setting.params.maxpri ≤ 255 → (takes : List Took) (n : ℕ) → IsDefined setting takes n
-    → (s e a : ℕ) → (known_in (Some e) (play setting takes n).steps).agents ≡ a ∷ [] → replies_are_of s a (play setting takes n).steps ≡ true
-    → replies_in (Some e) (play setting takes n).steps ≡ text_lines (replied_to s a (steps_of (play setting takes n).steps))
+    → (s e a : ℕ) → (known_after_steps (Some e) (play setting takes n).steps).agents ≡ a ∷ [] → replies_are_of s a (play setting takes n).steps ≡ true
+    → replies_in (Some e) (play setting takes n).steps ≡ text_lines (replies_accepted s a (steps_of (play setting takes n).steps))
 
 -- these bytes are the first answers to the lines delivered to a, each on a line of its own
 pub record IsFirstWritten (a : ℕ) (steps : List Sessions.Made) (bytes : List ℕ) : Type 0 where
   pub texts : List (List ℕ)
-  pub first : AreFirst texts (line_answers (delivered_to a (steps_of steps)))
+  pub first : AreFirst texts (line_answers (texts_delivered a (steps_of steps)))
   pub written : bytes ≡ text_lines texts
 
 -- So what `answers` writes of a client of a script, in each of its sessions: where the client's event has had one agent, and of the accepted replies
 -- to that all are of one client's session, it is a first part of the answers to the lines delivered to that agent.
 abbrev pub ClientsAreWritten : Type 0
 ClientsAreWritten = (script : Script) → HoldsAlways (setting_of script) Serving Storing (λ s k end. Unit {0})
-    (λ s end. (client e a : ℕ) → event_of script client ≡ Some e → (known_in (Some e) end.steps).agents ≡ a ∷ [] → replies_are_of s a end.steps ≡ true → IsFirstWritten a end.steps (replies_in (event_of script client) end.steps))
+    (λ s end. (client e a : ℕ) → event_of script client ≡ Some e → (known_after_steps (Some e) end.steps).agents ≡ a ∷ [] → replies_are_of s a end.steps ≡ true → IsFirstWritten a end.steps (replies_in (event_of script client) end.steps))
 
 -- What a client is told in a plan is what it is told in the session that the plan's takes and calls play; and that each of these was due,
 -- `answers_main` says.

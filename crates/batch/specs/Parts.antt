@@ -30,8 +30,8 @@ abbrev pub size_of : List ℕ → Option ℕ
 size_of word = if is_misshapen word then None else value_at_most word
 
 -- how many bytes a line says that the part behind it has: `script N`
-abbrev pub said_by : List ℕ → Option ℕ
-said_by line = if bytes_eq (take 7 line) (codes "script ") then size_of (drop 7 line) else None
+abbrev pub length_told : List ℕ → Option ℕ
+length_told line = if bytes_eq (take 7 line) (codes "script ") then size_of (drop 7 line) else None
 
 -- ---- where parts lie
 
@@ -44,7 +44,7 @@ part_behind at line (Some size) len =
 -- the part whose line begins at a place
 abbrev pub part_at : List ℕ → ℕ → Option Part
 part_at bytes at =
-    let line = line_length (drop at bytes) in part_behind at line (said_by (take line (drop at bytes))) (length bytes)
+    let line = line_length (drop at bytes) in part_behind at line (length_told (take line (drop at bytes))) (length bytes)
 
 -- one more part in front of these, or of a bad one
 abbrev pub in_front : Part → Result (List Part) ℕ → Result (List Part) ℕ

@@ -1,6 +1,6 @@
 // The line in front of a part.
 ghost use Rattle.std.specs.Prelude.{◌≡◌, ◌≤◌, IfSome, length};
-ghost use Rattle.batch.specs.Parts.{is_misshapen, line_length, said_by, size_of, value_at_most};
+ghost use Rattle.batch.specs.Parts.{is_misshapen, line_length, length_told, size_of, value_at_most};
 
 // How many bytes come before the first newline; all, where there is none.
 pub(crate) fn line_length(bytes: &[u8]) -> usize
@@ -52,8 +52,8 @@ fn size_of(word: &[u8]) -> Option<u32>
 }
 
 // How many bytes a line says that the part behind it has.
-pub(crate) fn said_by(line: &[u8]) -> Option<u32>
-    ensures value { result ≡ said_by line.now }
+pub(crate) fn length_told(line: &[u8]) -> Option<u32>
+    ensures value { result ≡ length_told line.now }
     ensures most { IfSome result (λ size. size ≤ 16777216) }
 {
     match line {

@@ -2,7 +2,7 @@
 ghost use Rattle.std.specs.Prelude.{◌≡◌, ◌<◌, ◌≤◌, All, Err, IfOk, IfSome, IsErrOf, Ok, drop, length, ℕ};
 ghost use Rattle.batch.specs.Parts.{LiesIn, part_at, parts_of};
 
-use crate::lines::{line_length, said_by};
+use crate::lines::{line_length, length_told};
 use std::alloc::Global;
 
 /// The most bytes of a text that is cut into parts.
@@ -39,7 +39,7 @@ fn part_at(bytes: &[u8], at: usize) -> Option<Part>
 {
     let rest = &bytes[at..];
     let line = line_length(rest);
-    let Some(size) = said_by(&rest[..line]) else {
+    let Some(size) = length_told(&rest[..line]) else {
         return None;
     };
     let size = size as usize;

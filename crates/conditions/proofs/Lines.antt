@@ -7,7 +7,7 @@ use Rattle.lwp_types.specs.Choice.{best_by}
 use Rattle.std.proofs.Common.{Bool, List, Some, [], ap, cond, false, map, not, refl, sym, true, ℕ, ◌∙◌, ◌∷◌, ◌≡◌, ◌||◌}
 use Rattle.std.specs.List.{AllByRecursion, filter, find, list_any}
 use Rattle.std.specs.Prelude.{option_map}
-use Rattle.waiting_list.specs.Line.{is_for, is_thread, priority_set}
+use Rattle.waiting_list.specs.Line.{is_for, is_thread, waiting_with_priority}
 use Rattle.waiting_list.specs.declared.rows.Waiting.{Waiting}
 
 pub waits-line : (c : ℕ) (ws : List Waiting) → filter (is_on c) (map wait_in ws) ≡ map wait_in (filter (is_for c) ws)
@@ -33,9 +33,9 @@ find-line p (w ∷ ws) = by_test (find-line p ws) (p (wait_in w))
 pub left-line : (t : ℕ) (ws : List Waiting) → map wait_in (filter (λ (w : Waiting). not (is_thread t w)) ws) ≡ without_wait t (map wait_in ws)
 left-line t ws = sym (map-filter wait_in (λ w. not (is_wait_of t w)) ws)
 
-pub prioritized-line : (t p : ℕ) (ws : List Waiting) → map wait_in (map (priority_set t p) ws) ≡ with_priority t p (map wait_in ws)
+pub prioritized-line : (t p : ℕ) (ws : List Waiting) → map wait_in (map (waiting_with_priority t p) ws) ≡ with_priority t p (map wait_in ws)
 prioritized-line t p [] = refl
-prioritized-line t p (w ∷ ws) = ap (λ us. wait_in (priority_set t p w) ∷ us) (prioritized-line t p ws)
+prioritized-line t p (w ∷ ws) = ap (λ us. wait_in (waiting_with_priority t p w) ∷ us) (prioritized-line t p ws)
 
 pub any-line : (p : WaitRec → Bool) (ws : List Waiting) → list_any p (map wait_in ws) ≡ list_any (λ w. p (wait_in w)) ws
 any-line p [] = refl

@@ -39,12 +39,12 @@ abbrev pub without_wait : ℕ → List WaitRec → List WaitRec
 without_wait t ws = filter (λ w. not (is_wait_of t w)) ws
 
 -- a wait, with another priority where it is that of t
-abbrev pub priority_set : ℕ → ℕ → WaitRec → WaitRec
-priority_set t p w = record w { prio = if is_wait_of t w then p else w.prio }
+abbrev pub wait_with_priority : ℕ → ℕ → WaitRec → WaitRec
+wait_with_priority t p w = record w { prio = if is_wait_of t w then p else w.prio }
 
 -- the priority of t becomes p; the wait keeps its place
 abbrev pub with_priority : ℕ → ℕ → List WaitRec → List WaitRec
-with_priority t p ws = map (priority_set t p) ws
+with_priority t p ws = map (wait_with_priority t p) ws
 
 -- questions
 

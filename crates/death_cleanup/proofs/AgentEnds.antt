@@ -52,7 +52,7 @@ module _ (x : Answer) where
   pub threads-kept : (a : ℕ) (us : List ℕ) (s : State) → is_thread (for_each (unblock x) us s).after a ≡ is_thread s a
   unfolding for_each and_then
   threads-kept a [] s = refl
-  threads-kept a (u ∷ us) s = threads-kept a us (unblock x u s).after ∙ ap is_some (find-row u a block.Not s.threads) ∙ same-some (machine.block_set u block.Not) (find (is_number a) s.threads)
+  threads-kept a (u ∷ us) s = threads-kept a us (unblock x u s).after ∙ ap is_some (find-row u a block.Not s.threads) ∙ same-some (machine.row_with_block u block.Not) (find (is_number a) s.threads)
 
 -- the agent may leave the list first
 pub over-is-end : (a : ℕ) (s : State) → agent_over a (record s { agents = without_agent a s.agents }) ≡ end_agent a s

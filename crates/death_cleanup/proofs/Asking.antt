@@ -7,7 +7,7 @@ use Rattle.conditions.specs.Machine.{IsWaitedOnce}
 use Rattle.conditions.specs.declared.waits.WaitRec.{WaitRec}
 use Rattle.death_cleanup.proofs.Crowds.{Stand, a_place, none_there, nowhere}
 use Rattle.death_cleanup.proofs.Looks.{find-row, same-some, waits}
-use Rattle.death_cleanup.specs.Moves.{MayAsk, after_signal, block_set, kind_set}
+use Rattle.death_cleanup.specs.Moves.{MayAsk, after_signal, pair_with_block, kind_with_block}
 use Rattle.death_cleanup.specs.Ties.{InStep}
 use Rattle.death_cleanup.specs.View.{known_of, row_of, row_onto, rows_of, state_of}
 use Rattle.death_cleanup.specs.declared.parts.Parts.{Parts}
@@ -40,20 +40,20 @@ use Rattle.std.specs.Prelude as prelude
 use Rattle.std.specs.Prelude.{is_some, option_map, unwrap_or}
 
 -- another block in the registry is another block in the state
-rows-reblocked : (p t : ℕ) (b : Block) (known : List Known) (living : List (ℕ × Kind)) → rows_of p known (map (block_set t b) living) ≡ machine.with_block t b (rows_of p known living)
+rows-reblocked : (p t : ℕ) (b : Block) (known : List Known) (living : List (ℕ × Kind)) → rows_of p known (map (pair_with_block t b) living) ≡ machine.with_block t b (rows_of p known living)
 rows-reblocked p t b known [] = refl
 rows-reblocked p t b known (live ∷ living) = by_kind live.0 live.1 (rows-reblocked p t b known living)
   where
-    by_kind : (n : ℕ) (k : Kind) → rows_of p known (map (block_set t b) living) ≡ machine.with_block t b (rows_of p known living)
-        → row_onto (known_of p known n) n (prelude.cond (eqb n t) (kind_set b k) k) (rows_of p known (map (block_set t b) living)) ≡ machine.with_block t b (row_onto (known_of p known n) n k (rows_of p known living))
+    by_kind : (n : ℕ) (k : Kind) → rows_of p known (map (pair_with_block t b) living) ≡ machine.with_block t b (rows_of p known living)
+        → row_onto (known_of p known n) n (prelude.cond (eqb n t) (kind_with_block b k) k) (rows_of p known (map (pair_with_block t b) living)) ≡ machine.with_block t b (row_onto (known_of p known n) n k (rows_of p known living))
     by_kind n kind.Agent rest = by_test (eqb n t)
       where
-        by_test : (c : Bool) → row_onto (known_of p known n) n (prelude.cond c kind.Agent kind.Agent) (rows_of p known (map (block_set t b) living)) ≡ machine.with_block t b (rows_of p known living)
+        by_test : (c : Bool) → row_onto (known_of p known n) n (prelude.cond c kind.Agent kind.Agent) (rows_of p known (map (pair_with_block t b) living)) ≡ machine.with_block t b (rows_of p known living)
         by_test true = rest
         by_test false = rest
     by_kind n (kind.Thread rec) rest = by_test (eqb n t)
       where
-        by_test : (c : Bool) → row_onto (known_of p known n) n (prelude.cond c (kind.Thread (record rec { block = b })) (kind.Thread rec)) (rows_of p known (map (block_set t b) living))
+        by_test : (c : Bool) → row_onto (known_of p known n) n (prelude.cond c (kind.Thread (record rec { block = b })) (kind.Thread rec)) (rows_of p known (map (pair_with_block t b) living))
             ≡ record (row_of (known_of p known n) n rec) { block = prelude.cond c b rec.block } ∷ machine.with_block t b (rows_of p known living)
         by_test true = ap (λ rows. row_of (known_of p known n) n (record rec { block = b }) ∷ rows) rest
         by_test false = ap (λ rows. row_of (known_of p known n) n rec ∷ rows) rest
@@ -95,7 +95,7 @@ module _ (parts : Parts) (t : ℕ) (b : Block) (idle : not (is_not_blocked b) �
 priority-same : (t u : ℕ) (b : Block) (rows : List ThreadRow) → unwrap_or (option_map (λ (row : ThreadRow). row.priority) (find (is_number u) (machine.with_block t b rows))) 0 ≡ unwrap_or (option_map (λ (row : ThreadRow). row.priority) (find (is_number u) rows)) 0
 priority-same t u b rows = ap (λ o. unwrap_or (option_map (λ (row : ThreadRow). row.priority) o) 0) (find-row t u b rows) ∙ same (find (is_number u) rows)
   where
-    same : (o : Option ThreadRow) → unwrap_or (option_map (λ (row : ThreadRow). row.priority) (option_map (machine.block_set t b) o)) 0 ≡ unwrap_or (option_map (λ (row : ThreadRow). row.priority) o) 0
+    same : (o : Option ThreadRow) → unwrap_or (option_map (λ (row : ThreadRow). row.priority) (option_map (machine.row_with_block t b) o)) 0 ≡ unwrap_or (option_map (λ (row : ThreadRow). row.priority) o) 0
     same None = refl
     same (Some row) = refl
 
@@ -211,7 +211,7 @@ module _ (parts : Parts) (t c m : ℕ) (w : WaitRec) (ws : List WaitRec) (h : Si
     pub InStep-signalled : InStep (after_signal parts m w)
     InStep-signalled = record {
       tied = record {
-        known = λ u. h.step.tied.known u ∙ ap (λ b. b && not (is_same_option parts.dying u)) (sym (ap (λ rows. is_some (find (is_number u) rows)) threads-are ∙ ap is_some (find-row w.tid u (block.Entering m) (state_of parts).threads) ∙ same-some (machine.block_set w.tid (block.Entering m)) (find (is_number u) (state_of parts).threads)));
+        known = λ u. h.step.tied.known u ∙ ap (λ b. b && not (is_same_option parts.dying u)) (sym (ap (λ rows. is_some (find (is_number u) rows)) threads-are ∙ ap is_some (find-row w.tid u (block.Entering m) (state_of parts).threads) ∙ same-some (machine.row_with_block w.tid (block.Entering m)) (find (is_number u) (state_of parts).threads)));
         waits = λ u. h.step.tied.waits u ∙ sym (ap (λ rows. passes waits (find (is_number u) rows)) threads-are ∙ blocked-same parts w.tid (block.Entering m) refl waiting u);
       };
       ranked = record {

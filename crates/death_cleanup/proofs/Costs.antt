@@ -1,6 +1,6 @@
 -- How many effects a death has: each thread that goes on waited, so no more are answered than wait.
 use Rattle.death_cleanup.proofs.Looks.{find-row}
-use Rattle.lwp_types.specs.Agents.{agent_gone, agents_of, end_agent}
+use Rattle.lwp_types.specs.Agents.{after_agent_end, agents_of, end_agent}
 use Rattle.lwp_types.specs.Case.{Case, Check, refusal_case, unless}
 use Rattle.lwp_types.specs.Choice.{is_eligible, is_eligible_in}
 use Rattle.lwp_types.specs.CountLaws.{count-cons, count-reverse, one, one-le}
@@ -12,7 +12,7 @@ use Rattle.lwp_types.specs.Messages.{after_reply, awaits, letters_of, senders_to
 use Rattle.lwp_types.specs.Monitors.{after_exit, depth_in, with_depth}
 use Rattle.lwp_types.specs.Exceptions.{exit_of, exits_of, is_exit, is_frame}
 use Rattle.lwp_types.specs.MonitorRelease.{grant, last_lock, next_owner, release, without_lock}
-use Rattle.lwp_types.specs.State.{Outcome, State, ThreadRow, and_then, block_set, for_each, in_order, is_agent, is_id, is_not_blocked, is_number, is_thread, marks_in, marks_set, passes, still, suspension_set, thread_of, with_block, with_marks, with_marks_of, with_suspension}
+use Rattle.lwp_types.specs.State.{Outcome, State, ThreadRow, and_then, row_with_block, for_each, in_order, is_agent, is_id, is_not_blocked, is_number, is_thread, marks_in, row_with_marks, passes, still, row_with_suspension, thread_of, with_block, with_marks, with_marks_of, with_suspension}
 use Rattle.lwp_types.specs.Unblock.{nonexist, unblock, zero_answer}
 use Rattle.lwp_types.specs.Conditions.{after_wake, after_wake_all, condition_of, is_lock_of, waking}
 use Rattle.lwp_types.specs.declared.call.Answer.{Answer}
@@ -96,7 +96,7 @@ spends_drain P list change one_less spends (x ∷ xs) s was listed =
 
 module _ (s : State) (d : Option ℕ) (was : NineParts s d) (v : ℕ) (x : ThreadRow) (known : thread_of s v ≡ Some x) where
   put_one : (b : Block) → sum_by waits_one (with_block v b s.threads) + waits_one x ≡ waiting s + one (not (is_not_blocked b))
-  put_one b = put_sum (λ row. row.number) (block_set v b) v waits_one (λ row away. rw away refl) s.threads x known (once_threads s d was v)
+  put_one b = put_sum (λ row. row.number) (row_with_block v b) v waits_one (λ row away. rw away refl) s.threads x known (once_threads s d was v)
       ∙ ap (λ c. waiting s + one (not (is_not_blocked (cond c b x.block)))) (eq-eqb x.number v (number_known s.threads v x known))
 
   pub spends_unblock : is_not_blocked x.block ≡ false → (a : Answer) → Spends 0 s (unblock a v s)
@@ -159,7 +159,7 @@ spends_waking s d was t c more ws among = spends_unless s _ _ (λ passed. by_row
 
 sum-suspension : (v : ℕ) (b : Bool) (rows : List ThreadRow) → sum_by waits_one (with_suspension v b rows) ≡ sum_by waits_one rows
 sum-suspension v b [] = refl
-sum-suspension v b (row ∷ rows) = omega (arith, sum-suspension v b rows, sum_by-cons waits_one (suspension_set v b row) (with_suspension v b rows), sum_by-cons waits_one row rows)
+sum-suspension v b (row ∷ rows) = omega (arith, sum-suspension v b rows, sum_by-cons waits_one (row_with_suspension v b row) (with_suspension v b rows), sum_by-cons waits_one row rows)
 
 spends_case : (s : State) (d : Option ℕ) → NineParts s d → (t : ℕ) (call : ExitCall) → Spends 0 s (of_case (exit_case s t call))
 spends_case s d was t (exit.MonExit m) = spends_unless s _ _ (λ passed. spends_exited s d was m)
@@ -176,7 +176,7 @@ spends_run d t x s was = record { few = omega (arith, (spends_case s d was t x.c
 
 sum-marks : (t : ℕ) (ms : List Mark) (rows : List ThreadRow) → sum_by waits_one (with_marks t ms rows) ≡ sum_by waits_one rows
 sum-marks t ms [] = refl
-sum-marks t ms (row ∷ rows) = omega (arith, sum-marks t ms rows, sum_by-cons waits_one (marks_set t ms row) (with_marks t ms rows), sum_by-cons waits_one row rows)
+sum-marks t ms (row ∷ rows) = omega (arith, sum-marks t ms rows, sum_by-cons waits_one (row_with_marks t ms row) (with_marks t ms rows), sum_by-cons waits_one row rows)
 
 -- the steps of a death
 
@@ -205,7 +205,7 @@ joins_blocks t (block.Waiting c) e = refl
 joins_blocks t block.Sleeping e = refl
 
 spends_end_agent : (s : State) (d : Option ℕ) → NineParts s d → (a : ℕ) → Spends 0 s (end_agent a s)
-spends_end_agent s d was a = spends_then 0 0 s _ (λ now. still (agent_gone a now)) (spends_wake (awaits a) (awaits_alone a) (awaits_blocks a) nonexist s d was) (record { few = omega arith })
+spends_end_agent s d was a = spends_then 0 0 s _ (λ now. still (after_agent_end a now)) (spends_wake (awaits a) (awaits_alone a) (awaits_blocks a) nonexist s d was) (record { few = omega arith })
 
 module _ (t : ℕ) where
   spends_release_all : (s : State) → NineParts s (Some t) → Spends 0 s (release_all t s)
@@ -279,14 +279,14 @@ few-exits (mark.Frame ∷ ms) h = omega (
 module _ (s : State) (was : NineParts s None) (t : ℕ) (x : ThreadRow) (known : thread_of s t ≡ Some x) where
   -- the marks of the dying thread are its own, until they go
   marks-withdrawn : marks_in (withdraw t s).after t ≡ x.marks
-  marks-withdrawn = ap (λ o. unwrap_or (option_map (λ (row : ThreadRow). row.marks) o) []) (by_suspension (with_block t block.Not s.threads) ∙ ap (option_map (suspension_set t false)) (find-row t t block.Not s.threads) ∙ ap (λ o. option_map (suspension_set t false) (option_map (block_set t block.Not) o)) known)
+  marks-withdrawn = ap (λ o. unwrap_or (option_map (λ (row : ThreadRow). row.marks) o) []) (by_suspension (with_block t block.Not s.threads) ∙ ap (option_map (row_with_suspension t false)) (find-row t t block.Not s.threads) ∙ ap (λ o. option_map (row_with_suspension t false) (option_map (row_with_block t block.Not) o)) known)
     where
-      by_suspension : (rows : List ThreadRow) → find (is_number t) (with_suspension t false rows) ≡ option_map (suspension_set t false) (find (is_number t) rows)
+      by_suspension : (rows : List ThreadRow) → find (is_number t) (with_suspension t false rows) ≡ option_map (row_with_suspension t false) (find (is_number t) rows)
       by_suspension [] = refl
       by_suspension (row ∷ rows) = by_test (by_suspension rows) (is_number t row)
         where
-          by_test : find (is_number t) (with_suspension t false rows) ≡ option_map (suspension_set t false) (find (is_number t) rows) → (c : Bool)
-              → cond c (Some (record row { suspended = cond (is_number t row) false row.suspended })) (find (is_number t) (with_suspension t false rows)) ≡ option_map (suspension_set t false) (cond c (Some row) (find (is_number t) rows))
+          by_test : find (is_number t) (with_suspension t false rows) ≡ option_map (row_with_suspension t false) (find (is_number t) rows) → (c : Bool)
+              → cond c (Some (record row { suspended = cond (is_number t row) false row.suspended })) (find (is_number t) (with_suspension t false rows)) ≡ option_map (row_with_suspension t false) (cond c (Some row) (find (is_number t) rows))
           by_test rest true = refl
           by_test rest false = rest
 

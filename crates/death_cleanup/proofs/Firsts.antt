@@ -2,7 +2,7 @@
 use Rattle.death_cleanup.proofs.Living.{later-absent}
 use Rattle.death_cleanup.proofs.Notes.{looked, named-by, noted-left}
 use Rattle.death_cleanup.proofs.Orders.{AreOrdered-removed, any-place, any-removed, before-not, before-says, ordered-at, same-run}
-use Rattle.death_cleanup.specs.Named.{AreOrdered, HasNoWaiter, HasWaiter, IsGap, all_noted, covers, is_before, is_on, is_wait, kind_name, run_number, run_of, waits_at}
+use Rattle.death_cleanup.specs.Named.{AreOrdered, HasNoWaiter, HasWaiter, IsGap, are_all_noted, covers, is_before, is_on, is_wait, kind_name, run_number, run_of, waits_at}
 use Rattle.death_cleanup.specs.Waits.{first_waiting, waits_for}
 use Rattle.death_cleanup.specs.declared.rows.Awaited.{Awaited}
 use Rattle.death_cleanup.specs.declared.rows.Kind.{Kind}
@@ -56,7 +56,7 @@ first-is p o (live ∷ living) rising sound most = by_test (p live.1) refl (λ l
 -- this place is where the waits for this of t begin
 pub record Reached (what : Awaited) (t : ℕ) (living : List (ℕ × Kind)) (waits : List NamedWait) (at : ℕ) : Type 0 where
   pub ordered : AreOrdered waits
-  pub noted : all_noted waits living ≡ true
+  pub noted : are_all_noted waits living ≡ true
   pub gap : IsGap (run_number what t) 0 waits at
 
 module _ (what : Awaited) (t : ℕ) (living : List (ℕ × Kind)) (waits : List NamedWait) (at : ℕ) (reached : Reached what t living waits at) where

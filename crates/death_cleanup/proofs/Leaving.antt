@@ -2,7 +2,7 @@
 use Rattle.death_cleanup.proofs.Living.{written-marks}
 use Rattle.death_cleanup.proofs.Unwinding.{Unwinding, below_fewer, exit_room, marks-are, marks_left, popped, popped_lawful, unwinds_on, unwinds_over, told}
 use Rattle.death_cleanup.specs.Comes.{CameTo, HasRoom}
-use Rattle.death_cleanup.specs.Moves.{after_set_stack, kind_marked, kind_marks}
+use Rattle.death_cleanup.specs.Moves.{after_set_stack, kind_with_marks, kind_marks}
 use Rattle.death_cleanup.specs.Ties.{LawfulParts}
 use Rattle.death_cleanup.specs.View.{state_of}
 use Rattle.death_cleanup.specs.declared.parts.Parts.{Parts}
@@ -30,7 +30,7 @@ pub marks-here : (parts : Parts) (t : ℕ) (k : Kind) → AreRising parts.ids.li
 marks-here parts t k rising is = marks-are parts t rising ∙ ap kind_marks is
 
 pub left-here : (parts : Parts) (t depth : ℕ) (k : Kind) → AreRising parts.ids.live → value_of t parts.ids.live ≡ Some k
-    → record parts { ids = record parts.ids { live = with_value t (kind_marked (unwound_to depth (kind_marks (Some k))).left k) parts.ids.live } } ≡ after_set_stack parts t (unwound_to depth (marks_in (state_of parts) t)).left
+    → record parts { ids = record parts.ids { live = with_value t (kind_with_marks (unwound_to depth (kind_marks (Some k))).left k) parts.ids.live } } ≡ after_set_stack parts t (unwound_to depth (marks_in (state_of parts) t)).left
 left-here parts t depth k rising is =
     ap (λ ps. record parts { ids = record parts.ids { live = ps } }) (written-marks t (λ ms. (unwound_to depth ms).left) parts.ids.live k rising is)
     ∙ ap (λ ms. after_set_stack parts t (unwound_to depth ms).left) (sym (marks-are parts t rising))

@@ -1,5 +1,5 @@
 -- The living in their registry, one by one.
-use Rattle.death_cleanup.specs.Moves.{block_set, kind_marked, kind_marks, kind_set, stack_of, stack_set}
+use Rattle.death_cleanup.specs.Moves.{pair_with_block, kind_with_marks, kind_marks, kind_with_block, stack_of, pair_with_stack}
 use Rattle.death_cleanup.specs.declared.rows.Kind.{Kind}
 use Rattle.lwp_types.specs.declared.rows.Block.{Block}
 use Rattle.lwp_types.specs.declared.rows.Mark.{Mark}
@@ -26,8 +26,8 @@ changed-absent t f (p ∷ living) h = elim (cases_eq p.0 t) [
   | inr away ↦ rw (ne_eqb p.0 t away) (ap (λ ps. p ∷ ps) (changed-absent t f living (rw (ne_eqb p.0 t away) at h)))
 ]
 
-pub block-absent : (t : ℕ) (b : Block) (living : List (ℕ × Kind)) → value_of t living ≡ None → map (block_set t b) living ≡ living
-block-absent t b living h = changed-absent t (kind_set b) living h
+pub block-absent : (t : ℕ) (b : Block) (living : List (ℕ × Kind)) → value_of t living ≡ None → map (pair_with_block t b) living ≡ living
+block-absent t b living h = changed-absent t (kind_with_block b) living h
 
 value-absent : (t : ℕ) (v : Kind) (living : List (ℕ × Kind)) → value_of t living ≡ None → with_value t v living ≡ living
 value-absent t v [] h = refl
@@ -50,16 +50,16 @@ written-changed t f v (p ∷ living) h is = elim (cases_eq p.0 t) [
 ]
 
 pub written-block : (t : ℕ) (b : Block) (v : Kind) (living : List (ℕ × Kind)) → AreRising living → value_of t living ≡ Some v
-    → with_value t (kind_set b v) living ≡ map (block_set t b) living
-written-block t b v living h is = written-changed t (kind_set b) v living h is
+    → with_value t (kind_with_block b v) living ≡ map (pair_with_block t b) living
+written-block t b v living h is = written-changed t (kind_with_block b) v living h is
 
 -- the marks of who lives there, written back
 module _ (t : ℕ) (f : List Mark → List Mark) (living : List (ℕ × Kind)) where
-  pub written-marks : (k : Kind) → AreRising living → value_of t living ≡ Some k → with_value t (kind_marked (f (kind_marks (Some k))) k) living ≡ map (stack_set t (f (stack_of t living))) living
-  written-marks k h is = written-changed t (kind_marked (f (kind_marks (Some k)))) k living h is ∙ ap (λ o. map (stack_set t (f (kind_marks o))) living) (sym is)
+  pub written-marks : (k : Kind) → AreRising living → value_of t living ≡ Some k → with_value t (kind_with_marks (f (kind_marks (Some k))) k) living ≡ map (pair_with_stack t (f (stack_of t living))) living
+  written-marks k h is = written-changed t (kind_with_marks (f (kind_marks (Some k)))) k living h is ∙ ap (λ o. map (pair_with_stack t (f (kind_marks o))) living) (sym is)
 
-  pub no-marks : value_of t living ≡ None → living ≡ map (stack_set t (f (stack_of t living))) living
-  no-marks none = sym (changed-absent t (kind_marked (f (stack_of t living))) living none)
+  pub no-marks : value_of t living ≡ None → living ≡ map (pair_with_stack t (f (stack_of t living))) living
+  no-marks none = sym (changed-absent t (kind_with_marks (f (stack_of t living))) living none)
 
 -- a list from its i-th element on
 drop-suc : {A : Type 0} (xs : List A) (i : ℕ) (x : A) → slice_get xs i ≡ Some x → drop i xs ≡ x ∷ drop (suc i) xs

@@ -1,5 +1,5 @@
 -- What each part's change comes to in the machine's state.
-use Rattle.death_cleanup.specs.Moves.{after_wake, block_set, kind_set}
+use Rattle.death_cleanup.specs.Moves.{after_wake, pair_with_block, kind_with_block}
 use Rattle.death_cleanup.specs.Ties.{IsRanked, IsRoomy, IsTied}
 use Rattle.death_cleanup.specs.View.{known_of, row_of, row_onto, rows_of, state_of}
 use Rattle.death_cleanup.specs.declared.parts.Parts.{Parts}
@@ -26,12 +26,12 @@ use Rattle.std.specs.Prelude.{is_some, option_map, unwrap_or}
 
 -- the scheduler's list
 
-find-known : (t u : ℕ) (b : Bool) (known : List Known) → find (sched.is_of u) (sched.with_block t b known) ≡ option_map (sched.block_set t b) (find (sched.is_of u) known)
+find-known : (t u : ℕ) (b : Bool) (known : List Known) → find (sched.is_of u) (sched.with_block t b known) ≡ option_map (sched.row_with_block t b) (find (sched.is_of u) known)
 find-known t u b [] = refl
 find-known t u b (row ∷ known) = by_test (find-known t u b known) (sched.is_of u row)
   where
-    by_test : find (sched.is_of u) (sched.with_block t b known) ≡ option_map (sched.block_set t b) (find (sched.is_of u) known) → (c : Bool)
-        → cond c (Some (sched.block_set t b row)) (find (sched.is_of u) (sched.with_block t b known)) ≡ option_map (sched.block_set t b) (cond c (Some row) (find (sched.is_of u) known))
+    by_test : find (sched.is_of u) (sched.with_block t b known) ≡ option_map (sched.row_with_block t b) (find (sched.is_of u) known) → (c : Bool)
+        → cond c (Some (sched.row_with_block t b row)) (find (sched.is_of u) (sched.with_block t b known)) ≡ option_map (sched.row_with_block t b) (cond c (Some row) (find (sched.is_of u) known))
     by_test rest true = refl
     by_test rest false = rest
 
@@ -53,12 +53,12 @@ known-unblocked t u (row ∷ known) = elim (cases_eq row.tid u) [
 
 -- the machine's list
 
-pub find-row : (t u : ℕ) (b : Block) (rows : List ThreadRow) → find (is_number u) (machine.with_block t b rows) ≡ option_map (machine.block_set t b) (find (is_number u) rows)
+pub find-row : (t u : ℕ) (b : Block) (rows : List ThreadRow) → find (is_number u) (machine.with_block t b rows) ≡ option_map (machine.row_with_block t b) (find (is_number u) rows)
 find-row t u b [] = refl
 find-row t u b (row ∷ rows) = by_test (find-row t u b rows) (is_number u row)
   where
-    by_test : find (is_number u) (machine.with_block t b rows) ≡ option_map (machine.block_set t b) (find (is_number u) rows) → (c : Bool)
-        → cond c (Some (machine.block_set t b row)) (find (is_number u) (machine.with_block t b rows)) ≡ option_map (machine.block_set t b) (cond c (Some row) (find (is_number u) rows))
+    by_test : find (is_number u) (machine.with_block t b rows) ≡ option_map (machine.row_with_block t b) (find (is_number u) rows) → (c : Bool)
+        → cond c (Some (machine.row_with_block t b row)) (find (is_number u) (machine.with_block t b rows)) ≡ option_map (machine.row_with_block t b) (cond c (Some row) (find (is_number u) rows))
     by_test rest true = refl
     by_test rest false = rest
 
@@ -89,28 +89,28 @@ module _ (p : ℕ) where
   row-same : (t u : ℕ) (b : Bool) (known : List Known) (rec : ThreadRec) → row_of (known_of p (sched.with_block t b known) u) u rec ≡ row_of (known_of p known u) u rec
   row-same t u b known rec = ap (λ o. row_of (unwrap_or o (newcomer u p false)) u rec) (find-known t u b known) ∙ by_found (find (sched.is_of u) known)
     where
-      by_found : (o : Option Known) → row_of (unwrap_or (option_map (sched.block_set t b) o) (newcomer u p false)) u rec ≡ row_of (unwrap_or o (newcomer u p false)) u rec
+      by_found : (o : Option Known) → row_of (unwrap_or (option_map (sched.row_with_block t b) o) (newcomer u p false)) u rec ≡ row_of (unwrap_or o (newcomer u p false)) u rec
       by_found None = refl
       by_found (Some row) = refl
 
   -- another block in the registry, and whatever the scheduler has
-  pub rows-block : (t : ℕ) (w : Block) (b : Bool) (known : List Known) (living : List (ℕ × Kind)) → rows_of p (sched.with_block t b known) (map (block_set t w) living) ≡ machine.with_block t w (rows_of p known living)
+  pub rows-block : (t : ℕ) (w : Block) (b : Bool) (known : List Known) (living : List (ℕ × Kind)) → rows_of p (sched.with_block t b known) (map (pair_with_block t w) living) ≡ machine.with_block t w (rows_of p known living)
   rows-block t w b known [] = refl
   rows-block t w b known (live ∷ living) = by_kind live.0 live.1 (rows-block t w b known living)
     where
-      by_kind : (n : ℕ) (k : Kind) → rows_of p (sched.with_block t b known) (map (block_set t w) living) ≡ machine.with_block t w (rows_of p known living)
-          → row_onto (known_of p (sched.with_block t b known) n) n (cond (eqb n t) (kind_set w k) k) (rows_of p (sched.with_block t b known) (map (block_set t w) living)) ≡ machine.with_block t w (row_onto (known_of p known n) n k (rows_of p known living))
+      by_kind : (n : ℕ) (k : Kind) → rows_of p (sched.with_block t b known) (map (pair_with_block t w) living) ≡ machine.with_block t w (rows_of p known living)
+          → row_onto (known_of p (sched.with_block t b known) n) n (cond (eqb n t) (kind_with_block w k) k) (rows_of p (sched.with_block t b known) (map (pair_with_block t w) living)) ≡ machine.with_block t w (row_onto (known_of p known n) n k (rows_of p known living))
       by_kind n kind.Agent rest = by_test (eqb n t)
         where
-          by_test : (c : Bool) → row_onto (known_of p (sched.with_block t b known) n) n (cond c kind.Agent kind.Agent) (rows_of p (sched.with_block t b known) (map (block_set t w) living)) ≡ machine.with_block t w (rows_of p known living)
+          by_test : (c : Bool) → row_onto (known_of p (sched.with_block t b known) n) n (cond c kind.Agent kind.Agent) (rows_of p (sched.with_block t b known) (map (pair_with_block t w) living)) ≡ machine.with_block t w (rows_of p known living)
           by_test true = rest
           by_test false = rest
       by_kind n (kind.Thread rec) rest = by_test (eqb n t)
         where
-          by_test : (c : Bool) → row_onto (known_of p (sched.with_block t b known) n) n (cond c (kind.Thread (record rec { block = w })) (kind.Thread rec)) (rows_of p (sched.with_block t b known) (map (block_set t w) living))
+          by_test : (c : Bool) → row_onto (known_of p (sched.with_block t b known) n) n (cond c (kind.Thread (record rec { block = w })) (kind.Thread rec)) (rows_of p (sched.with_block t b known) (map (pair_with_block t w) living))
               ≡ record (row_of (known_of p known n) n rec) { block = cond c w rec.block } ∷ machine.with_block t w (rows_of p known living)
-          by_test true = ap (λ row. row ∷ rows_of p (sched.with_block t b known) (map (block_set t w) living)) (row-same t n b known (record rec { block = w })) ∙ ap (λ rows. row_of (known_of p known n) n (record rec { block = w }) ∷ rows) rest
-          by_test false = ap (λ row. row ∷ rows_of p (sched.with_block t b known) (map (block_set t w) living)) (row-same t n b known rec) ∙ ap (λ rows. row_of (known_of p known n) n rec ∷ rows) rest
+          by_test true = ap (λ row. row ∷ rows_of p (sched.with_block t b known) (map (pair_with_block t w) living)) (row-same t n b known (record rec { block = w })) ∙ ap (λ rows. row_of (known_of p known n) n (record rec { block = w }) ∷ rows) rest
+          by_test false = ap (λ row. row ∷ rows_of p (sched.with_block t b known) (map (pair_with_block t w) living)) (row-same t n b known rec) ∙ ap (λ rows. row_of (known_of p known n) n rec ∷ rows) rest
 
   -- a row of the state shows what the scheduler has
   pub shows : (t : ℕ) (known : List Known) (living : List (ℕ × Kind)) (row : ThreadRow) → find (is_number t) (rows_of p known living) ≡ Some row
@@ -158,9 +158,9 @@ waked-is parts t is = rw (rows-block parts.last_prio t block.Not false parts.sch
 
 pub IsTied-waked : (parts : Parts) → IsTied parts → (t : ℕ) → IsTied (after_wake parts t)
 IsTied-waked parts tied t = record {
-  known = λ u. ap is_some (find-known t u false parts.sched.threads) ∙ same-some (sched.block_set t false) (find (sched.is_of u) parts.sched.threads) ∙ tied.known u
+  known = λ u. ap is_some (find-known t u false parts.sched.threads) ∙ same-some (sched.row_with_block t false) (find (sched.is_of u) parts.sched.threads) ∙ tied.known u
       ∙ ap (λ b. b && not (is_same_option parts.dying u)) (sym (ap (λ rows. is_some (find (is_number u) rows)) (rows-block parts.last_prio t block.Not false parts.sched.threads parts.ids.live)
-      ∙ ap is_some (find-row t u block.Not (state_of parts).threads) ∙ same-some (machine.block_set t block.Not) (find (is_number u) (state_of parts).threads)));
+      ∙ ap is_some (find-row t u block.Not (state_of parts).threads) ∙ same-some (machine.row_with_block t block.Not) (find (is_number u) (state_of parts).threads)));
   waits = λ u. known-unblocked t u parts.sched.threads ∙ ap (λ b. not (eqb u t) && b) (tied.waits u)
       ∙ sym (ap (λ rows. passes waits (find (is_number u) rows)) (rows-block parts.last_prio t block.Not false parts.sched.threads parts.ids.live) ∙ row-unblocked t u (state_of parts).threads);
 }
@@ -175,7 +175,7 @@ priority-same parts t u = ap (λ rows. prio (find (is_number u) rows)) (rows-blo
     prio : Option ThreadRow → ℕ
     prio o = unwrap_or (option_map (λ (row : ThreadRow). row.priority) o) 0
 
-    same : (o : Option ThreadRow) → unwrap_or (option_map (λ (row : ThreadRow). row.priority) (option_map (machine.block_set t block.Not) o)) 0 ≡ unwrap_or (option_map (λ (row : ThreadRow). row.priority) o) 0
+    same : (o : Option ThreadRow) → unwrap_or (option_map (λ (row : ThreadRow). row.priority) (option_map (machine.row_with_block t block.Not) o)) 0 ≡ unwrap_or (option_map (λ (row : ThreadRow). row.priority) o) 0
     same None = refl
     same (Some row) = refl
 

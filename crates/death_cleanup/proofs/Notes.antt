@@ -1,8 +1,8 @@
 -- The note of those that wait by name, as the living change.
 use Rattle.death_cleanup.proofs.Living.{later-absent}
 use Rattle.death_cleanup.proofs.Orders.{same-run}
-use Rattle.death_cleanup.specs.Moves.{block_set, kind_marked, kind_set, stack_set}
-use Rattle.death_cleanup.specs.Named.{IsNoteOf, NameNote, all_noted, block_name, covers, is_on, is_one, is_wait, kind_name, named_wait, run_number, run_of, threads_in}
+use Rattle.death_cleanup.specs.Moves.{pair_with_block, kind_with_marks, kind_with_block, pair_with_stack}
+use Rattle.death_cleanup.specs.Named.{IsNoteOf, NameNote, are_all_noted, block_name, covers, is_on, is_one, is_wait, kind_name, named_wait, run_number, run_of, threads_in}
 use Rattle.death_cleanup.specs.View.{known_of, row_onto, rows_of}
 use Rattle.death_cleanup.specs.Waits.{block_waits, waits_for}
 use Rattle.death_cleanup.specs.declared.rows.Awaited.{Awaited}
@@ -24,18 +24,18 @@ use Rattle.std.specs.List.Retain.{IsFiltered, ReturnsInTurn}
 
 -- as many threads live after these changes
 
-block-one : (t : ℕ) (b : Block) (live : ℕ × Kind) → is_one (block_set t b live).1 ≡ is_one live.1
+block-one : (t : ℕ) (b : Block) (live : ℕ × Kind) → is_one (pair_with_block t b live).1 ≡ is_one live.1
 block-one t b live = by_test (eqb live.0 t) live.1
   where
-    by_test : (c : Bool) (k : Kind) → is_one (cond c (kind_set b k) k) ≡ is_one k
+    by_test : (c : Bool) (k : Kind) → is_one (cond c (kind_with_block b k) k) ≡ is_one k
     by_test true (kind.Thread rec) = refl
     by_test true kind.Agent = refl
     by_test false k = refl
 
-stack-one : (t : ℕ) (ms : List Mark) (live : ℕ × Kind) → is_one (stack_set t ms live).1 ≡ is_one live.1
+stack-one : (t : ℕ) (ms : List Mark) (live : ℕ × Kind) → is_one (pair_with_stack t ms live).1 ≡ is_one live.1
 stack-one t ms live = by_test (eqb live.0 t) live.1
   where
-    by_test : (c : Bool) (k : Kind) → is_one (cond c (kind_marked ms k) k) ≡ is_one k
+    by_test : (c : Bool) (k : Kind) → is_one (cond c (kind_with_marks ms k) k) ≡ is_one k
     by_test true (kind.Thread rec) = refl
     by_test true kind.Agent = refl
     by_test false k = refl
@@ -57,32 +57,32 @@ module _ (note : NameNote) where
   noted_live live = covers note.waits live.0 (kind_name live.1)
 
   -- a thread waits for something that is noted, or not by name
-  pub noted-block : (t : ℕ) (b : Block) → covers note.waits t (block_name b) ≡ true → (living : List (ℕ × Kind)) → IsNoteOf note living → IsNoteOf note (map (block_set t b) living)
+  pub noted-block : (t : ℕ) (b : Block) → covers note.waits t (block_name b) ≡ true → (living : List (ℕ × Kind)) → IsNoteOf note living → IsNoteOf note (map (pair_with_block t b) living)
   noted-block t b here living was = record {
-    noted = all_map noted_live noted_live (block_set t b) (λ live h. one_live live.0 live.1 (cases_eq live.0 t) h) living was.noted;
-    room = omega (arith, as-many (block_set t b) (block-one t b) living, was.room);
+    noted = all_map noted_live noted_live (pair_with_block t b) (λ live h. one_live live.0 live.1 (cases_eq live.0 t) h) living was.noted;
+    room = omega (arith, as-many (pair_with_block t b) (block-one t b) living, was.room);
   }
     where
-      set_kind : (n : ℕ) (k : Kind) → covers note.waits n (block_name b) ≡ true → covers note.waits n (kind_name (kind_set b k)) ≡ true
+      set_kind : (n : ℕ) (k : Kind) → covers note.waits n (block_name b) ≡ true → covers note.waits n (kind_name (kind_with_block b k)) ≡ true
       set_kind n (kind.Thread rec) h = h
       set_kind n kind.Agent h = refl
 
-      one_live : (n : ℕ) (k : Kind) → (n ≡ t) ⊎ (n ≡ t → ⊥) → covers note.waits n (kind_name k) ≡ true → covers note.waits n (kind_name (cond (eqb n t) (kind_set b k) k)) ≡ true
+      one_live : (n : ℕ) (k : Kind) → (n ≡ t) ⊎ (n ≡ t → ⊥) → covers note.waits n (kind_name k) ≡ true → covers note.waits n (kind_name (cond (eqb n t) (kind_with_block b k) k)) ≡ true
       one_live n k (inl same) h = rw (eq-eqb n t same) (set_kind n k (rw same here))
       one_live n k (inr away) h = rw (ne_eqb n t away) h
 
   -- other marks
-  pub noted-stack : (t : ℕ) (ms : List Mark) (living : List (ℕ × Kind)) → IsNoteOf note living → IsNoteOf note (map (stack_set t ms) living)
+  pub noted-stack : (t : ℕ) (ms : List Mark) (living : List (ℕ × Kind)) → IsNoteOf note living → IsNoteOf note (map (pair_with_stack t ms) living)
   noted-stack t ms living was = record {
-    noted = all_map noted_live noted_live (stack_set t ms) (λ live h. one_live live.0 live.1 (eqb live.0 t) h) living was.noted;
-    room = omega (arith, as-many (stack_set t ms) (stack-one t ms) living, was.room);
+    noted = all_map noted_live noted_live (pair_with_stack t ms) (λ live h. one_live live.0 live.1 (eqb live.0 t) h) living was.noted;
+    room = omega (arith, as-many (pair_with_stack t ms) (stack-one t ms) living, was.room);
   }
     where
-      marked : (n : ℕ) (k : Kind) → covers note.waits n (kind_name k) ≡ true → covers note.waits n (kind_name (kind_marked ms k)) ≡ true
+      marked : (n : ℕ) (k : Kind) → covers note.waits n (kind_name k) ≡ true → covers note.waits n (kind_name (kind_with_marks ms k)) ≡ true
       marked n (kind.Thread rec) h = h
       marked n kind.Agent h = h
 
-      one_live : (n : ℕ) (k : Kind) (c : Bool) → covers note.waits n (kind_name k) ≡ true → covers note.waits n (kind_name (cond c (kind_marked ms k) k)) ≡ true
+      one_live : (n : ℕ) (k : Kind) (c : Bool) → covers note.waits n (kind_name k) ≡ true → covers note.waits n (kind_name (cond c (kind_with_marks ms k) k)) ≡ true
       one_live n k true h = marked n k h
       one_live n k false h = h
 
@@ -179,7 +179,7 @@ any_kept p keep imp (x ∷ xs) h = by_here (p x) refl h (λ rest. any_kept p kee
 -- other waits are noted, which have those of the threads that wait
 noted-waits : (waits others : List NamedWait) (living : List (ℕ × Kind)) → AreRising living
     → ((n : ℕ) (k : Kind) (name : Awaited × ℕ) → value_of n living ≡ Some k → kind_name k ≡ Some name → list_any (is_wait (run_number name.0 name.1) n) waits ≡ true → list_any (is_wait (run_number name.0 name.1) n) others ≡ true)
-    → all_noted waits living ≡ true → all_noted others living ≡ true
+    → are_all_noted waits living ≡ true → are_all_noted others living ≡ true
 noted-waits waits others living rising has all = all_looked (λ n k. covers others n (kind_name k)) living rising (λ n k is. by_name n k is (kind_name k) refl (looked (λ m l. covers waits m (kind_name l)) living all n k is))
   where
     by_name : (n : ℕ) (k : Kind) → value_of n living ≡ Some k → (o : Option (Awaited × ℕ)) → kind_name k ≡ o → covers waits n o ≡ true → covers others n o ≡ true
@@ -198,11 +198,11 @@ module _ {X F : Type 0} (R : F → X → Bool → F → Type 0) (Q : Type 0) (f 
   tested xs ys filtered some = by_first filtered.0 xs filtered.1 filtered.2 filtered.3 some
 
 -- without the waits that go on no longer
-pub noted-pruned : (waits : List NamedWait) (living : List (ℕ × Kind)) → AreRising living → all_noted waits living ≡ true → all_noted (filter (is_on living) waits) living ≡ true
+pub noted-pruned : (waits : List NamedWait) (living : List (ℕ × Kind)) → AreRising living → are_all_noted waits living ≡ true → are_all_noted (filter (is_on living) waits) living ≡ true
 noted-pruned waits living rising all = noted-waits waits (filter (is_on living) waits) living rising (λ n k name is e h. any_kept (is_wait (run_number name.0 name.1) n) (is_on living) (is-on-named living n k name is e) waits h) all
 
 -- a wait that goes on no longer is left out
-pub noted-left : (waits less : List NamedWait) (w : NamedWait) (living : List (ℕ × Kind)) → AreRising living → is_on living w ≡ false → ((r n : ℕ) → is_wait r n w ≡ false → list_any (is_wait r n) waits ≡ true → list_any (is_wait r n) less ≡ true) → all_noted waits living ≡ true → all_noted less living ≡ true
+pub noted-left : (waits less : List NamedWait) (w : NamedWait) (living : List (ℕ × Kind)) → AreRising living → is_on living w ≡ false → ((r n : ℕ) → is_wait r n w ≡ false → list_any (is_wait r n) waits ≡ true → list_any (is_wait r n) less ≡ true) → are_all_noted waits living ≡ true → are_all_noted less living ≡ true
 noted-left waits less w living rising off others all = noted-waits waits less living rising (λ n k name is e h. others (run_number name.0 name.1) n (by_test n k name is e (is_wait (run_number name.0 name.1) n w) refl) h) all
   where
     by_test : (n : ℕ) (k : Kind) (name : Awaited × ℕ) → value_of n living ≡ Some k → kind_name k ≡ Some name → (c : Bool) → is_wait (run_number name.0 name.1) n w ≡ c → is_wait (run_number name.0 name.1) n w ≡ false
@@ -210,7 +210,7 @@ noted-left waits less w living rising off others all = noted-waits waits less li
     by_test n k name is e true same = absurd (let no : false ≡ true = sym off ∙ is-on-named living n k name is e w same in cc)
 
 -- the waits that are noted are a superset
-pub noted-more : (waits more : List NamedWait) (living : List (ℕ × Kind)) → ((r n : ℕ) → list_any (is_wait r n) waits ≡ true → list_any (is_wait r n) more ≡ true) → all_noted waits living ≡ true → all_noted more living ≡ true
+pub noted-more : (waits more : List NamedWait) (living : List (ℕ × Kind)) → ((r n : ℕ) → list_any (is_wait r n) waits ≡ true → list_any (is_wait r n) more ≡ true) → are_all_noted waits living ≡ true → are_all_noted more living ≡ true
 noted-more waits more living grows all = all_weaker (λ (live : ℕ × Kind). covers waits live.0 (kind_name live.1)) (λ live. covers more live.0 (kind_name live.1)) (λ live h. by_name live.0 (kind_name live.1) h) living all
   where
     by_name : (n : ℕ) (o : Option (Awaited × ℕ)) → covers waits n o ≡ true → covers more n o ≡ true

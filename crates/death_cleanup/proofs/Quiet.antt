@@ -1,7 +1,7 @@
 -- A thread that waits for nothing stands nowhere among those that wait.
 use Rattle.conditions.specs.ConditionTable as cond_table
 use Rattle.conditions.specs.declared.waits.WaitRec.{WaitRec}
-use Rattle.death_cleanup.specs.Moves.{after_withdraw, block_set}
+use Rattle.death_cleanup.specs.Moves.{after_withdraw, pair_with_block}
 use Rattle.death_cleanup.specs.Ties.{LawfulParts}
 use Rattle.death_cleanup.specs.View.{state_of}
 use Rattle.death_cleanup.specs.declared.parts.Parts.{Parts}
@@ -70,7 +70,7 @@ module _ (parts : Parts) (t : ℕ) (lawful : LawfulParts parts) (lives : is_thre
 
   -- so it is out of all that it waited in as it is
   pub withdrawn-idle : after_withdraw parts t ≡ record parts {
-    ids = record parts.ids { live = map (block_set t block.Not) parts.ids.live };
+    ids = record parts.ids { live = map (pair_with_block t block.Not) parts.ids.live };
     sched = sched.after_leave parts.sched t;
     dying = Some t;
     last_prio = sched.priority_in parts.sched t;

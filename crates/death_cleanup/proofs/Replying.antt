@@ -6,7 +6,7 @@ use Rattle.death_cleanup.specs.View.{state_of}
 use Rattle.death_cleanup.specs.declared.parts.Parts.{Parts}
 use Rattle.lwp_types.specs.Case.{refusal_case, unless, with_zero}
 use Rattle.lwp_types.specs.Counts.{is_one_kind}
-use Rattle.lwp_types.specs.Messages.{after_reply, received_from, reply, with_holding}
+use Rattle.lwp_types.specs.Messages.{after_reply, received_letter, reply, with_holding}
 use Rattle.lwp_types.specs.State.{State, agent_of, is_agent, is_blocked_in, is_id, is_not_blocked, is_thread, passes, still, thread_of}
 use Rattle.lwp_types.specs.Unblock.{unblock}
 use Rattle.lwp_types.specs.declared.call.LwpErr.{LwpErr}
@@ -52,9 +52,9 @@ module _ (s : State) (t u : ℕ) (text : List ℕ) where
   reply-absent none = rw none refl
 
   -- the refusals of the messages are those of the call
-  pub reply-refused : is_id s u ≡ true → (e : LwpErr) → refusal (received_from s.letters t u) (length text) ≡ Some e → reply s t u text ≡ refusal_case s e
+  pub reply-refused : is_id s u ≡ true → (e : LwpErr) → refusal (received_letter s.letters t u) (length text) ≡ Some e → reply s t u text ≡ refusal_case s e
   unfolding unless
-  reply-refused lives e cause = rw lives (by_letter (received_from s.letters t u) cause)
+  reply-refused lives e cause = rw lives (by_letter (received_letter s.letters t u) cause)
     where
       by_test : (letter : Letter) (b : Bool) → cond b (Some error.InvalidArg) None ≡ Some e → cond b (refusal_case s error.InvalidArg) (with_zero (after_reply u text s)) ≡ refusal_case s e
       by_test letter true h = let same : error.InvalidArg ≡ e = cc in ap (refusal_case s) same
@@ -65,9 +65,9 @@ module _ (s : State) (t u : ℕ) (text : List ℕ) where
       by_letter None h = let same : error.NoWait ≡ e = cc in ap (refusal_case s) same
       by_letter (Some letter) h = by_test letter (nat_lt letter.room (length text)) h
 
-  pub reply-made : is_id s u ≡ true → refusal (received_from s.letters t u) (length text) ≡ None → reply s t u text ≡ with_zero (after_reply u text s)
+  pub reply-made : is_id s u ≡ true → refusal (received_letter s.letters t u) (length text) ≡ None → reply s t u text ≡ with_zero (after_reply u text s)
   unfolding unless
-  reply-made lives fine = rw lives (by_letter (received_from s.letters t u) fine)
+  reply-made lives fine = rw lives (by_letter (received_letter s.letters t u) fine)
     where
       by_test : (b : Bool) → ◌≡◌ {A = Option LwpErr} (cond b (Some error.InvalidArg) None) None → cond b (refusal_case s error.InvalidArg) (with_zero (after_reply u text s)) ≡ with_zero (after_reply u text s)
       by_test true h = absurd (cc)
@@ -79,8 +79,8 @@ module _ (s : State) (t u : ℕ) (text : List ℕ) where
       by_letter (Some letter) h = by_test (nat_lt letter.room (length text)) h
 
   -- who is replied to has sent a letter
-  pub reply-some : refusal (received_from s.letters t u) (length text) ≡ None → is_none (received_from s.letters t u) ≡ false
-  reply-some fine = by_letter (received_from s.letters t u) fine
+  pub reply-some : refusal (received_letter s.letters t u) (length text) ≡ None → is_none (received_letter s.letters t u) ≡ false
+  reply-some fine = by_letter (received_letter s.letters t u) fine
     where
       by_letter : (o : Option Letter) → refusal o (length text) ≡ None → is_none o ≡ false
       by_letter None h = absurd (cc)
@@ -112,7 +112,7 @@ module _ (parts : Parts) (u : ℕ) where
   replied-thread text none = rw none refl
 
   -- a thread that sent a letter waits for the reply
-  pub sender-waits : LawfulParts parts → (t : ℕ) → is_none (received_from parts.messages.letters t u) ≡ false → is_thread (state_of parts) u ≡ true → is_blocked_in (state_of parts) u ≡ true
+  pub sender-waits : LawfulParts parts → (t : ℕ) → is_none (received_letter parts.messages.letters t u) ≡ false → is_thread (state_of parts) u ≡ true → is_blocked_in (state_of parts) u ≡ true
   sender-waits lawful t some lives = by_row (thread_of (state_of parts) u) refl lives
     where
       by_row : (o : Option _) → thread_of (state_of parts) u ≡ o → is_some o ≡ true → is_blocked_in (state_of parts) u ≡ true

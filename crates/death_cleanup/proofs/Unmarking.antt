@@ -2,10 +2,10 @@
 use Rattle.death_cleanup.proofs.Looks.{find-row, same-some}
 use Rattle.lwp_types.specs.Case.{Case, Check, refusal_case, unless, value_case, with_zero}
 use Rattle.lwp_types.specs.Exits.{exit_case, exit_outcome, run_exit}
-use Rattle.lwp_types.specs.Messages.{after_reply, received_from, with_holding, without_letter}
+use Rattle.lwp_types.specs.Messages.{after_reply, received_letter, with_holding, without_letter}
 use Rattle.lwp_types.specs.Monitors.{after_exit, depth_in, is_owner, with_depth}
 use Rattle.lwp_types.specs.MonitorRelease.{grant, lock_of, next_owner, release, requests_of, without_lock, without_request}
-use Rattle.lwp_types.specs.State.{Outcome, State, ThreadRow, is_agent, is_blocked_in, is_id, is_not_blocked, is_number, is_suspended_in, is_thread, marks_in, marks_set, member, passes, priority_in, still, with_block, with_marks, with_marks_of, with_suspension}
+use Rattle.lwp_types.specs.State.{Outcome, State, ThreadRow, is_agent, is_blocked_in, is_id, is_not_blocked, is_number, is_suspended_in, is_thread, marks_in, row_with_marks, member, passes, priority_in, still, with_block, with_marks, with_marks_of, with_suspension}
 use Rattle.lwp_types.specs.Threads.{after_resume}
 use Rattle.lwp_types.specs.Unblock.{after_unblock, unblock, zero_answer}
 use Rattle.lwp_types.specs.Conditions.{after_wake, after_wake_all, condition_of, is_no_condition, is_not_last, waits_on}
@@ -45,23 +45,23 @@ module _ (t : ℕ) (ms : List Mark) where
 
   -- what is read off the threads is the same
 
-  pub found : (u : ℕ) (rows : List ThreadRow) → find (is_number u) (with_marks t ms rows) ≡ option_map (marks_set t ms) (find (is_number u) rows)
+  pub found : (u : ℕ) (rows : List ThreadRow) → find (is_number u) (with_marks t ms rows) ≡ option_map (row_with_marks t ms) (find (is_number u) rows)
   found u [] = refl
   found u (row ∷ rows) = by_test (found u rows) (is_number u row)
     where
-      by_test : find (is_number u) (with_marks t ms rows) ≡ option_map (marks_set t ms) (find (is_number u) rows) → (c : Bool)
-          → cond c (Some (marks_set t ms row)) (find (is_number u) (with_marks t ms rows)) ≡ option_map (marks_set t ms) (cond c (Some row) (find (is_number u) rows))
+      by_test : find (is_number u) (with_marks t ms rows) ≡ option_map (row_with_marks t ms) (find (is_number u) rows) → (c : Bool)
+          → cond c (Some (row_with_marks t ms row)) (find (is_number u) (with_marks t ms rows)) ≡ option_map (row_with_marks t ms) (cond c (Some row) (find (is_number u) rows))
       by_test rest true = refl
       by_test rest false = rest
 
-  passes_same : (q : ThreadRow → Bool) → ((row : ThreadRow) → q (marks_set t ms row) ≡ q row) → (o : Option ThreadRow) → passes q (option_map (marks_set t ms) o) ≡ passes q o
+  passes_same : (q : ThreadRow → Bool) → ((row : ThreadRow) → q (row_with_marks t ms row) ≡ q row) → (o : Option ThreadRow) → passes q (option_map (row_with_marks t ms) o) ≡ passes q o
   passes_same q same None = refl
   passes_same q same (Some row) = same row
 
   pub lives : (s : State) (u : ℕ) → is_thread (remarked s) u ≡ is_thread s u
   lives s u = ap is_some (found u s.threads) ∙ by_row (find (is_number u) s.threads)
     where
-      by_row : (o : Option ThreadRow) → is_some (option_map (marks_set t ms) o) ≡ is_some o
+      by_row : (o : Option ThreadRow) → is_some (option_map (row_with_marks t ms) o) ≡ is_some o
       by_row None = refl
       by_row (Some row) = refl
 
@@ -74,7 +74,7 @@ module _ (t : ℕ) (ms : List Mark) where
   pub priority : (s : State) (u : ℕ) → priority_in (remarked s) u ≡ priority_in s u
   priority s u = ap (λ o. unwrap_or (option_map (λ (row : ThreadRow). row.priority) o) 0) (found u s.threads) ∙ by_row (find (is_number u) s.threads)
     where
-      by_row : (o : Option ThreadRow) → unwrap_or (option_map (λ (row : ThreadRow). row.priority) (option_map (marks_set t ms) o)) 0 ≡ unwrap_or (option_map (λ (row : ThreadRow). row.priority) o) 0
+      by_row : (o : Option ThreadRow) → unwrap_or (option_map (λ (row : ThreadRow). row.priority) (option_map (row_with_marks t ms) o)) 0 ≡ unwrap_or (option_map (λ (row : ThreadRow). row.priority) o) 0
       by_row None = refl
       by_row (Some row) = refl
 
@@ -85,11 +85,11 @@ module _ (t : ℕ) (ms : List Mark) where
 
   blocks : (u : ℕ) (b : Block) (rows : List ThreadRow) → with_block u b (with_marks t ms rows) ≡ with_marks t ms (with_block u b rows)
   blocks u b [] = refl
-  blocks u b (row ∷ rows) = ap (λ rs. marks_set t ms (record row { block = cond (is_number u row) b row.block }) ∷ rs) (blocks u b rows)
+  blocks u b (row ∷ rows) = ap (λ rs. row_with_marks t ms (record row { block = cond (is_number u row) b row.block }) ∷ rs) (blocks u b rows)
 
   suspensions : (u : ℕ) (b : Bool) (rows : List ThreadRow) → with_suspension u b (with_marks t ms rows) ≡ with_marks t ms (with_suspension u b rows)
   suspensions u b [] = refl
-  suspensions u b (row ∷ rows) = ap (λ rs. marks_set t ms (record row { suspended = cond (is_number u row) b row.suspended }) ∷ rs) (suspensions u b rows)
+  suspensions u b (row ∷ rows) = ap (λ rs. row_with_marks t ms (record row { suspended = cond (is_number u row) b row.suspended }) ∷ rs) (suspensions u b rows)
 
   again : (rows : List ThreadRow) (ks : List Mark) → with_marks t ms (with_marks t ks rows) ≡ with_marks t ms rows
   again [] ks = refl
@@ -107,7 +107,7 @@ module _ (t : ℕ) (ms : List Mark) where
   pub marks_now : (s : State) → is_thread s t ≡ true → marks_in (remarked s) t ≡ ms
   marks_now s is = ap (λ o. unwrap_or (option_map (λ (row : ThreadRow). row.marks) o) []) (found t s.threads) ∙ by_row (find (is_number t) s.threads) refl is
     where
-      by_row : (o : Option ThreadRow) → find (is_number t) s.threads ≡ o → is_some o ≡ true → unwrap_or (option_map (λ (row : ThreadRow). row.marks) (option_map (marks_set t ms) o)) [] ≡ ms
+      by_row : (o : Option ThreadRow) → find (is_number t) s.threads ≡ o → is_some o ≡ true → unwrap_or (option_map (λ (row : ThreadRow). row.marks) (option_map (row_with_marks t ms) o)) [] ≡ ms
       by_row None e is = absurd (cc)
       by_row (Some row) e is = ap (λ c. cond c ms row.marks) (find_passes (is_number t) s.threads row e)
 
@@ -179,8 +179,8 @@ module _ (t : ℕ) (ms : List Mark) where
   exit_case_so s u (exit.Notify c) = ap (λ f. unless (remarked s) (is_no_condition s c ∷ is_not_last s u c ∷ []) (value_case (after_wake_all (condition_of s.conditions c) (option_to_list (best_by (λ (w : WaitRow). f w.tid) (waits_on s.waits c))) (remarked s)) 0)) (priorities s)
       ∙ waking_so s u c (option_to_list (best_by (λ (w : WaitRow). priority_in s w.tid) (waits_on s.waits c)))
   exit_case_so s u (exit.Broadcast c) = waking_so s u c (waits_on s.waits c)
-  exit_case_so s u (exit.Reply to text) = ap (λ b. unless (remarked s) ((not (b || is_agent s to), error.NonExist) ∷ (is_none (received_from s.letters u to), error.NoWait) ∷ (passes (λ (letter : Letter). nat_lt letter.room (length text)) (received_from s.letters u to), error.InvalidArg) ∷ []) (with_zero (after_reply to text (remarked s)))) (lives s to)
-      ∙ ap (λ (o : Outcome). unless (remarked s) ((not (is_id s to), error.NonExist) ∷ (is_none (received_from s.letters u to), error.NoWait) ∷ (passes (λ (letter : Letter). nat_lt letter.room (length text)) (received_from s.letters u to), error.InvalidArg) ∷ []) (with_zero o)) (replied_so to text s)
+  exit_case_so s u (exit.Reply to text) = ap (λ b. unless (remarked s) ((not (b || is_agent s to), error.NonExist) ∷ (is_none (received_letter s.letters u to), error.NoWait) ∷ (passes (λ (letter : Letter). nat_lt letter.room (length text)) (received_letter s.letters u to), error.InvalidArg) ∷ []) (with_zero (after_reply to text (remarked s)))) (lives s to)
+      ∙ ap (λ (o : Outcome). unless (remarked s) ((not (is_id s to), error.NonExist) ∷ (is_none (received_letter s.letters u to), error.NoWait) ∷ (passes (λ (letter : Letter). nat_lt letter.room (length text)) (received_letter s.letters u to), error.InvalidArg) ∷ []) (with_zero o)) (replied_so to text s)
       ∙ unless_so s _ _
   exit_case_so s u (exit.Resume v) = ap (λ b. unless (remarked s) ((not b, error.NonExist) ∷ []) (value_case (after_resume (remarked s) v) 0)) (lives s v)
       ∙ ap (λ now. unless (remarked s) ((not (is_thread s v), error.NonExist) ∷ []) (value_case now 0)) (resumed_so v s) ∙ unless_so s _ _

@@ -3,7 +3,7 @@ use Rattle.death_cleanup.proofs.Notes.{noted-stack}
 use Rattle.death_cleanup.proofs.Looks.{row_under, rows-under}
 use Rattle.death_cleanup.proofs.Unmarking.{blocked, lives, marked_again, marks_now, priority, run_exit_so, same_case}
 use Rattle.death_cleanup.specs.Comes.{CameTo, HasRoom}
-use Rattle.death_cleanup.specs.Moves.{after_set_stack, kind_marked, kind_marks, stack_of, stack_set}
+use Rattle.death_cleanup.specs.Moves.{after_set_stack, kind_with_marks, kind_marks, stack_of, pair_with_stack}
 use Rattle.death_cleanup.specs.Ties.{InStep, LawfulParts}
 use Rattle.death_cleanup.specs.View.{known_of, row_of, row_onto, rows_of, state_of}
 use Rattle.death_cleanup.specs.declared.parts.Parts.{Parts}
@@ -18,7 +18,7 @@ use Rattle.lwp_types.specs.Exceptions.{exits_of, is_exit}
 use Rattle.lwp_types.specs.Lawful.{is_same_option}
 use Rattle.lwp_types.specs.ListLaws.{All-weaker}
 use Rattle.lwp_types.specs.State as machine
-use Rattle.lwp_types.specs.State.{Outcome, State, ThreadRow, and_then, for_each, is_number, is_thread, marks_in, marks_set, thread_of, with_marks, with_marks_of}
+use Rattle.lwp_types.specs.State.{Outcome, State, ThreadRow, and_then, for_each, is_number, is_thread, marks_in, row_with_marks, thread_of, with_marks, with_marks_of}
 use Rattle.lwp_types.specs.Unblock.{zero_answer}
 use Rattle.lwp_types.specs.declared.call.Effect.{Effect}
 use Rattle.lwp_types.specs.declared.call.Effect.TheVariants as effect
@@ -38,20 +38,20 @@ use Rattle.std.specs.List.{list_any}
 use Rattle.std.specs.Prelude.{option_map, option_to_list, unwrap_or}
 
 -- other marks in the registry are other marks in the state
-rows-stacked : (p t : ℕ) (ms : List Mark) (known : List Known) (living : List (ℕ × Kind)) → rows_of p known (map (stack_set t ms) living) ≡ with_marks t ms (rows_of p known living)
+rows-stacked : (p t : ℕ) (ms : List Mark) (known : List Known) (living : List (ℕ × Kind)) → rows_of p known (map (pair_with_stack t ms) living) ≡ with_marks t ms (rows_of p known living)
 rows-stacked p t ms known [] = refl
 rows-stacked p t ms known (live ∷ living) = by_kind live.0 live.1 (rows-stacked p t ms known living)
   where
-    by_kind : (n : ℕ) (k : Kind) → rows_of p known (map (stack_set t ms) living) ≡ with_marks t ms (rows_of p known living)
-        → row_onto (known_of p known n) n (cond (eqb n t) (kind_marked ms k) k) (rows_of p known (map (stack_set t ms) living)) ≡ with_marks t ms (row_onto (known_of p known n) n k (rows_of p known living))
+    by_kind : (n : ℕ) (k : Kind) → rows_of p known (map (pair_with_stack t ms) living) ≡ with_marks t ms (rows_of p known living)
+        → row_onto (known_of p known n) n (cond (eqb n t) (kind_with_marks ms k) k) (rows_of p known (map (pair_with_stack t ms) living)) ≡ with_marks t ms (row_onto (known_of p known n) n k (rows_of p known living))
     by_kind n kind.Agent rest = by_test (eqb n t)
       where
-        by_test : (c : Bool) → row_onto (known_of p known n) n (cond c kind.Agent kind.Agent) (rows_of p known (map (stack_set t ms) living)) ≡ with_marks t ms (rows_of p known living)
+        by_test : (c : Bool) → row_onto (known_of p known n) n (cond c kind.Agent kind.Agent) (rows_of p known (map (pair_with_stack t ms) living)) ≡ with_marks t ms (rows_of p known living)
         by_test true = rest
         by_test false = rest
     by_kind n (kind.Thread rec) rest = by_test (eqb n t)
       where
-        by_test : (c : Bool) → row_onto (known_of p known n) n (cond c (kind.Thread (record rec { stack = ms })) (kind.Thread rec)) (rows_of p known (map (stack_set t ms) living))
+        by_test : (c : Bool) → row_onto (known_of p known n) n (cond c (kind.Thread (record rec { stack = ms })) (kind.Thread rec)) (rows_of p known (map (pair_with_stack t ms) living))
             ≡ record (row_of (known_of p known n) n rec) { marks = cond c ms rec.stack } ∷ with_marks t ms (rows_of p known living)
         by_test true = ap (λ rows. record (row_of (known_of p known n) n rec) { marks = ms } ∷ rows) rest
         by_test false = ap (λ rows. row_of (known_of p known n) n rec ∷ rows) rest
@@ -77,7 +77,7 @@ module _ (parts : Parts) (t : ℕ) (ms : List Mark) where
   }
     where
       few : length (state_of (after_set_stack parts t ms)).threads ≡ length (state_of parts).threads
-      few = ap (λ (s : State). length s.threads) stacked-is ∙ length-map (state_of parts).threads (marks_set t ms)
+      few = ap (λ (s : State). length s.threads) stacked-is ∙ length-map (state_of parts).threads (row_with_marks t ms)
 
 -- a thread's marks are those in the registry
 pub marks-are : (parts : Parts) (t : ℕ) → AreRising parts.ids.live → marks_in (state_of parts) t ≡ stack_of t parts.ids.live

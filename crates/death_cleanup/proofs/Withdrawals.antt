@@ -2,7 +2,7 @@
 use Rattle.death_cleanup.proofs.Notes.{noted-block}
 use Rattle.conditions.specs.ConditionTable as cond_table
 use Rattle.death_cleanup.proofs.Looks.{find-row, row-unblocked, same-some, waits}
-use Rattle.death_cleanup.specs.Moves.{after_withdraw, block_set, kind_set}
+use Rattle.death_cleanup.specs.Moves.{after_withdraw, pair_with_block, kind_with_block}
 use Rattle.death_cleanup.specs.Ties.{InStep, IsTied}
 use Rattle.death_cleanup.specs.View.{known_of, row_of, row_onto, rows_of, state_of}
 use Rattle.death_cleanup.specs.declared.rows.Kind.{Kind}
@@ -12,7 +12,7 @@ use Rattle.death_cleanup.specs.declared.parts.Parts.{Parts}
 use Rattle.lwp_types.specs.Death.{withdraw}
 use Rattle.lwp_types.specs.Lawful.{is_same_option}
 use Rattle.lwp_types.specs.State as machine
-use Rattle.lwp_types.specs.State.{State, is_thread, passes, suspension_set, ThreadRow, is_number, with_block, with_suspension}
+use Rattle.lwp_types.specs.State.{State, is_thread, passes, row_with_suspension, ThreadRow, is_number, with_block, with_suspension}
 use Rattle.lwp_types.specs.declared.rows.Block.TheVariants as block
 use Rattle.lwp_types.specs.MonitorRelease as release
 use Rattle.lwp_types.specs.Conditions as machine_waits
@@ -80,21 +80,21 @@ module _ (p t : ℕ) (known : List Known) where
 
   -- all rows, where the scheduler knew every thread
   pub rows-withdrawn : (living : List (ℕ × Kind)) → ((u : ℕ) → is_some (find (is_number u) (rows_of p known living)) ≡ true → is_some (find (sched.is_of u) known) ≡ true)
-      → rows_of noted after (map (block_set t block.Not) living) ≡ with_suspension t false (with_block t block.Not (rows_of p known living))
+      → rows_of noted after (map (pair_with_block t block.Not) living) ≡ with_suspension t false (with_block t block.Not (rows_of p known living))
   rows-withdrawn [] all = refl
   rows-withdrawn (live ∷ living) all = by_kind live.0 live.1 all (rows-withdrawn living)
     where
       by_kind : (n : ℕ) (k : Kind) → ((u : ℕ) → is_some (find (is_number u) (row_onto (known_of p known n) n k (rows_of p known living))) ≡ true → is_some (find (sched.is_of u) known) ≡ true)
-          → (((u : ℕ) → is_some (find (is_number u) (rows_of p known living)) ≡ true → is_some (find (sched.is_of u) known) ≡ true) → rows_of noted after (map (block_set t block.Not) living) ≡ with_suspension t false (with_block t block.Not (rows_of p known living)))
-          → row_onto (known_of noted after n) n (cond (eqb n t) (kind_set block.Not k) k) (rows_of noted after (map (block_set t block.Not) living)) ≡ with_suspension t false (with_block t block.Not (row_onto (known_of p known n) n k (rows_of p known living)))
+          → (((u : ℕ) → is_some (find (is_number u) (rows_of p known living)) ≡ true → is_some (find (sched.is_of u) known) ≡ true) → rows_of noted after (map (pair_with_block t block.Not) living) ≡ with_suspension t false (with_block t block.Not (rows_of p known living)))
+          → row_onto (known_of noted after n) n (cond (eqb n t) (kind_with_block block.Not k) k) (rows_of noted after (map (pair_with_block t block.Not) living)) ≡ with_suspension t false (with_block t block.Not (row_onto (known_of p known n) n k (rows_of p known living)))
       by_kind n kind.Agent all rest = by_test (eqb n t)
         where
-          by_test : (c : Bool) → row_onto (known_of noted after n) n (cond c kind.Agent kind.Agent) (rows_of noted after (map (block_set t block.Not) living)) ≡ with_suspension t false (with_block t block.Not (rows_of p known living))
+          by_test : (c : Bool) → row_onto (known_of noted after n) n (cond c kind.Agent kind.Agent) (rows_of noted after (map (pair_with_block t block.Not) living)) ≡ with_suspension t false (with_block t block.Not (rows_of p known living))
           by_test true = rest all
           by_test false = rest all
       by_kind n (kind.Thread rec) all rest = by_test (eqb n t) refl
         where
-          others : rows_of noted after (map (block_set t block.Not) living) ≡ with_suspension t false (with_block t block.Not (rows_of p known living))
+          others : rows_of noted after (map (pair_with_block t block.Not) living) ≡ with_suspension t false (with_block t block.Not (rows_of p known living))
           others = rest (λ u is. all u (more u (eqb n u) is))
             where
               more : (u : ℕ) (c : Bool) → is_some (find (is_number u) (rows_of p known living)) ≡ true → is_some (cond c (Some (row_of (known_of p known n) n rec)) (find (is_number u) (rows_of p known living))) ≡ true
@@ -104,10 +104,10 @@ module _ (p t : ℕ) (known : List Known) where
           here : is_some (find (sched.is_of n) known) ≡ true
           here = all n (rw (eq-eqb n n refl) refl)
 
-          by_test : (c : Bool) → eqb n t ≡ c → row_onto (known_of noted after n) n (cond c (kind.Thread (record rec { block = block.Not })) (kind.Thread rec)) (rows_of noted after (map (block_set t block.Not) living))
+          by_test : (c : Bool) → eqb n t ≡ c → row_onto (known_of noted after n) n (cond c (kind.Thread (record rec { block = block.Not })) (kind.Thread rec)) (rows_of noted after (map (pair_with_block t block.Not) living))
               ≡ record (row_of (known_of p known n) n rec) { block = cond c block.Not rec.block; suspended = cond c false (known_of p known n).suspended } ∷ with_suspension t false (with_block t block.Not (rows_of p known living))
-          by_test true e = ap (λ row. row ∷ rows_of noted after (map (block_set t block.Not) living)) (row-withdrawn n rec true e here) ∙ ap (λ rows. record (row_of (known_of p known n) n rec) { block = block.Not; suspended = false } ∷ rows) others
-          by_test false e = ap (λ row. row ∷ rows_of noted after (map (block_set t block.Not) living)) (row-withdrawn n rec false e here) ∙ ap (λ rows. row_of (known_of p known n) n rec ∷ rows) others
+          by_test true e = ap (λ row. row ∷ rows_of noted after (map (pair_with_block t block.Not) living)) (row-withdrawn n rec true e here) ∙ ap (λ rows. record (row_of (known_of p known n) n rec) { block = block.Not; suspended = false } ∷ rows) others
+          by_test false e = ap (λ row. row ∷ rows_of noted after (map (pair_with_block t block.Not) living)) (row-withdrawn n rec false e here) ∙ ap (λ rows. row_of (known_of p known n) n rec ∷ rows) others
 
 requests-forgotten : (t : ℕ) (rs : List EntryRequest) → map mon_table.machine_row (mon_table.without_request t rs) ≡ release.without_request t (map mon_table.machine_row rs)
 requests-forgotten t [] = refl
@@ -125,12 +125,12 @@ waits-forgotten t (w ∷ ws) = by_test (waits-forgotten t ws) (eqb w.tid t)
     by_test rest true = rest
     by_test rest false = ap (λ xs. cond_table.machine_row w ∷ xs) rest
 
-find-suspension : (t u : ℕ) (b : Bool) (rows : List ThreadRow) → find (is_number u) (with_suspension t b rows) ≡ option_map (suspension_set t b) (find (is_number u) rows)
+find-suspension : (t u : ℕ) (b : Bool) (rows : List ThreadRow) → find (is_number u) (with_suspension t b rows) ≡ option_map (row_with_suspension t b) (find (is_number u) rows)
 find-suspension t u b [] = refl
 find-suspension t u b (row ∷ rows) = by_test (find-suspension t u b rows) (is_number u row)
   where
-    by_test : find (is_number u) (with_suspension t b rows) ≡ option_map (suspension_set t b) (find (is_number u) rows) → (c : Bool)
-        → cond c (Some (suspension_set t b row)) (find (is_number u) (with_suspension t b rows)) ≡ option_map (suspension_set t b) (cond c (Some row) (find (is_number u) rows))
+    by_test : find (is_number u) (with_suspension t b rows) ≡ option_map (row_with_suspension t b) (find (is_number u) rows) → (c : Bool)
+        → cond c (Some (row_with_suspension t b row)) (find (is_number u) (with_suspension t b rows)) ≡ option_map (row_with_suspension t b) (cond c (Some row) (find (is_number u) rows))
     by_test rest true = refl
     by_test rest false = rest
 
@@ -154,7 +154,7 @@ module _ (parts : Parts) (t : ℕ) (tied : IsTied parts) (alone : parts.dying �
   pub is-known : is_thread (state_of parts) t ≡ true → sched.knows parts.sched t ≡ true
   is-known is = sym (known-all t) ∙ is
 
-  rows : rows_of (sched.priority_in parts.sched t) (sched.without_row t parts.sched.threads) (map (block_set t block.Not) parts.ids.live) ≡ with_suspension t false (with_block t block.Not (state_of parts).threads)
+  rows : rows_of (sched.priority_in parts.sched t) (sched.without_row t parts.sched.threads) (map (pair_with_block t block.Not) parts.ids.live) ≡ with_suspension t false (with_block t block.Not (state_of parts).threads)
   rows = rows-withdrawn parts.last_prio t parts.sched.threads parts.ids.live (λ u is. sym (known-all u) ∙ is)
 
   pub withdrawn-is : state_of (after_withdraw parts t) ≡ (withdraw t (state_of parts)).after
@@ -167,7 +167,7 @@ module _ (parts : Parts) (t : ℕ) (tied : IsTied parts) (alone : parts.dying �
   }
     where
       lives : (u : ℕ) → is_thread (state_of (after_withdraw parts t)) u ≡ is_thread (state_of parts) u
-      lives u = ap (λ rs. is_some (find (is_number u) rs)) rows ∙ ap is_some (find-suspension t u false (with_block t block.Not (state_of parts).threads)) ∙ same-some (suspension_set t false) (find (is_number u) (with_block t block.Not (state_of parts).threads))
+      lives u = ap (λ rs. is_some (find (is_number u) rs)) rows ∙ ap is_some (find-suspension t u false (with_block t block.Not (state_of parts).threads)) ∙ same-some (row_with_suspension t false) (find (is_number u) (with_block t block.Not (state_of parts).threads))
           ∙ ap is_some (find-row t u block.Not (state_of parts).threads) ∙ same-some _ (find (is_number u) (state_of parts).threads)
 
       knows : (u : ℕ) (o : Option Known) → is_some (cond (eqb u t) None o) ≡ (is_some o && not (eqb t u))
@@ -188,7 +188,7 @@ module _ (parts : Parts) (t : ℕ) (tied : IsTied parts) (alone : parts.dying �
       blocked true o = refl
       blocked false o = refl
 
-      same : (o : Option ThreadRow) → passes waits (option_map (suspension_set t false) o) ≡ passes waits o
+      same : (o : Option ThreadRow) → passes waits (option_map (row_with_suspension t false) o) ≡ passes waits o
       same None = refl
       same (Some row) = refl
 
@@ -202,16 +202,16 @@ module _ (parts : Parts) (t : ℕ) (tied : IsTied parts) (alone : parts.dying �
   priority-same u = ap (λ rs. priority (find (is_number u) rs)) rows ∙ ap priority (find-suspension t u false (with_block t block.Not (state_of parts).threads)) ∙ suspended (find (is_number u) (with_block t block.Not (state_of parts).threads))
       ∙ ap priority (find-row t u block.Not (state_of parts).threads) ∙ unblocked (find (is_number u) (state_of parts).threads)
     where
-      suspended : (o : Option ThreadRow) → priority (option_map (suspension_set t false) o) ≡ priority o
+      suspended : (o : Option ThreadRow) → priority (option_map (row_with_suspension t false) o) ≡ priority o
       suspended None = refl
       suspended (Some row) = refl
 
-      unblocked : (o : Option ThreadRow) → priority (option_map (machine.block_set t block.Not) o) ≡ priority o
+      unblocked : (o : Option ThreadRow) → priority (option_map (machine.row_with_block t block.Not) o) ≡ priority o
       unblocked None = refl
       unblocked (Some row) = refl
 
   length-same : length (state_of (after_withdraw parts t)).threads ≡ length (state_of parts).threads
-  length-same = ap length rows ∙ length-map (with_block t block.Not (state_of parts).threads) (suspension_set t false) ∙ length-map (state_of parts).threads (machine.block_set t block.Not)
+  length-same = ap length rows ∙ length-map (with_block t block.Not (state_of parts).threads) (row_with_suspension t false) ∙ length-map (state_of parts).threads (machine.row_with_block t block.Not)
 
   pub InStep-withdrawn : InStep parts → InStep (after_withdraw parts t)
   InStep-withdrawn step = record {

@@ -20,25 +20,25 @@ use Rattle.stale_ids.specs.Register.{value_of}
 use Rattle.std.specs.Prelude.{IsTrue, List, None, Option, Some, [], false, if◌then◌else◌, length, map, ℕ, ◌<◌, ◌==◌, ◌≡◌, ◌≤◌}
 
 -- the record of a thread with another block
-abbrev pub kind_set : Block → Kind → Kind
-kind_set b (kind.Thread rec) = kind.Thread (record rec { block = b })
-kind_set b kind.Agent = kind.Agent
+abbrev pub kind_with_block : Block → Kind → Kind
+kind_with_block b (kind.Thread rec) = kind.Thread (record rec { block = b })
+kind_with_block b kind.Agent = kind.Agent
 
 -- a pair of the registry, with another block where it is that of t
-abbrev pub block_set : ℕ → Block → ℕ × Kind → ℕ × Kind
-block_set t b live = (live.0, if live.0 == t then kind_set b live.1 else live.1)
+abbrev pub pair_with_block : ℕ → Block → ℕ × Kind → ℕ × Kind
+pair_with_block t b live = (live.0, if live.0 == t then kind_with_block b live.1 else live.1)
 
 -- the parts once thread t goes on
 abbrev pub after_wake : Parts → ℕ → Parts
 after_wake parts t = record parts {
-  ids = record parts.ids { live = map (block_set t block.Not) parts.ids.live };
+  ids = record parts.ids { live = map (pair_with_block t block.Not) parts.ids.live };
   sched = sched.after_unblock parts.sched t;
 }
 
 -- the parts once thread t begins to die
 abbrev pub after_withdraw : Parts → ℕ → Parts
 after_withdraw parts t = record parts {
-  ids = record parts.ids { live = map (block_set t block.Not) parts.ids.live };
+  ids = record parts.ids { live = map (pair_with_block t block.Not) parts.ids.live };
   sched = sched.after_leave parts.sched t;
   conds = cond.after_forget parts.conds t;
   mons = mon.after_forget parts.mons t;
@@ -65,22 +65,22 @@ abbrev pub stack_of : ℕ → List (ℕ × Kind) → List Mark
 stack_of t living = kind_marks (value_of t living)
 
 -- the record of a thread with other marks
-abbrev pub kind_marked : List Mark → Kind → Kind
-kind_marked ms (kind.Thread rec) = kind.Thread (record rec { stack = ms })
-kind_marked ms kind.Agent = kind.Agent
+abbrev pub kind_with_marks : List Mark → Kind → Kind
+kind_with_marks ms (kind.Thread rec) = kind.Thread (record rec { stack = ms })
+kind_with_marks ms kind.Agent = kind.Agent
 
 -- a pair of the registry, with other marks where it is that of t
-abbrev pub stack_set : ℕ → List Mark → ℕ × Kind → ℕ × Kind
-stack_set t ms live = (live.0, if live.0 == t then kind_marked ms live.1 else live.1)
+abbrev pub pair_with_stack : ℕ → List Mark → ℕ × Kind → ℕ × Kind
+pair_with_stack t ms live = (live.0, if live.0 == t then kind_with_marks ms live.1 else live.1)
 
 -- the parts in which t has other marks
 abbrev pub after_set_stack : Parts → ℕ → List Mark → Parts
-after_set_stack parts t ms = record parts { ids = record parts.ids { live = map (stack_set t ms) parts.ids.live } }
+after_set_stack parts t ms = record parts { ids = record parts.ids { live = map (pair_with_stack t ms) parts.ids.live } }
 
 -- the parts once this thread, which waited on a condition of monitor m, waits to enter m
 abbrev pub after_ask : Parts → ℕ → WaitRec → Parts
 after_ask parts m w = record parts {
-  ids = record parts.ids { live = map (block_set w.tid (block.Entering m)) parts.ids.live };
+  ids = record parts.ids { live = map (pair_with_block w.tid (block.Entering m)) parts.ids.live };
   mons = mon.after_request parts.mons (record { mon = m; tid = w.tid; prio = w.prio; depth = w.depth });
 }
 

@@ -92,12 +92,12 @@ covers waits n None = true
 covers waits n (Some name) = list_any (is_wait (run_number name.0 name.1) n) waits
 
 -- whoever waits by name is noted; who no longer waits may be noted too
-abbrev pub all_noted : List NamedWait → List (ℕ × Kind) → Bool
-all_noted waits living = list_all (λ live. covers waits live.0 (kind_name live.1)) living
+abbrev pub are_all_noted : List NamedWait → List (ℕ × Kind) → Bool
+are_all_noted waits living = list_all (λ live. covers waits live.0 (kind_name live.1)) living
 
 -- the note of these: whoever waits by name is noted, and there is room for two waits of each thread
 pub record IsNoteOf (note : NameNote) (living : List (ℕ × Kind)) : Type 0 where
-  pub noted : IsTrue (all_noted note.waits living)
+  pub noted : IsTrue (are_all_noted note.waits living)
   pub room : 2 * threads_in living ≤ note.places
 
 -- ---- how the note is gone over

@@ -6,7 +6,7 @@ ghost use Rattle.lwp_types.specs.Exits.{unwind};
 ghost use Rattle.lwp_types.specs.Exceptions.{first_frames, frames, later_frames};
 ghost use Rattle.lwp_types.specs.State.{marks_in};
 ghost use Rattle.death_cleanup.specs.Comes.{CameTo, HasRoom};
-ghost use Rattle.death_cleanup.specs.Moves.{after_set_stack, stack_of, stack_set};
+ghost use Rattle.death_cleanup.specs.Moves.{after_set_stack, stack_of, pair_with_stack};
 ghost use Rattle.death_cleanup.specs.Ties.{LawfulParts};
 ghost use Rattle.death_cleanup.specs.View.{state_of};
 ghost use Rattle.stale_ids.specs.Register.{AreRising};
@@ -21,7 +21,7 @@ use stale_ids::Registry;
 fn next_exit<'s>(ids: &mut Registry<Kind<'s>>, tid: Tid) -> Option<ExitMark<'s>>
     ensures left { ids.new
         ≡ record ids.old
-        { live = map (stack_set tid (unwound_all (stack_of tid ids.old.live)).left) ids.old.live } }
+        { live = map (pair_with_stack tid (unwound_all (stack_of tid ids.old.live)).left) ids.old.live } }
     ensures next { UnwindsAll (stack_of tid ids.old.live)
         (unwound_all (stack_of tid ids.old.live)).left result }
     ensures rising { AreRising ids.old.live }

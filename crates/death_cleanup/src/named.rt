@@ -1,8 +1,8 @@
 // The note of those that wait by name, so that a death goes over those alone that wait for it.
 ghost use Rattle.std.specs.Prelude.{◌≡◌, ◌==◌, ◌<◌, ◌≤◌, ◌*◌, ◌+◌, ◌-◌, false, map, length, nat_lt, vec_capacity, IfNone, IfOk, IfSome, IsFalse, IsOk, IsTrue, OnErr, OnOk, Option, ℕ};
-ghost use Rattle.death_cleanup.specs.Moves.{block_set};
+ghost use Rattle.death_cleanup.specs.Moves.{pair_with_block};
 ghost use Rattle.std.specs.List.{list_any, remove, slice_index_or};
-ghost use Rattle.death_cleanup.specs.Named.{AreOrdered, HasNoWaiter, HasWaiter, IsBeforeLast, IsGap, IsNoteOf, after_reserve, all_noted, is_before, is_on, is_wait, no_names, run_number, run_of};
+ghost use Rattle.death_cleanup.specs.Named.{AreOrdered, HasNoWaiter, HasWaiter, IsBeforeLast, IsGap, IsNoteOf, after_reserve, are_all_noted, is_before, is_on, is_wait, no_names, run_number, run_of};
 ghost use Rattle.death_cleanup.specs.Waits.{first_waiting};
 ghost use Rattle.death_cleanup.specs.declared.rows.Awaited.TheVariants as awaited;
 ghost use Rattle.stale_ids.specs.Register.{AreRising};
@@ -162,11 +162,11 @@ fn first_in(
     at: usize,
 ) -> Option<Tid>
     requires ordered { AreOrdered waits.old.items }
-    requires noted { IsTrue (all_noted waits.old.items ids.now.live) }
+    requires noted { IsTrue (are_all_noted waits.old.items ids.now.live) }
     requires start { IsGap (run_number what tid) 0 waits.old.items at }
     ensures value { result ≡ first_waiting what tid ids.now.live }
     ensures ordered { AreOrdered waits.new.items }
-    ensures noted { IsTrue (all_noted waits.new.items ids.now.live) }
+    ensures noted { IsTrue (are_all_noted waits.new.items ids.now.live) }
     ensures start { IsGap (run_number what tid) 0 waits.new.items at }
     ensures next { IfNone result (IsGap (run_number what tid + 1) 0 waits.new.items at) }
     ensures capacity { vec_capacity waits.new ≡ vec_capacity waits.old }
@@ -295,7 +295,7 @@ impl Named {
 #[inline(always)]
 pub fn note(named: &mut Named, ids: &Registry<Kind>, tid: Tid, why: &Block)
     requires { IsNoteOf named.old ids.now.live }
-    ensures { IsNoteOf named.new (map (block_set tid why.now) ids.now.live) }
+    ensures { IsNoteOf named.new (map (pair_with_block tid why.now) ids.now.live) }
 {
     let Some(wait) = wait_of(tid, why) else {
         return;

@@ -8,7 +8,7 @@ ghost use Rattle.lwp_types.specs.Unblock.{unblock};
 ghost use Rattle.lwp_types.specs.declared.call.Answer.TheVariants as answer;
 ghost use Rattle.pod_sched.specs.Schedule as sched;
 ghost use Rattle.death_cleanup.specs.Comes.{CameTo};
-ghost use Rattle.death_cleanup.specs.Moves.{after_wake, block_set};
+ghost use Rattle.death_cleanup.specs.Moves.{after_wake, pair_with_block};
 ghost use Rattle.death_cleanup.specs.Ties.{InStep};
 ghost use Rattle.death_cleanup.specs.View.{rows_of, state_of};
 
@@ -98,7 +98,7 @@ pub fn is_id(parts: &Parts, tid: Tid) -> bool
 /// Says of a live thread what it waits for.
 #[inline(always)]
 pub fn set_block(ids: &mut Registry<Kind>, tid: Tid, block: Block)
-    ensures { ids.new ≡ record ids.old { live = map (block_set tid block) ids.old.live } }
+    ensures { ids.new ≡ record ids.old { live = map (pair_with_block tid block) ids.old.live } }
 {
     if let Some(kind) = ids.get_mut(tid.number) {
         match kind {

@@ -1,6 +1,6 @@
 // What the registry keeps under a number, and whom a thread waits for.
 ghost use Rattle.std.specs.Prelude.{◌≡◌, ◌≤◌, Some};
-ghost use Rattle.death_cleanup.specs.Moves.{kind_marked, kind_marks};
+ghost use Rattle.death_cleanup.specs.Moves.{kind_with_marks, kind_marks};
 ghost use Rattle.exceptions.specs.Stack.{UnwindsAll, UnwindsTo, unwound_all, unwound_to};
 ghost use Rattle.lwp_types.specs.Case.{answer_by};
 ghost use Rattle.lwp_types.specs.Exceptions.{frames};
@@ -95,7 +95,7 @@ impl<'s> Kind<'s> {
     /// Takes marks from the top of a thread's stack until one of them was an exit procedure, which is given.
     pub fn unwind_all(&mut self) -> Option<ExitMark<'s>>
         ensures left { self.new
-            ≡ kind_marked (unwound_all (kind_marks (Some self.old))).left self.old }
+            ≡ kind_with_marks (unwound_all (kind_marks (Some self.old))).left self.old }
         ensures next { UnwindsAll (kind_marks (Some self.old))
             (unwound_all (kind_marks (Some self.old))).left result }
     {
@@ -110,7 +110,7 @@ impl<'s> Kind<'s> {
         requires least { 1 ≤ depth }
         requires most { depth ≤ frames (kind_marks (Some self.old)) }
         ensures left { self.new
-            ≡ kind_marked (unwound_to depth (kind_marks (Some self.old))).left self.old }
+            ≡ kind_with_marks (unwound_to depth (kind_marks (Some self.old))).left self.old }
         ensures next { UnwindsTo depth (kind_marks (Some self.old))
             (unwound_to depth (kind_marks (Some self.old))).left result }
     {

@@ -7,7 +7,7 @@ use Rattle.lwp_types.specs.declared.call.Line.{Line}
 use Rattle.event_gate.specs.declared.book.Book.{Book}
 use Rattle.event_gate.specs.declared.view.Told.{Told}
 use Rattle.event_gate.specs.Book.{AreSent, IsRun, Learns}
-use Rattle.event_gate.specs.Clients.{IsNumbered, is_told, of, told_of}
+use Rattle.event_gate.specs.Clients.{IsNumbered, is_told, of, lines_in_pass}
 use Rattle.event_gate.specs.Port.{Accounts}
 use Rattle.event_gate.proofs.Lines.{bool_cases, cond_other, cond_same, of-append, or_other, same_or}
 
@@ -56,7 +56,7 @@ of_others_none d (l ∷ ls) = ⊎_elim
     (same_or l.client d)
 
 -- of a client that is told
-of_left : (c : ℕ) (known : List Told) (taken : List Line) → is_told c known ≡ true → of c (left_lines known taken) ≡ of c (drop (length (of c taken)) (told_of c known))
+of_left : (c : ℕ) (known : List Told) (taken : List Line) → is_told c known ≡ true → of c (left_lines known taken) ≡ of c (drop (length (of c taken)) (lines_in_pass c known))
 of_left c [] taken told = absurd (true≢false (sym told))
 of_left c (t ∷ ts) taken told =
     let n : ℕ = length (of t.client taken) in
@@ -65,11 +65,11 @@ of_left c (t ∷ ts) taken told =
     (λ (e : t.client ≡ c).
     let mine : of c (of t.client (drop n t.posted)) ≡ of c (drop (length (of c taken)) t.posted) = ap (λ d. of c (of d (drop (length (of d taken)) t.posted))) e ∙ of_same_again c (drop (length (of c taken)) t.posted) in
     let rest : of c (others t.client (left_lines ts taken)) ≡ [] = ap (λ d. of c (others d (left_lines ts taken))) e ∙ of_others_none c (left_lines ts taken) in
-    (λ k. mine k ++ rest k) ∙ append-nil (of c (drop (length (of c taken)) t.posted)) ∙ ap (λ ls. of c (drop (length (of c taken)) ls)) (sym (cond_same t.client c t.posted (told_of c ts) e)))
+    (λ k. mine k ++ rest k) ∙ append-nil (of c (drop (length (of c taken)) t.posted)) ∙ ap (λ ls. of c (drop (length (of c taken)) ls)) (sym (cond_same t.client c t.posted (lines_in_pass c ts) e)))
     (λ (apart : t.client ≢ c).
     let none : of c (of t.client (drop n t.posted)) ≡ [] = of_other_none c t.client (drop n t.posted) apart in
     let rest : of c (others t.client (left_lines ts taken)) ≡ of c (left_lines ts taken) = of_others c t.client (left_lines ts taken) apart in
-    (λ k. none k ++ rest k) ∙ of_left c ts taken (or_other t.client c (is_told c ts) apart told) ∙ ap (λ ls. of c (drop (length (of c taken)) ls)) (sym (cond_other t.client c t.posted (told_of c ts) apart)))
+    (λ k. none k ++ rest k) ∙ of_left c ts taken (or_other t.client c (is_told c ts) apart told) ∙ ap (λ ls. of c (drop (length (of c taken)) ls)) (sym (cond_other t.client c t.posted (lines_in_pass c ts) apart)))
     (same_or t.client c)
 
 -- and of one that isn't
@@ -113,8 +113,8 @@ first_lines whole (l ∷ ls) n h s =
 
 pub accounts_learnt : (b : Book) → Learns b → ((c : ℕ) → IsNumbered 0 (of c b.lines)) → Accounts b.noted b.known b.lines (left_lines b.known b.lines)
 accounts_learnt b h numbered =
-    let told : (c : ℕ) → is_told c b.known ≡ true → told_of c b.known ≡ of c b.lines ++ of c (left_lines b.known b.lines) = λ c yes'.
-    let whole : List Line = told_of c b.known in
+    let told : (c : ℕ) → is_told c b.known ≡ true → lines_in_pass c b.known ≡ of c b.lines ++ of c (left_lines b.known b.lines) = λ c yes'.
+    let whole : List Line = lines_in_pass c b.known in
     let n : ℕ = length (of c b.lines) in
     let run = h.runs c yes' in
     let first : take n whole ≡ of c b.lines = first_lines whole (of c b.lines) 0 (numbered c) (h.sent c yes') in
@@ -127,7 +127,7 @@ accounts_learnt b h numbered =
           let untold : is_told c b.known ≡ false = ⊎_elim (λ (e : is_told c b.known ≡ true). absurd (true≢false (sym (h.noted_too c e) ∙ not))) (λ (e : is_told c b.known ≡ false). e) (bool_cases (is_told c b.known)) in
           (λ k. none k ++ of_left_none c b.known b.lines untold k);
       numbered = λ c. ⊎_elim
-          (λ (e : is_told c b.known ≡ true). subst (IsNumbered 0) (told c e) (run_numbered c 0 (told_of c b.known) (h.runs c e)))
+          (λ (e : is_told c b.known ≡ true). subst (IsNumbered 0) (told c e) (run_numbered c 0 (lines_in_pass c b.known) (h.runs c e)))
           (λ (e : is_told c b.known ≡ false). subst (IsNumbered 0) (sym ((λ k. of c b.lines ++ of_left_none c b.known b.lines e k) ∙ append-nil (of c b.lines))) (numbered c))
           (bool_cases (is_told c b.known));
     }

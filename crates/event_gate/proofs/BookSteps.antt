@@ -8,7 +8,7 @@ use Rattle.atomic_table.proofs.Lists.{at_last, at_longer, at_set, set_else}
 use Rattle.lwp_types.specs.declared.call.Line.{Line}
 use Rattle.event_gate.specs.declared.book.Book.{Book}
 use Rattle.event_gate.specs.Book.{AreBooked, AreSent, FitsPoster, FitsTaker, IsRun, IsSent, Learns, below, blank, hit, hits, lines_alone, posters_book, takers_book, tickets_in, with_lines, with_next, with_next_noted, with_note, with_told, without_last, without_lines}
-use Rattle.event_gate.specs.Clients.{is_noted, is_told, of, told_of}
+use Rattle.event_gate.specs.Clients.{is_noted, is_told, of, lines_in_pass}
 use Rattle.event_gate.proofs.Lines.{at_new, bool_cases, cond_other, cond_same, noted_more, noted_still, or_other, same_or}
 
 -- ---- books by place
@@ -372,10 +372,10 @@ books_tell books pass b other u at two at' h may theirs =
     let empty : (c : ℕ) → h.seat c ≡ None → seat c ≡ None = λ c k. ⊎_elim (λ (e : c ≡ u.client). here c e) (λ (n : c ≢ u.client). else c n ∙ k) (same_or c u.client) in
     let posters : (j : ℕ) (y : Book) → j ≢ other → FitsPoster h.seat h.sent j y → FitsPoster seat h.sent j y = λ j y apart f p. let g = f p in (else y.client (two_seats j other apart h.seat y.client u.client g.0 it.0) ∙ g.0, g.1) in
     let noted : is_noted u.client b.noted ≡ true = ⊎_elim (λ (e : is_noted u.client b.noted ≡ true). e) (λ (e : is_noted u.client b.noted ≡ false). absurd (no_seat other h.seat u.client u.client it.0 (me.1 u.client e).0 refl)) (bool_cases (is_noted u.client b.noted)) in
-    let told : (c : ℕ) → is_told c w.known ≡ true → (seat c ≡ None) × (told_of c w.known ≡ h.sent c) × (is_noted c b.noted ≡ true) =
+    let told : (c : ℕ) → is_told c w.known ≡ true → (seat c ≡ None) × (lines_in_pass c w.known ≡ h.sent c) × (is_noted c b.noted ≡ true) =
     λ c k. ⊎_elim
-    (λ (e : c ≡ u.client). (here c e, cond_same u.client c u.sent (told_of c b.known) (sym e) ∙ it.1 ∙ ap h.sent (sym e), ap (λ d. is_noted d b.noted) e ∙ noted))
-    (λ (n : c ≢ u.client). let apart : u.client ≢ c = λ e. n (sym e) in let f = me.2 c (or_other u.client c (is_told c b.known) apart k) in (empty c f.0, cond_other u.client c u.sent (told_of c b.known) apart ∙ f.1, f.2))
+    (λ (e : c ≡ u.client). (here c e, cond_same u.client c u.sent (lines_in_pass c b.known) (sym e) ∙ it.1 ∙ ap h.sent (sym e), ap (λ d. is_noted d b.noted) e ∙ noted))
+    (λ (n : c ≢ u.client). let apart : u.client ≢ c = λ e. n (sym e) in let f = me.2 c (or_other u.client c (is_told c b.known) apart k) in (empty c f.0, cond_other u.client c u.sent (lines_in_pass c b.known) apart ∙ f.1, f.2))
     (same_or c u.client) in
     let Now : ℕ → Book → Type 0 = λ j y. j ≢ other → Fits h.taker seat h.sent j y in
     let now : Each Now vs = each_set Now books pass w
@@ -419,7 +419,7 @@ books_learn books pass b at h may =
     let lines = h.right pass b at in
     record {
       runs = λ c told. subst (IsRun c 0) (sym (me.2 c told).1) (h.runs c);
-      sent = λ c told. sent_of c h.sent (told_of c b.known) b.lines (me.2 c told).1 lines;
+      sent = λ c told. sent_of c h.sent (lines_in_pass c b.known) b.lines (me.2 c told).1 lines;
       stray = λ c none. none_of c h.sent b.lines (me.1 c none).1 lines;
       noted_too = λ c told. (me.2 c told).2;
     }

@@ -10,7 +10,7 @@ use Rattle.event_gate.specs.Book.{Learns, posters_book}
 use Rattle.event_gate.specs.Gauge.{after_announce, after_aim, after_enroll, after_find, after_redeem, after_tell, after_withdraw, at_work, opening, starting}
 use Rattle.event_gate.specs.Port.{Accounts, IsNumbered, Sees, after_take, after_take_in, of}
 use Rattle.atomic_table.specs.Seated.{TableId}
-use Rattle.event_gate.specs.Ends.{IsOpen, IsOpenGauge, IsTakersBook, PortId, opened_port, taking}
+use Rattle.event_gate.specs.Ends.{IsOpen, IsOpenGauge, IsTakersBook, PortId, new_taking, taking}
 use Rattle.event_gate.proofs.BookLearns.{accounts_learnt, left_lines}
 use Rattle.event_gate.proofs.Lines.{of_moved}
 
@@ -75,7 +75,7 @@ book_opens gauge noted v g o h = record {
   numbered = λ c. subst (λ ls. IsNumbered 0 (of c ls)) (sym o.taken_are) tt;
 }
 
-pub taking_opens : (port : PortId) (event : ℕ) (gauge : TableId) (noted : List ℕ) (v : View) (g : GaugeView) → IsOpen gauge noted v → IsOpenGauge noted g → taking port event v g ≡ opened_port port event noted
+pub taking_opens : (port : PortId) (event : ℕ) (gauge : TableId) (noted : List ℕ) (v : View) (g : GaugeView) → IsOpen gauge noted v → IsOpenGauge noted g → taking port event v g ≡ new_taking port event noted
 taking_opens port event gauge noted v g o h = λ k. record { port = port; event = event; taken = o.taken_are k; finds = h.finds k; found = h.found k; noted = o.noted_are k; known = o.known_are k }
 
 -- what the taker's end is when a pass came in

@@ -5,7 +5,7 @@ use lib.ListN.{get_elem?}
 use Rattle.lwp_types.specs.declared.call.Line.{Line}
 use Rattle.event_gate.specs.declared.book.Book.{Book}
 use Rattle.event_gate.specs.declared.view.Told.{Told}
-use Rattle.event_gate.specs.Clients.{of, is_noted, is_told, told_of}
+use Rattle.event_gate.specs.Clients.{of, is_noted, is_told, lines_in_pass}
 
 -- it posts nothing, takes nothing and knows nothing
 abbrev pub blank : Book
@@ -48,12 +48,12 @@ abbrev pub with_next_noted : Book → Book
 with_next_noted b = record b { noted = b.noted ++ b.next ∷ [] }
 
 -- what a poster's book tells
-abbrev pub told_by_book : Book → Told
-told_by_book b = record { client = b.client; posted = b.sent }
+abbrev pub told_of_book : Book → Told
+told_of_book b = record { client = b.client; posted = b.sent }
 
 -- what a poster has announced in all is known
 abbrev pub with_told : Book → Book → Book
-with_told b other = record b { lines = b.lines ++ other.lines; known = told_by_book other ∷ b.known }
+with_told b other = record b { lines = b.lines ++ other.lines; known = told_of_book other ∷ b.known }
 
 -- 1 where it is client c's line i
 abbrev pub hit : ℕ → ℕ → Line → ℕ
@@ -97,7 +97,7 @@ FitsTaker taker seat sent pass b =
     b.takes ≡ true
     → (pass ≡ taker)
     × ((c : ℕ) → is_noted c b.noted ≡ false → (seat c ≡ None) × (sent c ≡ []))
-    × ((c : ℕ) → is_told c b.known ≡ true → (seat c ≡ None) × (told_of c b.known ≡ sent c) × (is_noted c b.noted ≡ true))
+    × ((c : ℕ) → is_told c b.known ≡ true → (seat c ≡ None) × (lines_in_pass c b.known ≡ sent c) × (is_noted c b.noted ≡ true))
 
 -- of each line that was announced and not taken back there is one ticket, whoever has it
 pub record AreBooked (books : List Book) : Type 0 where
@@ -111,7 +111,7 @@ pub record AreBooked (books : List Book) : Type 0 where
 
 -- what the taker knows of the lines of its tickets: each is the one that its client has announced under its number, where that is told, and no other client has announced any
 pub record Learns (b : Book) : Type 0 where
-  pub runs : (c : ℕ) → is_told c b.known ≡ true → IsRun c 0 (told_of c b.known)
-  pub sent : (c : ℕ) → is_told c b.known ≡ true → AreSent (λ d. told_of c b.known) (of c b.lines)
+  pub runs : (c : ℕ) → is_told c b.known ≡ true → IsRun c 0 (lines_in_pass c b.known)
+  pub sent : (c : ℕ) → is_told c b.known ≡ true → AreSent (λ d. lines_in_pass c b.known) (of c b.lines)
   pub stray : (c : ℕ) → is_noted c b.noted ≡ false → of c b.lines ≡ []
   pub noted_too : (c : ℕ) → is_told c b.known ≡ true → is_noted c b.noted ≡ true

@@ -17,9 +17,9 @@ abbrev pub is_told : ℕ → List Told → Bool
 is_told c known = list_any (λ (t : Told). eqb t.client c) known
 
 -- what the client has posted in all, where its pass came back
-abbrev pub told_of : ℕ → List Told → List Line
-told_of c [] = []
-told_of c (t ∷ ts) = cond (eqb t.client c) t.posted (told_of c ts)
+abbrev pub lines_in_pass : ℕ → List Told → List Line
+lines_in_pass c [] = []
+lines_in_pass c (t ∷ ts) = cond (eqb t.client c) t.posted (lines_in_pass c ts)
 
 -- the lines are numbered from n on, below the greatest u32
 abbrev pub IsNumbered : ℕ → List Line → Type 0

@@ -4,7 +4,7 @@ ghost use Rattle.std.specs.Arc.{arc_value};
 ghost use Rattle.crossbeam_queue.specs.SegTies.{IsSegPassOf};
 ghost use Rattle.event_gate.specs.Port.{is_noted, starting, unnamed_view, with_next};
 ghost use Rattle.event_gate.specs.Gauge.{IsAtGauge};
-ghost use Rattle.event_gate.specs.Ends.{IsOpen, IsOpenGauge, opened_port, port_id, posting};
+ghost use Rattle.event_gate.specs.Ends.{IsOpen, IsOpenGauge, new_taking, port_id, posting};
 
 use crate::gauge::{GaugeSeat, another_seat, enroll, open_gauge};
 use crate::port::{Pass, Port};
@@ -128,7 +128,7 @@ pub fn open_port<'s, R: Wait>(
     clients: &[u8],
 ) -> Result<(Taker<'s>, Vec<Poster<'s>>), NoMemory>
     requires { AllPairs (λ a b. a ≢ b) clients.now }
-    ensures taker { IfOk result (λ r. r.0 ≡ opened_port r.0.port event clients.now) }
+    ensures taker { IfOk result (λ r. r.0 ≡ new_taking r.0.port event clients.now) }
     ensures posters { IfOk result (λ r. r.1.items ≡ map (posting r.0.port) clients.now) }
 {
     let (gauge, mut seat) = open_gauge(alloc)?;

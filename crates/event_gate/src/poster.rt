@@ -4,7 +4,7 @@ ghost use Rattle.std.specs.Arc.{arc_value};
 ghost use Rattle.crossbeam_queue.specs.SegTies.{IsSegPassOf};
 ghost use Rattle.event_gate.specs.Port.{poster, after_post, name_of, IsTicketed};
 ghost use Rattle.event_gate.specs.Gauge.{IsAtGauge, posting_seat};
-ghost use Rattle.event_gate.specs.Ends.{port_id, posting, posted_more};
+ghost use Rattle.event_gate.specs.Ends.{port_id, posting, posting_with};
 
 use crate::gauge::{GaugeSeat, announce, withdraw};
 use crate::port::{Pass, Port};
@@ -112,7 +112,7 @@ impl<'s> Poster<'s> {
         requires client { line.client ≡ self.old.client }
         requires next { line.seq ≡ length self.old.posted }
         requires room { length self.old.posted < 4294967295 }
-        ensures posted { OnOk result (self.new ≡ posted_more self.old line.entry) }
+        ensures posted { OnOk result (self.new ≡ posting_with self.old line.entry) }
         ensures refused { IfErr result (λ e. (e.line ≡ line.entry) × (self.new ≡ self.old)) }
     {
         let ticket = announce(&self.port.gauge, &mut self.seat, &line);

@@ -1,6 +1,6 @@
 // What one outside thread does.
 ghost use Rattle.std.specs.Prelude.{◌≡◌, ◌+◌, ◌≤◌, ℕ, length};
-ghost use Rattle.event_gate.specs.Texts.{PostsSome, asked_each, lines_asked};
+ghost use Rattle.event_gate.specs.Texts.{PostsSome, after_asks, lines_asked};
 
 use crate::bell::Bell;
 use crate::poster::{PostPass, Poster};
@@ -45,7 +45,7 @@ fn post_texts<'s, G: PostGate, R: Wait>(
     requires { length poster.old.posted + length texts.now ≤ 4294967295 }
     ensures posts { PostsSome poster.old texts.now result poster.new }
     ensures gate { gate.new
-        ≡ asked_each G.asked gate.old (lines_asked poster.old texts.now result poster.new) }
+        ≡ after_asks G.asked gate.old (lines_asked poster.old texts.now result poster.new) }
 {
     let client = poster.client();
     for text in texts {
@@ -76,7 +76,7 @@ pub fn post_all<'s, G: PostGate, R: Wait>(
     requires { length poster.posted + length texts.now ≤ 4294967295 }
     ensures posts { PostsSome poster.entry texts.now result.all result.pass }
     ensures gate { gate.new
-        ≡ asked_each G.asked gate.old (lines_asked poster.entry texts.now result.all result.pass) }
+        ≡ after_asks G.asked gate.old (lines_asked poster.entry texts.now result.all result.pass) }
 {
     let all = post_texts(rt, &mut poster, gate, texts, bell);
     bell.leave(rt);

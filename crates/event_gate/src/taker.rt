@@ -1,6 +1,6 @@
 // The end of a port that the runner takes from.
 ghost use Rattle.std.specs.Prelude.{true, ◌≡◌, ◌↔◌, ◌%◌, ◌^◌, ◌∷◌, [], List, IfOk, IfSome, IfNone, IsTrue, IsNone};
-ghost use Rattle.event_gate.specs.Ends.{TakesLine, FindsNothing, TakesIn, IsTold, IsAllTaken, IsOpen, IsOpenGauge, opened_port, left_of, port_id};
+ghost use Rattle.event_gate.specs.Ends.{TakesLine, FindsNothing, TakesIn, IsTold, IsAllTaken, IsOpen, IsOpenGauge, new_taking, left_of, port_id};
 ghost use Rattle.std.specs.Arc.{arc_value};
 ghost use Rattle.crossbeam_queue.specs.SegTies.{IsSegPassOf};
 ghost use Rattle.event_gate.specs.Gauge.{Glimpse, IsAtGauge, after_find, after_redeem};
@@ -91,7 +91,7 @@ impl<'s> Taker<'s> {
         requires gauge { IsAtGauge (arc_value port).gauge.shared.table_id seat.table_id
             × IsOpenGauge clients.now seat.me.0 }
         ensures { IfOk result
-            (λ t. t ≡ opened_port (port_id pass.entry.web seat.entry.table_id) event clients.now) }
+            (λ t. t ≡ new_taking (port_id pass.entry.web seat.entry.table_id) event clients.now) }
     {
         let clients = Vec::from_slice(alloc, clients)?;
         let taken = Vec::from_elem(alloc, 0, 256)?;

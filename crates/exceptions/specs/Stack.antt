@@ -79,8 +79,8 @@ abbrev pub unwound_all : List Mark → Unwound
 unwound_all ms = record { left = below_last_exit ms; exit = last_exit ms }
 
 -- in the topmost frame, the handlers from number k on are gone
-abbrev pub settled_at : ℕ → List Mark → List Mark
-settled_at k ms = marks_left (frames ms) k ms
+abbrev pub after_settle_at : ℕ → List Mark → List Mark
+after_settle_at k ms = marks_left (frames ms) k ms
 
 -- laws
 

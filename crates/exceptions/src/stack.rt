@@ -3,7 +3,7 @@ ghost use Rattle.std.specs.Prelude.{◌≡◌, ◌<◌, ◌≤◌, [], false, le
 ghost use Rattle.std.specs.List.{list_any};
 ghost use Rattle.std.specs.Result.{result_err};
 ghost use Rattle.lwp_types.specs.Exceptions.{exits_of, first_frames, frames, handler_in, is_frame, later_frames};
-ghost use Rattle.exceptions.specs.Stack.{GivesInTurn, IsInReach, IsStack, IsTopmostMatch, UnwindsAll, UnwindsTo, after_unhandle, catches, handlers_on_top, has_all_frames, is_full, one_frame, refusal_on, settled_at, unwound_all, unwound_to, with_frame, with_mark};
+ghost use Rattle.exceptions.specs.Stack.{GivesInTurn, IsInReach, IsStack, IsTopmostMatch, UnwindsAll, UnwindsTo, after_unhandle, catches, handlers_on_top, has_all_frames, is_full, one_frame, refusal_on, after_settle_at, unwound_all, unwound_to, with_frame, with_mark};
 
 use crate::marks::{found_in, frames, marks_below, settle, unwind};
 use lwp_types::{ExitCall, ExitMark, Found, Func, LwpErr, Mark, NoMemory, Pattern};
@@ -150,7 +150,7 @@ impl<'s> ExceptionStack<'s> {
     /// In the topmost frame the handlers from number `mark` on go, counted from 0; its exit procedures stay.
     pub fn settle(&mut self, mark: u32)
         requires { mark < handlers_on_top self.old }
-        ensures { self.new ≡ settled_at mark self.old }
+        ensures { self.new ≡ after_settle_at mark self.old }
     {
         let below = self.frames() - 1;
         let base = marks_below(&self.marks, below);

@@ -2,7 +2,7 @@
 ghost use Rattle.std.specs.Prelude.{◌≡◌, ◌↔◌, ◌<◌, ◌≤◌, true, false, [], length, IfSome, IfNone, IfOk, IsNone, IsTrue};
 ghost use Rattle.std.specs.Arc.{arc_value};
 ghost use Rattle.lanes.specs.Lane.{after_post, after_take_in, Sees};
-ghost use Rattle.lanes.specs.Ends.{line_more, lane_posting, lane_opened, lane_left, LaneTakes, LaneFindsNothing, LaneTakesIn, IsLaneTold, IsLaneTaken, IsAtLane, IsLanePoster, Hits, Misses, TakesInSeat};
+ghost use Rattle.lanes.specs.Ends.{line_more, lane_posting, new_lane_taking, lane_left, LaneTakes, LaneFindsNothing, LaneTakesIn, IsLaneTold, IsLaneTaken, IsAtLane, IsLanePoster, Hits, Misses, TakesInSeat};
 
 use crate::rule::{InLane, Learn, Look, Open, Publish, Reserve, TakeIn};
 use crate::view::LaneView;
@@ -282,7 +282,7 @@ pub fn open_lane<'s>(
     lines: u32,
 ) -> Result<(LaneTaker<'s>, LanePoster<'s>), NoMemory>
     requires { lines ≤ 20000 }
-    ensures taker { IfOk result (λ r. r.0 ≡ lane_opened r.0.lane event client) }
+    ensures taker { IfOk result (λ r. r.0 ≡ new_lane_taking r.0.lane event client) }
     ensures poster { IfOk result (λ r. r.1 ≡ lane_posting r.0.lane client lines) }
 {
     let (table, mut seat) = Table::vacant(alloc, &[0], lines as usize, &client)?;

@@ -1,7 +1,7 @@
 // What one outside thread does on a lane.
 ghost use Rattle.std.specs.Prelude.{◌≡◌, ◌+◌, ◌≤◌, length};
-ghost use Rattle.event_gate.specs.Texts.{asked_each, lines_from};
-ghost use Rattle.lanes.specs.Texts.{lane_posted};
+ghost use Rattle.event_gate.specs.Texts.{after_asks, lines_from};
+ghost use Rattle.lanes.specs.Texts.{lane_posting_with_texts};
 
 use crate::lane::{LanePass, LanePoster};
 use event_gate::{Bell, PostGate};
@@ -18,9 +18,9 @@ pub fn lane_post_all<'s, G: PostGate, R: Wait>(
     bell: &Bell,
 ) -> LanePass<'s>
     requires { length poster.posted + length texts.now ≤ poster.lines }
-    ensures posts { result ≡ lane_posted poster.entry texts.now }
+    ensures posts { result ≡ lane_posting_with_texts poster.entry texts.now }
     ensures gate { gate.new
-        ≡ asked_each G.asked gate.old
+        ≡ after_asks G.asked gate.old
         (lines_from poster.entry.client (length poster.entry.posted) texts.now) }
 {
     let client = poster.client();

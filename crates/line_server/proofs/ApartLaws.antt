@@ -1,6 +1,6 @@
 -- A store's letter from one sender changes no other's table.
-use Rattle.line_server.specs.Stores.{Letters, Tables, table_of, tables_after, texts_of, told_among, told_sender}
-use Rattle.line_server.specs.Tables.{Table, replies, told_text}
+use Rattle.line_server.specs.Stores.{Letters, Tables, table_of, tables_after, texts_of, replies_among, served_sender}
+use Rattle.line_server.specs.Tables.{Table, replies, served_text}
 use Rattle.std.proofs.Common.{Bool, List, None, Some, [], ap, cond, false, refl, subst, sym, true, ℕ, ◌≡◌, ◌∙◌, ◌∷◌}
 use Rattle.std.proofs.lemmas.Bool.{eq-eqb, eqb-true}
 use Rattle.std.specs.BTreeMap.{insert_entry, is_at}
@@ -42,18 +42,18 @@ found-other x y t apart (e ∷ es) = by (nat_cmp y e.0) refl (found-other x y t 
     by Greater h later = ap (λ rest. cond (is_eq (nat_cmp x e.0)) (Some e.1) rest) later
 
 -- the table of a sender after its own text, and after another's
-pub own-table : (x : ℕ) (text : List ℕ) (tables : Tables) → table_of x (tables_after x text tables) ≡ (told_text text (table_of x tables)).table
-own-table x text tables = ap (λ o. unwrap_or o []) (found-own x (told_text text (table_of x tables)).table tables)
+pub own-table : (x : ℕ) (text : List ℕ) (tables : Tables) → table_of x (tables_after x text tables) ≡ (served_text text (table_of x tables)).table
+own-table x text tables = ap (λ o. unwrap_or o []) (found-own x (served_text text (table_of x tables)).table tables)
 
 pub other-table : (x y : ℕ) (text : List ℕ) (tables : Tables) → nat_eq x y ≡ false → table_of x (tables_after y text tables) ≡ table_of x tables
-other-table x y text tables apart = ap (λ o. unwrap_or o []) (found-other x y (told_sender y text tables).table apart tables)
+other-table x y text tables apart = ap (λ o. unwrap_or o []) (found-other x y (served_sender y text tables).table apart tables)
 
-pub apart : (x : ℕ) (tables : Tables) (letters : Letters) → told_among x tables letters ≡ replies (table_of x tables) (texts_of x letters)
+pub apart : (x : ℕ) (tables : Tables) (letters : Letters) → replies_among x tables letters ≡ replies (table_of x tables) (texts_of x letters)
 apart x tables [] = refl
 apart x tables (l ∷ ls) = by (nat_eq x l.0) refl (apart x (tables_after l.0 l.1 tables) ls)
   where
     later : List (List ℕ)
-    later = told_among x (tables_after l.0 l.1 tables) ls
+    later = replies_among x (tables_after l.0 l.1 tables) ls
 
     kept : Letters
     kept = filter (λ m. nat_eq x m.0) ls
@@ -61,14 +61,14 @@ apart x tables (l ∷ ls) = by (nat_eq x l.0) refl (apart x (tables_after l.0 l.
     mapped : Letters → List (List ℕ)
     mapped ms = map (λ m. m.1) ms
 
-    by : (b : Bool) → nat_eq x l.0 ≡ b → told_among x (tables_after l.0 l.1 tables) ls ≡ replies (table_of x (tables_after l.0 l.1 tables)) (texts_of x ls)
-        → told_among x tables (l ∷ ls) ≡ replies (table_of x tables) (texts_of x (l ∷ ls))
+    by : (b : Bool) → nat_eq x l.0 ≡ b → replies_among x (tables_after l.0 l.1 tables) ls ≡ replies (table_of x (tables_after l.0 l.1 tables)) (texts_of x ls)
+        → replies_among x tables (l ∷ ls) ≡ replies (table_of x tables) (texts_of x (l ∷ ls))
     by true h e =
-        let same = subst (λ n. table_of x (tables_after n l.1 tables) ≡ (told_text l.1 (table_of x tables)).table) (eqb-true x l.0 h) (own-table x l.1 tables) in
-        (λ i. cond (h i) ((told_sender x l.1 tables).reply ∷ later) later)
-        ∙ ap (λ rest. (told_sender x l.1 tables).reply ∷ rest) (e ∙ ap (λ t. replies t (texts_of x ls)) same)
+        let same = subst (λ n. table_of x (tables_after n l.1 tables) ≡ (served_text l.1 (table_of x tables)).table) (eqb-true x l.0 h) (own-table x l.1 tables) in
+        (λ i. cond (h i) ((served_sender x l.1 tables).reply ∷ later) later)
+        ∙ ap (λ rest. (served_sender x l.1 tables).reply ∷ rest) (e ∙ ap (λ t. replies t (texts_of x ls)) same)
         ∙ sym (λ i. replies (table_of x tables) (mapped (cond (h i) (l ∷ kept) kept)))
     by false h e =
-        (λ i. cond (h i) ((told_sender x l.1 tables).reply ∷ later) later)
+        (λ i. cond (h i) ((served_sender x l.1 tables).reply ∷ later) later)
         ∙ e ∙ ap (λ t. replies t (texts_of x ls)) (other-table x l.0 l.1 tables h)
         ∙ sym (λ i. replies (table_of x tables) (mapped (cond (h i) (l ∷ kept) kept)))

@@ -1,8 +1,8 @@
 -- The value of a command is part of its text; a table that was written through is one that was put anew.
-use Rattle.line_server.specs.Commands.{Command, Del, Get, Put, alone, asked_by, command_of, is_key_length, key_len, put_of}
+use Rattle.line_server.specs.Commands.{Command, Del, Get, Put, alone, command_by, command_of, is_key_length, key_len, put_command}
 use Rattle.line_server.specs.Read.{read_command}
 use Rattle.line_server.specs.Stores.{Tables, tables_after}
-use Rattle.line_server.specs.Tables.{Table, told_text}
+use Rattle.line_server.specs.Tables.{Table, served_text}
 use Rattle.line_server.specs.declared.command.Asked.{Asked}
 use Rattle.line_server.specs.declared.command.Asked.TheVariants as asked
 use Rattle.lwp_types.specs.TextFields.{is_printable, is_text}
@@ -45,7 +45,7 @@ either : (b : Bool) (x y : Option Command) → IsValue (value_of x) → IsValue 
 either true x y hx hy = hx
 either false x y hx hy = hy
 
-put-value : (key behind : List ℕ) → IsValue (drop 1 behind) → IsValue (value_of (put_of key behind))
+put-value : (key behind : List ℕ) → IsValue (drop 1 behind) → IsValue (value_of (put_command key behind))
 put-value key [] h = nothing
 put-value key (s ∷ []) h = nothing
 put-value key (s ∷ b ∷ bs) h = either (s == 32) _ _ h nothing
@@ -58,7 +58,7 @@ del-value : (key behind : List ℕ) → IsValue (value_of (alone (Del key) behin
 del-value key [] = nothing
 del-value key (b ∷ bs) = nothing
 
-asked-value : (word key behind : List ℕ) → IsValue (drop 1 behind) → IsValue (value_of (asked_by word key behind))
+asked-value : (word key behind : List ℕ) → IsValue (drop 1 behind) → IsValue (value_of (command_by word key behind))
 asked-value word key behind h =
     either (bytes_eq word (codes "put ")) _ _ (put-value key behind h)
     (either (bytes_eq word (codes "get ")) _ _ (get-value key behind)
@@ -82,7 +82,7 @@ command-value text h =
     let rest = drop 4 text in
     let n = key_len rest in
     let word = take 4 text in
-    either (is_key_length n) (asked_by word (take n rest) (drop n rest)) None (asked-value word (take n rest) (drop n rest) (dropped-value n text h)) nothing
+    either (is_key_length n) (command_by word (take n rest) (drop n rest)) None (asked-value word (take n rest) (drop n rest) (dropped-value n text h)) nothing
 
 put-fits : (text key value : List ℕ) → IsTrue (is_text text) → command_of text ≡ Some (Put key value) → IsValue value
 put-fits text key value h e = subst (λ c. IsValue (value_of c)) e (command-value text h)
@@ -111,10 +111,10 @@ set-is-insert {V} (e ∷ es) x new sorted there = by (nat_cmp x e.0) refl (set-i
 
 -- a table that was there was told through a reference: it was put there
 pub told-after : (es written : Tables) (x : ℕ) (text : List ℕ) (old new : Table) → IsStrictlySortedBy nat_cmp (keys_of es) → lookup (is_at (nat_cmp x)) es ≡ Some old
-    → written ≡ set_value (is_at (nat_cmp x)) es new → new ≡ (told_text text old).table → written ≡ tables_after x text es
+    → written ≡ set_value (is_at (nat_cmp x)) es new → new ≡ (served_text text old).table → written ≡ tables_after x text es
 told-after es written x text old new sorted there w n =
-    w ∙ ap (set_value (is_at (nat_cmp x)) es) n ∙ set-is-insert es x (told_text text old).table sorted (ap is_some there)
-    ∙ ap (λ o. insert_entry nat_cmp es x (told_text text (unwrap_or o [])).table) (sym there)
+    w ∙ ap (set_value (is_at (nat_cmp x)) es) n ∙ set-is-insert es x (served_text text old).table sorted (ap is_some there)
+    ∙ ap (λ o. insert_entry nat_cmp es x (served_text text (unwrap_or o [])).table) (sym there)
 
 pub if-done : {A E : Type 0} (r : Result A E) (P Q : Type 0) → (P → Q) → OnOk r P → OnOk r Q
 if-done (Ok x) P Q f h = f h

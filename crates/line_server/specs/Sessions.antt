@@ -53,29 +53,29 @@ session_reads body names text = if is_quit text
     else session_sends body names text (command_of text)
 
 -- it has an agent now, or gives up
-abbrev pub session_opened : SessionBody → Answer → Turn SessionBody
-session_opened body (answer.Thread a) = session_receives (record body { agent = a })
-session_opened body (answer.Refused e) = session_returns body
-session_opened body _ = stops body
+abbrev pub session_turn_after_agent : SessionBody → Answer → Turn SessionBody
+session_turn_after_agent body (answer.Thread a) = session_receives (record body { agent = a })
+session_turn_after_agent body (answer.Refused e) = session_returns body
+session_turn_after_agent body _ = stops body
 
 -- a line has come, or none ever will
-abbrev pub session_received : SessionBody → Names → Answer → Turn SessionBody
-session_received body names (answer.Letter from text room) = session_reads body names text
-session_received body names (answer.Refused e) = session_returns body
-session_received body names _ = stops body
+abbrev pub session_turn_after_letter : SessionBody → Names → Answer → Turn SessionBody
+session_turn_after_letter body names (answer.Letter from text room) = session_reads body names text
+session_turn_after_letter body names (answer.Refused e) = session_returns body
+session_turn_after_letter body names _ = stops body
 
 -- the store has replied, or isn't there
-abbrev pub session_told : SessionBody → Answer → Turn SessionBody
-session_told body (answer.Reply text) = session_replies body text
-session_told body (answer.Refused e) = session_replies body (codes "down")
-session_told body _ = stops body
+abbrev pub session_turn_after_reply : SessionBody → Answer → Turn SessionBody
+session_turn_after_reply body (answer.Reply text) = session_replies body text
+session_turn_after_reply body (answer.Refused e) = session_replies body (codes "down")
+session_turn_after_reply body _ = stops body
 
 -- what it does next, by its last call
 abbrev pub session_by : SessionBody → Names → Answer → SessionPlace → Turn SessionBody
 session_by body names a at.Start = (call.Agent body.event, session_at body at.Agent)
-session_by body names a at.Agent = session_opened body a
-session_by body names a at.Recv = session_received body names a
-session_by body names a at.Send = session_told body a
+session_by body names a at.Agent = session_turn_after_agent body a
+session_by body names a at.Recv = session_turn_after_letter body names a
+session_by body names a at.Send = session_turn_after_reply body a
 session_by body names a at.Reply = after_reply body (session_receives body) a
 session_by body names a at.Bye = after_reply body (session_returns body) a
 session_by body names a at.End = stops body

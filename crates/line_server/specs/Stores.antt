@@ -1,5 +1,5 @@
 -- A store keeps a table for each thread that sends to it.
-use Rattle.line_server.specs.Tables.{Table, Told, replies, told_text}
+use Rattle.line_server.specs.Tables.{Table, ServedTable, replies, served_text}
 use Rattle.line_server.specs.Turns.{Turn, after_reply, kept-lengths, stops, with_names}
 use Rattle.line_server.specs.declared.store.StorePlace.{StorePlace}
 use Rattle.line_server.specs.declared.store.StorePlace.TheVariants as at
@@ -36,12 +36,12 @@ abbrev pub table_of : ℕ → Tables → Table
 table_of x tables = unwrap_or (lookup (is_at (nat_cmp x)) tables) []
 
 -- what a sender's text is told, and its table then
-abbrev pub told_sender : ℕ → List ℕ → Tables → Told
-told_sender x text tables = told_text text (table_of x tables)
+abbrev pub served_sender : ℕ → List ℕ → Tables → ServedTable
+served_sender x text tables = served_text text (table_of x tables)
 
 -- the tables then: no other sender's has changed
 abbrev pub tables_after : ℕ → List ℕ → Tables → Tables
-tables_after x text tables = insert_entry nat_cmp tables x (told_sender x text tables).table
+tables_after x text tables = insert_entry nat_cmp tables x (served_sender x text tables).table
 
 -- it waits for anybody
 abbrev pub store_receives : StoreBody → Turn StoreBody
@@ -50,15 +50,15 @@ store_receives body = (call.Recv None mode.Block, record body { place = at.Recv 
 -- it replies to x, and keeps what became of x's table
 abbrev pub store_tells : StoreBody → ℕ → List ℕ → Turn StoreBody
 store_tells body x text = (
-  call.Reply x (told_sender x text body.tables).reply,
+  call.Reply x (served_sender x text body.tables).reply,
   record { tables = tables_after x text body.tables; client = x; place = at.Reply },
 )
 
 -- a text was received
-abbrev pub store_received : StoreBody → Answer → Turn StoreBody
-store_received body (answer.Letter from text room) = store_tells body from text
-store_received body (answer.Refused e) = store_receives body
-store_received body _ = stops body
+abbrev pub store_turn_after_letter : StoreBody → Answer → Turn StoreBody
+store_turn_after_letter body (answer.Letter from text room) = store_tells body from text
+store_turn_after_letter body (answer.Refused e) = store_receives body
+store_turn_after_letter body _ = stops body
 
 -- the reply was too long
 abbrev pub is_invalid : Answer → Bool
@@ -66,16 +66,16 @@ is_invalid (answer.Refused error.InvalidArg) = true
 is_invalid _ = false
 
 -- a reply that is too long is made once more, empty
-abbrev pub store_replied : StoreBody → Answer → Turn StoreBody
-store_replied body a = if is_invalid a
+abbrev pub store_turn_after_reply : StoreBody → Answer → Turn StoreBody
+store_turn_after_reply body a = if is_invalid a
     then (call.Reply body.client [], record body { place = at.Empty })
     else after_reply body (store_receives body) a
 
 -- what it does next, by its last call
 abbrev pub store_by : StoreBody → Answer → StorePlace → Turn StoreBody
 store_by body a at.Start = store_receives body
-store_by body a at.Recv = store_received body a
-store_by body a at.Reply = store_replied body a
+store_by body a at.Recv = store_turn_after_letter body a
+store_by body a at.Reply = store_turn_after_reply body a
 store_by body a at.Empty = after_reply body (store_receives body) a
 
 -- the meaning of a store
@@ -97,12 +97,12 @@ abbrev pub texts_of : ℕ → Letters → List (List ℕ)
 texts_of x letters = map (λ l. l.1) (filter (λ l. nat_eq x l.0) letters)
 
 -- what this sender is told, where a store takes all these letters in turn
-abbrev pub told_among : ℕ → Tables → Letters → List (List ℕ)
-told_among x tables [] = []
-told_among x tables (l ∷ ls) =
-    let later = told_among x (tables_after l.0 l.1 tables) ls in
-    if nat_eq x l.0 then (told_sender x l.1 tables).reply ∷ later else later
+abbrev pub replies_among : ℕ → Tables → Letters → List (List ℕ)
+replies_among x tables [] = []
+replies_among x tables (l ∷ ls) =
+    let later = replies_among x (tables_after l.0 l.1 tables) ls in
+    if nat_eq x l.0 then (served_sender x l.1 tables).reply ∷ later else later
 
 -- a sender is told what its own texts are told on its own table, whatever others send
 abbrev pub SendersAreApart : Type 0
-SendersAreApart = (x : ℕ) (tables : Tables) (letters : Letters) → told_among x tables letters ≡ replies (table_of x tables) (texts_of x letters)
+SendersAreApart = (x : ℕ) (tables : Tables) (letters : Letters) → replies_among x tables letters ≡ replies (table_of x tables) (texts_of x letters)

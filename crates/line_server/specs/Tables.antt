@@ -27,45 +27,45 @@ abbrev pub value_reply : List ℕ → List ℕ
 value_reply value = codes "is" ++ (if is_empty value then [] else 32 ∷ value)
 
 -- what a command is replied to, and the table then
-pub record Told : Type 0 where
+pub record ServedTable : Type 0 where
   pub reply : List ℕ
   pub table : Table
 
 -- a get is told the value, or that there is none
-abbrev pub told_value : Option (List ℕ) → List ℕ
-told_value None = codes "none"
-told_value (Some text) = text
+abbrev pub get_reply : Option (List ℕ) → List ℕ
+get_reply None = codes "none"
+get_reply (Some text) = text
 
 -- a put of a new key into a table of 100 keys is refused; any other is done, and a new key goes to its place in the order
-abbrev pub told_put : List ℕ → List ℕ → Table → Told
-told_put key value table = if nat_le 100 (length table) && is_none (at_key key table)
+abbrev pub served_put : List ℕ → List ℕ → Table → ServedTable
+served_put key value table = if nat_le 100 (length table) && is_none (at_key key table)
     then record { reply = codes "full"; table = table }
     else record { reply = codes "ok"; table = insert_entry key_cmp table key (value_reply value) }
 
 -- a del takes the key out, and tells whether it was there
-abbrev pub told_del : List ℕ → Table → Told
-told_del key table = record {
+abbrev pub served_del : List ℕ → Table → ServedTable
+served_del key table = record {
   reply = if is_some (at_key key table) then codes "ok" else codes "none";
   table = remove_entry (is_at (key_cmp key)) table;
 }
 
 -- a command, done on a table
-abbrev pub told_command : Option Command → Table → Told
-told_command None table = record { reply = codes "bad"; table = table }
-told_command (Some (Put key value)) table = told_put key value table
-told_command (Some (Get key)) table = record { reply = told_value (at_key key table); table = table }
-told_command (Some (Del key)) table = told_del key table
+abbrev pub served_command : Option Command → Table → ServedTable
+served_command None table = record { reply = codes "bad"; table = table }
+served_command (Some (Put key value)) table = served_put key value table
+served_command (Some (Get key)) table = record { reply = get_reply (at_key key table); table = table }
+served_command (Some (Del key)) table = served_del key table
 
 -- a text, read and done on a table
-abbrev pub told_text : List ℕ → Table → Told
-told_text text table = told_command (command_of text) table
+abbrev pub served_text : List ℕ → Table → ServedTable
+served_text text table = served_command (command_of text) table
 
 -- ---- a client's lines in turn
 
 -- what texts are told in turn, with this table at first
 abbrev pub replies : Table → List (List ℕ) → List (List ℕ)
 replies table [] = []
-replies table (text ∷ texts) = (told_text text table).reply ∷ replies (told_text text table).table texts
+replies table (text ∷ texts) = (served_text text table).reply ∷ replies (served_text text table).table texts
 
 -- the line by which a client ends
 abbrev pub is_quit : List ℕ → Bool

@@ -1,5 +1,5 @@
 // What a client's text asks for.
-ghost use Rattle.line_server.specs.Commands.{Command, Put, Get, Del, is_key_byte, key_len, put_of, alone, asked_by, asked_of, command_of};
+ghost use Rattle.line_server.specs.Commands.{Command, Put, Get, Del, is_key_byte, key_len, put_command, alone, command_by, command_by_word, command_of};
 ghost use Rattle.line_server.specs.Read.{read_command};
 ghost use Rattle.std.specs.Option.{option_map};
 ghost use Rattle.lwp_types.specs.TextFields.{is_text};
@@ -33,8 +33,8 @@ fn key_len(text: &[u8]) -> usize
     len
 }
 
-fn put_of<'t>(key: &'t [u8], behind: &'t [u8]) -> Option<Asked<'t>>
-    ensures { option_map read_command result ≡ put_of key.now behind.now }
+fn put_command<'t>(key: &'t [u8], behind: &'t [u8]) -> Option<Asked<'t>>
+    ensures { option_map read_command result ≡ put_command key.now behind.now }
 {
     match behind {
         [] => Some(Asked::Put { key, value: behind }),
@@ -44,11 +44,11 @@ fn put_of<'t>(key: &'t [u8], behind: &'t [u8]) -> Option<Asked<'t>>
 }
 
 // What a word asks for, by its key and what stands behind that.
-fn asked_by<'t>(word: &[u8], key: &'t [u8], behind: &'t [u8]) -> Option<Asked<'t>>
-    ensures { option_map read_command result ≡ asked_by word.now key.now behind.now }
+fn command_by<'t>(word: &[u8], key: &'t [u8], behind: &'t [u8]) -> Option<Asked<'t>>
+    ensures { option_map read_command result ≡ command_by word.now key.now behind.now }
 {
     match word {
-        [b'p', b'u', b't', b' '] => put_of(key, behind),
+        [b'p', b'u', b't', b' '] => put_command(key, behind),
         [b'g', b'e', b't', b' '] if behind.is_empty() => Some(Asked::Get { key }),
         [b'd', b'e', b'l', b' '] if behind.is_empty() => Some(Asked::Del { key }),
         _ => None,
@@ -69,7 +69,7 @@ fn command_in(text: &[u8]) -> Option<Asked<'_>>
         return None;
     }
     let (key, behind) = rest.split_at(len);
-    asked_by(word, key, behind)
+    command_by(word, key, behind)
 }
 
 /// What a text asks for, if it is a command. One that lies in parts is none.

@@ -1,5 +1,5 @@
 // A thread that serves the client of one event.
-ghost use Rattle.line_server.specs.Sessions.{session_receives, session_returns, session_replies, session_next, session_next-keeps_lengths, session_opening, session_received, session_reads, session_told, session_opened, session_at, session_by};
+ghost use Rattle.line_server.specs.Sessions.{session_receives, session_returns, session_replies, session_next, session_next-keeps_lengths, session_opening, session_turn_after_letter, session_reads, session_turn_after_reply, session_turn_after_agent, session_at, session_by};
 ghost use Rattle.line_server.specs.Tables.{is_quit};
 ghost use Rattle.line_server.specs.Turns.{is_replied};
 ghost use Rattle.line_server.specs.declared.session.SessionPlace.TheVariants as place_kind;
@@ -134,7 +134,7 @@ impl SessionBody {
     }
 
     fn take_agent(&mut self, got: &Answer, call: &mut Call)
-        ensures { (call.new, self.new) ≡ session_opened self.old got.now }
+        ensures { (call.new, self.new) ≡ session_turn_after_agent self.old got.now }
     {
         match got {
             Answer::Thread(agent) => {
@@ -147,7 +147,7 @@ impl SessionBody {
     }
 
     fn take_line<'s>(&mut self, env: &Env, got: &Answer<'s>, call: &mut Call<'s>)
-        ensures { (call.new, self.new) ≡ session_received self.old env.now got.now }
+        ensures { (call.new, self.new) ≡ session_turn_after_letter self.old env.now got.now }
     {
         match got {
             Answer::Letter { text, .. } => self.read(env, text, call),
@@ -157,7 +157,7 @@ impl SessionBody {
     }
 
     fn take_reply<'s>(&mut self, got: &Answer<'s>, call: &mut Call<'s>)
-        ensures { (call.new, self.new) ≡ session_told self.old got.now }
+        ensures { (call.new, self.new) ≡ session_turn_after_reply self.old got.now }
     {
         match got {
             Answer::Reply(text) => self.reply(text, call),

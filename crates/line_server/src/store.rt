@@ -1,5 +1,5 @@
 // A thread that keeps tables for those that send to it.
-ghost use Rattle.line_server.specs.Stores.{is_invalid, store_by, store_next, store_next-keeps_lengths, store_opening, store_receives, store_received, store_replied, store_tells, told_sender, tables_after};
+ghost use Rattle.line_server.specs.Stores.{is_invalid, store_by, store_next, store_next-keeps_lengths, store_opening, store_receives, store_turn_after_letter, store_turn_after_reply, store_tells, served_sender, tables_after};
 ghost use Rattle.std.specs.Prelude.{◌≡◌, IfOk, OnOk};
 
 use crate::calls::{set_recv, set_reply, set_return, set_word};
@@ -56,7 +56,7 @@ fn tell<'s>(
     text: &Text<'s>,
 ) -> Result<Text<'s>, NoMemory>
     ensures reply { IfOk result
-        (λ reply. reply ≡ (told_sender from text.now tables.old.entries).reply) }
+        (λ reply. reply ≡ (served_sender from text.now tables.old.entries).reply) }
     ensures after { OnOk result (tables.new.entries ≡ tables_after from text.now tables.old.entries) }
 {
     if let Some(table) = tables.get_mut(&from) {
@@ -100,7 +100,7 @@ impl<'s> StoreBody<'s> {
     }
 
     fn take_letter(&mut self, got: &Answer<'s>, call: &mut Call<'s>) -> Result<(), NoMemory>
-        ensures { OnOk result ((call.new, self.new) ≡ store_received self.old got.now) }
+        ensures { OnOk result ((call.new, self.new) ≡ store_turn_after_letter self.old got.now) }
     {
         match got {
             Answer::Letter { from, text, .. } => self.tell(*from, text, call)?,
@@ -112,7 +112,7 @@ impl<'s> StoreBody<'s> {
 
     // A reply that was too long is made once more, empty.
     fn take_reply(&mut self, got: &Answer, call: &mut Call)
-        ensures { (call.new, self.new) ≡ store_replied self.old got.now }
+        ensures { (call.new, self.new) ≡ store_turn_after_reply self.old got.now }
     {
         if let Answer::Refused(LwpErr::InvalidArg) = got {
             self.place = StorePlace::Empty;

@@ -1,6 +1,6 @@
 // What one client has put into a store.
 ghost use Rattle.line_server.specs.Commands.{command_of};
-ghost use Rattle.line_server.specs.Tables.{at_key, told_text, told_put, told_del, told_value};
+ghost use Rattle.line_server.specs.Tables.{at_key, served_text, served_put, served_del, get_reply};
 ghost use Rattle.lwp_types.specs.TextFields.{is_printable, is_text};
 ghost use Rattle.std.specs.Prelude.{◌≡◌, ◌≤◌, [], length, IfOk, IsTrue, OnOk};
 
@@ -45,8 +45,8 @@ impl<'s> Table<'s> {
     fn put(&mut self, key: &'s [u8], value: &'s [u8]) -> Result<Text<'s>, NoMemory>
         requires short { length value.now ≤ 237 }
         requires printable { IsTrue (is_printable value.now) }
-        ensures reply { IfOk result (λ reply. reply ≡ (told_put key.now value.now self.old).reply) }
-        ensures after { OnOk result (self.new ≡ (told_put key.now value.now self.old).table) }
+        ensures reply { IfOk result (λ reply. reply ≡ (served_put key.now value.now self.old).reply) }
+        ensures after { OnOk result (self.new ≡ (served_put key.now value.now self.old).table) }
     {
         let place = entries::place_of(&self.entries, key);
         if KEYS_MAX <= self.entries.len() && place.is_err() {
@@ -57,7 +57,7 @@ impl<'s> Table<'s> {
     }
 
     fn get(&self, key: &[u8]) -> Text<'s>
-        ensures { result ≡ told_value (at_key key.now self.now) }
+        ensures { result ≡ get_reply (at_key key.now self.now) }
     {
         match entries::find(&self.entries, key) {
             Some(entry) => entry.text(),
@@ -66,8 +66,8 @@ impl<'s> Table<'s> {
     }
 
     fn del(&mut self, key: &[u8]) -> Text<'s>
-        ensures reply { result ≡ (told_del key.now self.old).reply }
-        ensures after { self.new ≡ (told_del key.now self.old).table }
+        ensures reply { result ≡ (served_del key.now self.old).reply }
+        ensures after { self.new ≡ (served_del key.now self.old).table }
     {
         if entries::take(&mut self.entries, key) {
             Text::lent(b"ok")
@@ -79,8 +79,8 @@ impl<'s> Table<'s> {
     /// What a text is replied to. After `NoMemory` the table may be anything.
     #[inline(always)]
     pub fn tell(&mut self, text: &Text<'s>) -> Result<Text<'s>, NoMemory>
-        ensures reply { IfOk result (λ reply. reply ≡ (told_text text.now self.old).reply) }
-        ensures after { OnOk result (self.new ≡ (told_text text.now self.old).table) }
+        ensures reply { IfOk result (λ reply. reply ≡ (served_text text.now self.old).reply) }
+        ensures after { OnOk result (self.new ≡ (served_text text.now self.old).table) }
     {
         match command_of(text) {
             Some(Asked::Put { key, value }) => self.put(key, value),

@@ -2,11 +2,11 @@
 use Rattle.event_gate.proofs.Lines.{same_or}
 use Rattle.event_gate.proofs.Texts.{length-lines_from}
 use Rattle.event_gate.specs.Inlet.{EachInlet, Intake}
-use Rattle.event_gate.specs.Port.{is_noted, is_told, told_of}
+use Rattle.event_gate.specs.Port.{is_noted, is_told, lines_in_pass}
 use Rattle.event_gate.specs.Shelves.{event_of}
 use Rattle.live_clients.proofs.Served.{is_client}
 use Rattle.live_clients.proofs.Ties.{IsSame, for_kept, known_again, out_kept, short_again}
-use Rattle.live_clients.specs.Ends.{AnyPosting, IsEnd, IsTakenIn, passed_of}
+use Rattle.live_clients.specs.Ends.{AnyPosting, IsEnd, IsTakenIn, pass_posting}
 use Rattle.live_clients.specs.Inlets.{is_lane}
 use Rattle.live_clients.specs.Served.{FellShort, Hears, clients_of, texts_of}
 use Rattle.live_clients.specs.Ties.{AreTied, IsKnown, IsOut, IsWork, any_intake}
@@ -56,11 +56,11 @@ hears before k t u p inside at h = each_set Hears before k u (λ v. refl) inside
 -- ---- the client that is back
 
 -- of the client that is back
-known_mine : (texts : List (List (List ℕ))) (all : Bool) (c : ℕ) (e : AnyEnd) (t u : Intake) → IsEnd t.place c (texts_of texts c) e → IsTakenIn t (passed_of e.pass) u → IsKnown texts (all && e.all) c u
+known_mine : (texts : List (List (List ℕ))) (all : Bool) (c : ℕ) (e : AnyEnd) (t u : Intake) → IsEnd t.place c (texts_of texts c) e → IsTakenIn t (pass_posting e.pass) u → IsKnown texts (all && e.all) c u
 known_mine texts all c e t u end h = record {
   told = subst (λ (d : ℕ). is_told d u.known ≡ true) end.client_is h.told;
   count = end.count;
-  posted = subst (λ (d : ℕ). told_of d u.known ≡ (passed_of e.pass).posted) end.client_is h.posted ∙ end.posted;
+  posted = subst (λ (d : ℕ). lines_in_pass d u.known ≡ (pass_posting e.pass).posted) end.client_is h.posted ∙ end.posted;
   whole = λ both. end.whole (second_of_both all e.all both);
   sole = λ lane. end.whole (end.sure (sym (ap is_lane (ap (λ (v : Intake). v.place) h.same)) ∙ lane));
 }
@@ -90,7 +90,7 @@ one_inlet before i j d rise low high e = ⊎_elim
 short_mine : (events : List ℕ) (texts : List (List (List ℕ))) (c k : ℕ) (before : List Intake) (t u : Intake) (e : AnyEnd)
     → EachInlet IsSame before (set before k u) → ((i j : ℕ) (d : Intake) → i < j → j < length before → (slice_index_or before i d).event < (slice_index_or before j d).event)
     → k < length before → ((d : Intake) → (slice_index_or before k d).event ≡ event_of events c) → c < length events
-    → IsEnd t.place c (texts_of texts c) e → IsTakenIn t (passed_of e.pass) u → e.all ≡ false → FellShort events texts c (set before k u)
+    → IsEnd t.place c (texts_of texts c) e → IsTakenIn t (pass_posting e.pass) u → e.all ≡ false → FellShort events texts c (set before k u)
 unfolding known_mine
 short_mine events texts c k before t u e same rise inside event low end taken not = record {
   client = c;
@@ -102,10 +102,10 @@ short_mine events texts c k before t u e same rise inside event low end taken no
       (λ (here : j ≡ k).
       let now : slice_index_or (set before k u) j d ≡ u = ap (λ (i : ℕ). slice_index_or (set before k u) i d) here ∙ get_or-set_same before k u d inside in
       let ts : List (List ℕ) = take end.count (texts_of texts c) in
-      let size : length (told_of c u.known) ≡ length ts = ap length (known_mine texts true c e t u end taken).posted ∙ length-lines_from c 0 ts in
+      let size : length (lines_in_pass c u.known) ≡ length ts = ap length (known_mine texts true c e t u end taken).posted ∙ length-lines_from c 0 ts in
       let few = end.short not in
       let count : length ts ≡ end.count = length-take-le end.count (texts_of texts c) (omega (arith, few)) in
-      subst (λ (v : Intake). length (told_of c v.known) < length (texts_of texts c)) (sym now) (omega (arith, size, few, count)))
+      subst (λ (v : Intake). length (lines_in_pass c v.known) < length (texts_of texts c)) (sym now) (omega (arith, size, few, count)))
       (λ (away : j ≢ k). absurd (away (one_inlet before j k d rise inside' inside (sym (same.1 j d inside').event ∙ is ∙ sym (event d)))))
       (same_or j k);
 }
@@ -115,7 +115,7 @@ pub tied_back : (events : List ℕ) (texts : List (List (List ℕ))) (all : Bool
     → AreTied events texts all (out ++ client ∷ []) before
     → ((d : Intake) → slice_index_or before client.inlet d ≡ t)
     → IsEnd t.place (length out) (texts_of texts (length out)) e
-    → IsTakenIn t (passed_of e.pass) u
+    → IsTakenIn t (pass_posting e.pass) u
     → AreTied events texts (all && e.all) out (set before client.inlet u)
 tied_back events texts all out before client t u e h at end taken =
     let c : ℕ = length out in
@@ -125,7 +125,7 @@ tied_back events texts all out before client t u e h at end taken =
     let few = h.out_of in
     let last : slice_index_or (out ++ client ∷ []) c client ≡ client = get_or-append_seam out client [] client in
     let mine : IsOut events texts before c client = subst (IsOut events texts before c) last (h.at_work c client (omega (arith, size))) in
-    let same : EachInlet IsSame before after = each_set IsSame before k u same_here mine.inside (λ d. subst (λ v. IsSame v u) (sym (at d)) (taken_in_same t u (passed_of e.pass) taken)) in
+    let same : EachInlet IsSame before after = each_set IsSame before k u same_here mine.inside (λ d. subst (λ v. IsSame v u) (sym (at d)) (taken_in_same t u (pass_posting e.pass) taken)) in
     record {
       are_for = for_kept events before after same h.are_for;
       small = h.small;
@@ -146,7 +146,7 @@ tied_back events texts all out before client t u e h at end taken =
           (λ (other : c ≢ b).
           let event : t.event ≡ event_of events b = ap (λ (v : Intake). v.event) (sym was) ∙ is' in
           let noted : is_noted b t.noted ≡ true = ap (is_noted b) (subst (λ (v : Intake). v.noted ≡ clients_of events v.event) was (h.are_for.clients j d inside')) ∙ is_client events t.event b low (sym event) in
-          known_still texts all e.all b t u (passed_of e.pass) noted (ne_eqb (passed_of e.pass).client b (λ q. other (sym end.client_is ∙ q))) taken
+          known_still texts all e.all b t u (pass_posting e.pass) noted (ne_eqb (pass_posting e.pass).client b (λ q. other (sym end.client_is ∙ q))) taken
           (subst (IsKnown texts all b) was (h.back b (omega (arith, size, high, other)) low j d inside' is')))
           (same_or c b)))
           (λ (away : j ≢ k).
@@ -166,8 +166,8 @@ tied_back events texts all out before client t u e h at end taken =
           let event : t.event ≡ event_of events b = ap (λ (v : Intake). v.event) (sym was) ∙ is' in
           let noted : is_noted b t.noted ≡ true = ap (is_noted b) (subst (λ (v : Intake). v.noted ≡ clients_of events v.event) was (h.are_for.clients j d inside')) ∙ is_client events t.event b low (sym event) in
           let client_is = end.client_is in
-          ap (λ (v : Intake). told_of b v.known) now ∙ (taken.others b noted (ne_eqb (passed_of e.pass).client b (λ q. omega (arith, size, high, client_is, q)))).1 ∙ sym (ap (λ (v : Intake). told_of b v.known) was))
-          (λ (away : j ≢ k). ap (λ (v : Intake). told_of b v.known) (get_or-set_other before k j u d away))
+          ap (λ (v : Intake). lines_in_pass b v.known) now ∙ (taken.others b noted (ne_eqb (pass_posting e.pass).client b (λ q. omega (arith, size, high, client_is, q)))).1 ∙ sym (ap (λ (v : Intake). lines_in_pass b v.known) was))
+          (λ (away : j ≢ k). ap (λ (v : Intake). lines_in_pass b v.known) (get_or-set_other before k j u d away))
           (same_or j k))
           (h.short others))
           (λ (mine' : e.all ≡ false). short_mine events texts c k before t u e same h.are_for.rise.1 mine.inside mine.event (omega (arith, size, few)) end taken mine')
@@ -179,7 +179,7 @@ pub end_fits : (events : List ℕ) (texts : List (List (List ℕ))) (all : Bool)
     → AreTied events texts all (out ++ client ∷ []) before
     → ((d : Intake) → slice_index_or before client.inlet d ≡ t)
     → ((place : List ℕ) (c : ℕ) (ts : List (List ℕ)) → IsWork place c ts client.work → IsEnd place c ts e)
-    → IsEnd t.place (length out) (texts_of texts (length out)) e × (is_noted (passed_of e.pass).client t.noted ≡ true)
+    → IsEnd t.place (length out) (texts_of texts (length out)) e × (is_noted (pass_posting e.pass).client t.noted ≡ true)
 end_fits events texts all out before client t e h at brings =
     let c : ℕ = length out in
     let size : length (out ++ client ∷ []) ≡ c + 1 = length-append out (client ∷ []) in
@@ -189,7 +189,7 @@ end_fits events texts all out before client t e h at brings =
     let end = brings t.place c (texts_of texts c) work in
     let clients : t.noted ≡ clients_of events t.event = subst (λ (v : Intake). v.noted ≡ clients_of events v.event) (at t) (h.are_for.clients client.inlet t mine.inside) in
     let event : t.event ≡ event_of events c = subst (λ (v : Intake). v.event ≡ event_of events c) (at t) (mine.event t) in
-    (end, ap (is_noted (passed_of e.pass).client) clients ∙ is_client events t.event (passed_of e.pass).client (let s = end.client_is in omega (arith, size, few, s)) (ap (event_of events) end.client_is ∙ sym event))
+    (end, ap (is_noted (pass_posting e.pass).client) clients ∙ is_client events t.event (pass_posting e.pass).client (let s = end.client_is in omega (arith, size, few, s)) (ap (event_of events) end.client_is ∙ sym event))
 
 pub inside_of : (events : List ℕ) (texts : List (List (List ℕ))) (all : Bool) (out : List Client) (before : List Intake) (client : Client)
     → AreTied events texts all (out ++ client ∷ []) before → client.inlet < length before

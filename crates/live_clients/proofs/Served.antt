@@ -1,7 +1,7 @@
 -- What the inlets have given once all threads have been joined.
 use Rattle.event_gate.proofs.Lines.{bool_cases, cond_same, or_other, same_or}
 use Rattle.event_gate.specs.Inlet.{Intake}
-use Rattle.event_gate.specs.Port.{IsNumbered, is_noted, is_told, of, told_of}
+use Rattle.event_gate.specs.Port.{IsNumbered, is_noted, is_told, of, lines_in_pass}
 use Rattle.event_gate.specs.Shelves.{event_of}
 use Rattle.event_gate.specs.Texts.{lines_from}
 use Rattle.live_clients.specs.Inlets.{TakesFirst, TakesNone}
@@ -83,7 +83,7 @@ numbered_take n (suc k) (l ∷ ls) h = (h.0, h.1, numbered_take (suc n) k ls h.2
 pub has_lines : (events : List ℕ) (texts : List (List (List ℕ))) (all : Bool) (t : Intake) (c : ℕ) → TakesFirst t → is_noted c t.noted ≡ true → IsKnown texts all c t → HasLines c (texts_of texts c) all t
 has_lines events texts all t c first noted h =
     let mine : List Line = of c t.taken in
-    let whole : List Line = told_of c t.known in
+    let whole : List Line = lines_in_pass c t.known in
     let rest : List Line = drop (length mine) whole in
     record {
       count = h.count;
@@ -92,7 +92,7 @@ has_lines events texts all t c first noted h =
       sole = h.sole;
       rest = rest;
       lines = ap (λ xs. xs ++ rest) (sym (first c h.told)) ∙ take-append-drop (length mine) whole ∙ h.posted;
-      done = λ all_taken. ap (drop (length mine)) (at_noted (λ d. told_of d t.known ≡ of d t.taken) c t.noted all_taken noted) ∙ drop-length mine;
+      done = λ all_taken. ap (drop (length mine)) (at_noted (λ d. lines_in_pass d t.known ≡ of d t.taken) c t.noted all_taken noted) ∙ drop-length mine;
     }
 
 pub served_one : (events : List ℕ) (texts : List (List (List ℕ))) (all : Bool) (t : Intake) → TakesFirst t → TakesNone t

@@ -1,6 +1,6 @@
 -- What keeps the inlets tied to the threads that post to them.
 use Rattle.event_gate.specs.Inlet.{EachInlet, Intake}
-use Rattle.event_gate.specs.Port.{is_told, told_of}
+use Rattle.event_gate.specs.Port.{is_told, lines_in_pass}
 use Rattle.live_clients.specs.Inlets.{is_lane}
 use Rattle.live_clients.specs.Served.{AreFor, FellShort, Gave, clients_of, texts_of}
 use Rattle.event_gate.specs.Shelves.{event_of}
@@ -38,12 +38,12 @@ for_kept events before after same h =
           ap is_lane (same.1 k d low).place ∙ h.lanes k d low ∙ ap (λ (cs : List ℕ). eqb (length cs) 1) (sym (same.1 k d low).noted);
     }
 
-pub known_again : (texts : List (List (List ℕ))) (all : Bool) (c : ℕ) (t u : Intake) → u.place ≡ t.place → is_told c u.known ≡ is_told c t.known → told_of c u.known ≡ told_of c t.known → IsKnown texts all c t → IsKnown texts all c u
+pub known_again : (texts : List (List (List ℕ))) (all : Bool) (c : ℕ) (t u : Intake) → u.place ≡ t.place → is_told c u.known ≡ is_told c t.known → lines_in_pass c u.known ≡ lines_in_pass c t.known → IsKnown texts all c t → IsKnown texts all c u
 known_again texts all c t u place told lines h = record { told = told ∙ h.told; count = h.count; posted = lines ∙ h.posted; whole = h.whole; sole = λ lane. h.sole (sym (ap is_lane place) ∙ lane) }
 
 -- whoever fell short still does, where as much is known of what it has posted
 pub short_again : (events : List ℕ) (texts : List (List (List ℕ))) (n m : ℕ) (before after : List Intake) → m ≤ n → EachInlet IsSame before after
-    → ((c : ℕ) → n ≤ c → c < length events → (k : ℕ) (d : Intake) → k < length before → (slice_index_or before k d).event ≡ event_of events c → told_of c (slice_index_or after k d).known ≡ told_of c (slice_index_or before k d).known)
+    → ((c : ℕ) → n ≤ c → c < length events → (k : ℕ) (d : Intake) → k < length before → (slice_index_or before k d).event ≡ event_of events c → lines_in_pass c (slice_index_or after k d).known ≡ lines_in_pass c (slice_index_or before k d).known)
     → FellShort events texts n before → FellShort events texts m after
 short_again events texts n m before after less same told h = record {
   client = h.client;
@@ -92,9 +92,9 @@ draws_keep_ties events texts all out before after h gave =
           let size = gave.0 in
           let low : k < length before = omega (arith, size, inside) in
           let known = ap (λ (t : Intake). t.known) (gave.1 k d low).after in
-          known_again texts all c (slice_index_or before k d) (slice_index_or after k d) (same.1 k d low).place (ap (is_told c) known) (ap (told_of c) known) (h.back c high lt k d low (sym (same.1 k d low).event ∙ is));
+          known_again texts all c (slice_index_or before k d) (slice_index_or after k d) (same.1 k d low).place (ap (is_told c) known) (ap (lines_in_pass c) known) (h.back c high lt k d low (sym (same.1 k d low).event ∙ is));
       short = λ not.
           let stays : length out ≤ length out = omega arith in
           short_again events texts (length out) (length out) before after stays same
-          (λ c high lt k d low is. ap (told_of c) (ap (λ (t : Intake). t.known) (gave.1 k d low).after)) (h.short not);
+          (λ c high lt k d low is. ap (lines_in_pass c) (ap (λ (t : Intake). t.known) (gave.1 k d low).after)) (h.short not);
     }

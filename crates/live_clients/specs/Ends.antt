@@ -1,7 +1,7 @@
 -- What contracts see of a client's end that is a lane's or a port's.
 use Rattle.event_gate.specs.Ends.{Posting, port_place}
 use Rattle.event_gate.specs.Inlet.{Intake}
-use Rattle.event_gate.specs.Port.{is_noted, is_told, told_of}
+use Rattle.event_gate.specs.Port.{is_noted, is_told, lines_in_pass}
 use Rattle.event_gate.specs.Texts.{lines_from}
 use Rattle.lanes.specs.Ends.{LanePosting, lane_place}
 use Rattle.live_clients.specs.Inlets.{is_lane}
@@ -34,9 +34,9 @@ posting_of (posters.Lane p) = of_lane p
 posting_of (posters.Port p) = of_port p
 
 -- what a client has posted, for good
-abbrev pub passed_of : AnyPass → AnyPosting
-passed_of (passes.Lane p) = of_lane p
-passed_of (passes.Port p) = of_port p
+abbrev pub pass_posting : AnyPass → AnyPosting
+pass_posting (passes.Lane p) = of_lane p
+pass_posting (passes.Port p) = of_port p
 
 -- the end of this inlet and client has posted nothing, and can post these texts
 pub record IsReady (place : List ℕ) (client : ℕ) (texts : List (List ℕ)) (p : AnyPosting) : Type 0 where
@@ -47,21 +47,21 @@ pub record IsReady (place : List ℕ) (client : ℕ) (texts : List (List ℕ)) (
 
 -- the client of this inlet has posted the first of these texts: all of them where it says so, and else fewer; on a lane it says so
 pub record IsEnd (place : List ℕ) (client : ℕ) (texts : List (List ℕ)) (e : AnyEnd) : Type 0 where
-  pub place_is : (passed_of e.pass).place ≡ place
-  pub client_is : (passed_of e.pass).client ≡ client
+  pub place_is : (pass_posting e.pass).place ≡ place
+  pub client_is : (pass_posting e.pass).client ≡ client
   pub count : ℕ
-  pub posted : (passed_of e.pass).posted ≡ lines_from client 0 (take count texts)
+  pub posted : (pass_posting e.pass).posted ≡ lines_from client 0 (take count texts)
   pub whole : e.all ≡ true → take count texts ≡ texts
   pub short : e.all ≡ false → count < length texts
   pub sure : is_lane place ≡ true → e.all ≡ true
 
 -- the lines of which the client's gate was asked: those posted, and where these aren't all the next one, which was refused
 abbrev pub lines_tried : ℕ → List (List ℕ) → AnyEnd → List Line
-lines_tried client texts e = lines_from client 0 (take (length (passed_of e.pass).posted + cond e.all 0 1) texts)
+lines_tried client texts e = lines_from client 0 (take (length (pass_posting e.pass).posted + cond e.all 0 1) texts)
 
 -- what the client has posted in all is known from now on; of the inlet's other clients that is known which was known before
 pub record IsTakenIn (t : Intake) (p : AnyPosting) (u : Intake) : Type 0 where
   pub same : u ≡ record t { known = u.known }
   pub told : is_told p.client u.known ≡ true
-  pub posted : told_of p.client u.known ≡ p.posted
-  pub others : (d : ℕ) → is_noted d t.noted ≡ true → eqb p.client d ≡ false → (is_told d u.known ≡ is_told d t.known) × (told_of d u.known ≡ told_of d t.known)
+  pub posted : lines_in_pass p.client u.known ≡ p.posted
+  pub others : (d : ℕ) → is_noted d t.noted ≡ true → eqb p.client d ≡ false → (is_told d u.known ≡ is_told d t.known) × (lines_in_pass d u.known ≡ lines_in_pass d t.known)

@@ -1,6 +1,6 @@
 -- What contracts see of a runner's end that is a lane's or a port's.
 use Rattle.event_gate.specs.Inlet.{Intake, port_intake}
-use Rattle.event_gate.specs.Port.{is_noted, is_told, of, told_of}
+use Rattle.event_gate.specs.Port.{is_noted, is_told, of, lines_in_pass}
 use Rattle.lanes.specs.Ends.{lane_intake}
 use Rattle.live_clients.specs.declared.inlet.RunnerEnd.{RunnerEnd}
 use Rattle.live_clients.specs.declared.inlet.RunnerEnd.TheVariants.{Lane, Port}
@@ -13,7 +13,7 @@ intake_of (Port port) = port_intake port
 
 -- of each client whose pass came back, the lines taken are the first that it posted
 abbrev pub TakesFirst : Intake → Type 0
-TakesFirst t = (c : ℕ) → is_told c t.known ≡ true → take (length (of c t.taken)) (told_of c t.known) ≡ of c t.taken
+TakesFirst t = (c : ℕ) → is_told c t.known ≡ true → take (length (of c t.taken)) (lines_in_pass c t.known) ≡ of c t.taken
 
 -- no line was taken of any other client
 abbrev pub TakesNone : Intake → Type 0

@@ -1,6 +1,6 @@
 -- What inlets have of the lines that clients post, once all of these have posted.
-use Rattle.event_gate.specs.Inlet.{EventsRise, HasEvent, Intake, IsInletTaken, IsInletTold, drawn_from}
-use Rattle.event_gate.specs.Port.{IsNumbered, of, told_of}
+use Rattle.event_gate.specs.Inlet.{EventsRise, HasEvent, Intake, IsInletTaken, IsInletTold, after_draws}
+use Rattle.event_gate.specs.Port.{IsNumbered, of, lines_in_pass}
 use Rattle.event_gate.specs.Shelves.{event_of}
 use Rattle.event_gate.specs.Texts.{lines_from}
 use Rattle.live_clients.specs.Inlets.{is_lane}
@@ -31,7 +31,7 @@ pub record AreFor (events : List ℕ) (inlets : List Intake) : Type 0 where
 pub record Gave (t u : Intake) : Type 0 where
   pub lines : List Line
   pub nothing : ℕ
-  pub after : u ≡ drawn_from t lines nothing
+  pub after : u ≡ after_draws t lines nothing
 
 -- more is known of what its clients have posted in all
 abbrev pub Hears : Intake → Intake → Type 0
@@ -41,7 +41,7 @@ Hears t u = u ≡ record t { known = u.known }
 -- lane. The lines taken are the first of these, and then come the rest.
 pub record HasLines (client : ℕ) (texts : List (List ℕ)) (all : Bool) (t : Intake) : Type 0 where
   pub count : ℕ
-  pub posted : told_of client t.known ≡ lines_from client 0 (take count texts)
+  pub posted : lines_in_pass client t.known ≡ lines_from client 0 (take count texts)
   pub whole : all ≡ true → take count texts ≡ texts
   pub sole : is_lane t.place ≡ true → take count texts ≡ texts
   pub rest : List Line
@@ -60,7 +60,7 @@ pub record FellShort (events : List ℕ) (texts : List (List (List ℕ))) (n : �
   pub client : ℕ
   pub high : n ≤ client
   pub low : client < length events
-  pub short : All (λ t. t.event ≡ event_of events client → length (told_of client t.known) < length (texts_of texts client)) inlets
+  pub short : All (λ t. t.event ≡ event_of events client → length (lines_in_pass client t.known) < length (texts_of texts client)) inlets
 
 -- so it is of each inlet, and each client's event has one; where `all` is false, some client has not posted all its lines
 pub record AreServed (events : List ℕ) (texts : List (List (List ℕ))) (all : Bool) (inlets : List Intake) : Type 0 where

@@ -1,6 +1,6 @@
 -- How the inlets and the threads that post to them belong together.
 use Rattle.event_gate.specs.Inlet.{EachInlet, Intake}
-use Rattle.event_gate.specs.Port.{is_told, told_of}
+use Rattle.event_gate.specs.Port.{is_told, lines_in_pass}
 use Rattle.event_gate.specs.Shelves.{event_of}
 use Rattle.event_gate.specs.Texts.{lines_from}
 use Rattle.live_clients.specs.Ends.{IsEnd, posting_of}
@@ -45,7 +45,7 @@ pub record IsOut (events : List ℕ) (texts : List (List (List ℕ))) (inlets : 
 pub record IsKnown (texts : List (List (List ℕ))) (all : Bool) (c : ℕ) (t : Intake) : Type 0 where
   pub told : is_told c t.known ≡ true
   pub count : ℕ
-  pub posted : told_of c t.known ≡ lines_from c 0 (take count (texts_of texts c))
+  pub posted : lines_in_pass c t.known ≡ lines_from c 0 (take count (texts_of texts c))
   pub whole : all ≡ true → take count (texts_of texts c) ≡ texts_of texts c
   pub sole : is_lane t.place ≡ true → take count (texts_of texts c) ≡ texts_of texts c
 

@@ -24,15 +24,15 @@ pub struct AnyInlet<'s> {
 
 impl<'s> AnyInlet<'s> {
     ghost use Rattle.event_gate.specs.Port.{is_noted};
-    ghost use Rattle.live_clients.specs.Ends.{IsTakenIn, passed_of};
+    ghost use Rattle.live_clients.specs.Ends.{IsTakenIn, pass_posting};
     ghost use Rattle.live_clients.specs.Ties.{any_intake};
     ghost use Rattle.std.specs.Prelude.{true, ◌≡◌};
 
     /// Takes in what a client has posted in all.
     pub(crate) fn take_in(&mut self, pass: AnyPass<'s>)
-        requires place { (passed_of pass).place ≡ (any_intake self.old).place }
-        requires client { is_noted (passed_of pass).client (any_intake self.old).noted ≡ true }
-        ensures { IsTakenIn (any_intake self.old) (passed_of pass.entry) (any_intake self.new) }
+        requires place { (pass_posting pass).place ≡ (any_intake self.old).place }
+        requires client { is_noted (pass_posting pass).client (any_intake self.old).noted ≡ true }
+        ensures { IsTakenIn (any_intake self.old) (pass_posting pass.entry) (any_intake self.new) }
     {
         match (&mut self.end, pass) {
             (RunnerEnd::Lane(lane), AnyPass::Lane(pass)) => lane.take_in(pass),

@@ -1,5 +1,5 @@
 // A client's end of a lane or of a port, and what its thread does.
-ghost use Rattle.event_gate.specs.Texts.{asked_each};
+ghost use Rattle.event_gate.specs.Texts.{after_asks};
 ghost use Rattle.live_clients.specs.Ends.{IsEnd, IsReady, lines_tried, posting_of};
 ghost use Rattle.std.specs.Prelude.{◌≡◌};
 
@@ -43,7 +43,7 @@ pub(crate) fn post_any<'s, G: PostGate, R: Wait>(
     ensures end { IsEnd (posting_of poster.entry).place (posting_of poster.entry).client texts.now
         result }
     ensures gate { gate.new
-        ≡ asked_each G.asked gate.old
+        ≡ after_asks G.asked gate.old
         (lines_tried (posting_of poster.entry).client texts.now result) }
 {
     match poster {

@@ -7,7 +7,7 @@ use Rattle.death_cleanup.specs.Comes.{CameTo}
 use Rattle.death_cleanup.specs.Ties.{InStep, LawfulParts}
 use Rattle.death_cleanup.specs.View.{state_of}
 use Rattle.death_cleanup.specs.declared.parts.Parts.{Parts}
-use Rattle.lwp_calls.specs.Deliveries.{deliver_found, waits_for}
+use Rattle.lwp_calls.specs.Deliveries.{deliver_to_found, waits_for}
 use Rattle.lwp_types.specs.Agents.{deliver_to, event_agents, is_armed, is_for, message}
 use Rattle.lwp_types.specs.Lawful.{NineParts}
 use Rattle.lwp_types.specs.Messages.{post, with_holding}
@@ -82,7 +82,7 @@ module _ (parts : Parts) (e a : ℕ) (text : List ℕ) (waits : waits_for e part
 
   -- the letter is posted where the agent holds the message
   pub came_found : (new : Parts) (before told after : List Effect) (o : ℕ) → who.row.owner ≡ o → told ≡ before ++ effect.Delivered a e ∷ []
-      → CameTo holding new told after (post (record { from = a; to = o; text = text; room = 240; received = false }) (state_of holding)) → CameTo parts new before after (deliver_found text (agent_of parts.agents.agents a) (state_of parts))
+      → CameTo holding new told after (post (record { from = a; to = o; text = text; room = 240; received = false }) (state_of holding)) → CameTo parts new before after (deliver_to_found text (agent_of parts.agents.agents a) (state_of parts))
   unfolding and_then
   came_found new before told after o owner tells came = rw who.known (record {
     state = came.state ∙ posted (λ (out : Outcome). out.after);
@@ -196,9 +196,9 @@ module _ (e : ℕ) (text : List ℕ) (start : Parts) (before : List Effect) wher
         length-append (effect.Delivered first.row.number first.row.event ∷ []) (post (message text first.row) (record (state_of parts) { agents = with_holding first.row.number true parts.agents.agents })).effects,
       )
 
-      module _ (new : Parts) (now : List Effect) (came : CameTo parts new after now (deliver_found text (agent_of parts.agents.agents a) (state_of parts))) where
+      module _ (new : Parts) (now : List Effect) (came : CameTo parts new after now (deliver_to_found text (agent_of parts.agents.agents a) (state_of parts))) where
         moved : CameTo parts new after now (deliver_to text first.row (state_of parts))
-        moved = subst (λ (o : Option AgentRow). CameTo parts new after now (deliver_found text o (state_of parts))) known came
+        moved = subst (λ (o : Option AgentRow). CameTo parts new after now (deliver_to_found text o (state_of parts))) known came
 
         agents_now : new.agents.agents ≡ with_holding first.row.number true parts.agents.agents
         unfolding and_then

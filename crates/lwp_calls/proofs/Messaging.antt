@@ -13,8 +13,8 @@ use Rattle.lwp_types.specs.Choice.{is_eligible}
 use Rattle.lwp_types.specs.CountLaws.{count-append, count-filter, count_agree, count_and-le, count_found_and, count_not_found, one}
 use Rattle.lwp_types.specs.Counts.{is_sending, sendings_of}
 use Rattle.lwp_types.specs.Lawful.{NineParts}
-use Rattle.lwp_types.specs.Messages.{as_answer, as_received, is_letter_of, marked_received, next_letter, post, receive_by, send, takes_from}
-use Rattle.lwp_types.specs.State.{State, ThreadRow, agent_numbers, block_set, is_agent_row, is_not_blocked, is_number, is_thread, numbers, passes, still, thread_of, times_in, with_block}
+use Rattle.lwp_types.specs.Messages.{as_answer, as_received, is_letter_of, with_reception, next_letter, post, receive_by, send, takes_from}
+use Rattle.lwp_types.specs.State.{State, ThreadRow, agent_numbers, row_with_block, is_agent_row, is_not_blocked, is_number, is_thread, numbers, passes, still, thread_of, times_in, with_block}
 use Rattle.lwp_types.specs.Unblock.{after_block, after_block_for, unblock}
 use Rattle.lwp_types.specs.declared.call.LwpErr.{LwpErr}
 use Rattle.lwp_types.specs.declared.call.LwpErr.TheVariants as error
@@ -84,7 +84,7 @@ row_kept t u away b (row ∷ rows) = by_test (is_number u row) refl (row_kept t 
     other e = ne_eqb row.number t (λ same. absurd (let no-way : false ≡ true = sym away ∙ eq-eqb t u (sym same ∙ eqb-true row.number u e) in cc))
 
     by_test : (c : Bool) → is_number u row ≡ c → find (is_number u) (with_block t b rows) ≡ find (is_number u) rows
-        → cond c (Some (block_set t b row)) (find (is_number u) (with_block t b rows)) ≡ cond c (Some row) (find (is_number u) rows)
+        → cond c (Some (row_with_block t b row)) (find (is_number u) (with_block t b rows)) ≡ cond c (Some row) (find (is_number u) rows)
     by_test true e rest = rw (other e) refl
     by_test false e rest = rest
 
@@ -276,7 +276,7 @@ module _ (parts : Parts) (t : ℕ) (from : Option ℕ) where
       by_found None e h = absurd (cc)
       by_found (Some l) e h =
           let same : as_received l ≡ letter = (let k : Some (as_received l) ≡ Some letter = h in cc) in
-          ap (λ (x : Letter). record { after = record s { letters = marked_received l.from s.letters }; others = []; own = Some (answer.Letter x.from x.text x.room) }) same
+          ap (λ (x : Letter). record { after = record s { letters = with_reception l.from s.letters }; others = []; own = Some (answer.Letter x.from x.text x.room) }) same
           ∙ ap (λ o. record { after = record s { letters = with_found_received o s.letters }; others = []; own = Some (answer.Letter letter.from letter.text letter.room) }) (sym e)
 
   nothing : option_map as_received (next_letter s.letters t from) ≡ None → next_letter s.letters t from ≡ None

@@ -1,7 +1,7 @@
 -- A pod's turns, calls and deliveries.
 use Rattle.death_cleanup.specs.View.{state_of}
 use Rattle.death_cleanup.specs.declared.parts.Parts.{Parts}
-use Rattle.lwp_calls.specs.Pod.{ForgetsTheDead, RunsExitsOnce, called_by, current_of, is_refusal, refuses}
+use Rattle.lwp_calls.specs.Pod.{ForgetsTheDead, RunsExitsOnce, call_effects, current_of, is_refusal, refuses}
 use Rattle.lwp_types.specs.Agents.{deliver, deliver_to, event_agents, is_armed, is_event_armed}
 use Rattle.lwp_types.specs.Choice.{choice, is_eligible_in}
 use Rattle.lwp_types.specs.Lawful.{Lawful, NineParts}
@@ -87,9 +87,9 @@ module _ (s : State) (lawful : Lawful s None) (c : Call) (t : ℕ) (turn : curre
     stepped = ap (λ (out : Outcome). out.after) (step-chosen s t c turn) ∙ ap (λ (now : State). record now { ended = ends now }) (sym carried)
 
     -- and its effects, behind the call itself
-    pub told : (before after last : List Effect) → before ≡ [] → after ≡ before ++ ((case_of s t c).others ++ own_effects t (case_of s t c).own) → last ≡ after ++ end_effects (state_of parts) → called_by (current_of s) c ++ last ≡ (step s c).effects
+    pub told : (before after last : List Effect) → before ≡ [] → after ≡ before ++ ((case_of s t c).others ++ own_effects t (case_of s t c).own) → last ≡ after ++ end_effects (state_of parts) → call_effects (current_of s) c ++ last ≡ (step s c).effects
     told before after last none tells ends =
-        ap (λ o. called_by o c ++ last) turn
+        ap (λ o. call_effects o c ++ last) turn
         ∙ ap (λ es. effect.Called t c ∷ es) (ends ∙ ap (λ es. es ++ end_effects (state_of parts)) (tells ∙ ap (λ es. es ++ ((case_of s t c).others ++ own_effects t (case_of s t c).own)) none))
         ∙ ap (λ es. effect.Called t c ∷ es) (append_assoc (case_of s t c).others (own_effects t (case_of s t c).own) (end_effects (state_of parts)))
         ∙ ap (λ now. effect.Called t c ∷ ((case_of s t c).others ++ (own_effects t (case_of s t c).own ++ end_effects now))) carried
@@ -100,24 +100,24 @@ module _ (s : State) (lawful : Lawful s None) (c : Call) (t : ℕ) (turn : curre
 
 -- what is told besides the call itself
 
-forgets-behind : (now : State) (o : Option ℕ) (c : Call) (es : List Effect) → ForgetsTheDead now (called_by o c ++ es) → ForgetsTheDead now es
+forgets-behind : (now : State) (o : Option ℕ) (c : Call) (es : List Effect) → ForgetsTheDead now (call_effects o c ++ es) → ForgetsTheDead now es
 forgets-behind now None c es h = h
 forgets-behind now (Some t) c es h = h
 
-runs-behind : (s now : State) (o : Option ℕ) (c : Call) (es : List Effect) → RunsExitsOnce s c now (called_by o c ++ es) → RunsExitsOnce s c now es
+runs-behind : (s now : State) (o : Option ℕ) (c : Call) (es : List Effect) → RunsExitsOnce s c now (call_effects o c ++ es) → RunsExitsOnce s c now es
 runs-behind s now None c es h = h
 runs-behind s now (Some t) c es h = h
 
-module _ (s now : State) (lawful : Lawful s None) (c : Call) (es : List Effect) (after : now ≡ (step s c).after) (effects : called_by (current_of s) c ++ es ≡ (step s c).effects) where
+module _ (s now : State) (lawful : Lawful s None) (c : Call) (es : List Effect) (after : now ≡ (step s c).after) (effects : call_effects (current_of s) c ++ es ≡ (step s c).effects) where
   -- whoever died is forgotten
   pub forgets : ForgetsTheDead now es
   forgets = forgets-behind now (current_of s) c es
-      (subst (λ (x : State). ForgetsTheDead x (called_by (current_of s) c ++ es)) (sym after) (subst (λ (told : List Effect). ForgetsTheDead (step s c).after told) (sym effects) (the_dead_are_forgotten s lawful c)))
+      (subst (λ (x : State). ForgetsTheDead x (call_effects (current_of s) c ++ es)) (sym after) (subst (λ (told : List Effect). ForgetsTheDead (step s c).after told) (sym effects) (the_dead_are_forgotten s lawful c)))
 
   -- exit procedures ran once
   pub runs : RunsExitsOnce s c now es
   runs = runs-behind s now (current_of s) c es
-      (subst (λ (x : State). RunsExitsOnce s c x (called_by (current_of s) c ++ es)) (sym after) (subst (λ (told : List Effect). RunsExitsOnce s c (step s c).after told) (sym effects) (exits_run_once s lawful c)))
+      (subst (λ (x : State). RunsExitsOnce s c x (call_effects (current_of s) c ++ es)) (sym after) (subst (λ (told : List Effect). RunsExitsOnce s c (step s c).after told) (sym effects) (exits_run_once s lawful c)))
 
 -- the clock, and all other events
 

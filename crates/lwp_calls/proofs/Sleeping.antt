@@ -7,7 +7,7 @@ use Rattle.death_cleanup.specs.declared.parts.Parts.{Parts}
 use Rattle.lwp_types.specs.CountLaws.{count_any, count_found_and, one}
 use Rattle.lwp_types.specs.Counts.{is_timed}
 use Rattle.lwp_types.specs.Lawful.{NineParts}
-use Rattle.lwp_types.specs.State.{State, ThreadRow, block_set, is_blocked_in, is_not_blocked, is_number, passes, still, thread_of}
+use Rattle.lwp_types.specs.State.{State, ThreadRow, row_with_block, is_blocked_in, is_not_blocked, is_number, passes, still, thread_of}
 use Rattle.lwp_types.specs.Unblock.{after_block, after_block_for, is_timer_of}
 use Rattle.lwp_types.specs.declared.rows.Block.{Block}
 use Rattle.pod_laws.proofs.Rowed.{once_threads}
@@ -34,7 +34,7 @@ module _ (s : State) (t : ℕ) (row : ThreadRow) (known : thread_of s t ≡ Some
   -- who has just begun to wait waits
   pub blocked_now : (why : Block) → is_not_blocked why ≡ false → is_blocked_in (after_block s t why) t ≡ true
   blocked_now why waits =
-      ap (passes (λ (r : ThreadRow). not (is_not_blocked r.block))) (find-row t t why s.threads ∙ ap (option_map (block_set t why)) known)
+      ap (passes (λ (r : ThreadRow). not (is_not_blocked r.block))) (find-row t t why s.threads ∙ ap (option_map (row_with_block t why)) known)
       ∙ here (is_number t row) (eq-eqb row.number t (number_known s.threads t row known))
     where
       here : (b : Bool) → b ≡ true → not (is_not_blocked (cond b why row.block)) ≡ true

@@ -4,7 +4,7 @@ use Rattle.death_cleanup.proofs.Living.{changed, written-changed}
 use Rattle.death_cleanup.proofs.Outcomes.{answers_quietly, answers_refused, came_quietly}
 use Rattle.death_cleanup.proofs.Unwinding.{InStep-stacked, marks-are, stacked-is}
 use Rattle.death_cleanup.specs.Comes.{Answers}
-use Rattle.death_cleanup.specs.Moves.{after_set_stack, kind_marked, kind_marks}
+use Rattle.death_cleanup.specs.Moves.{after_set_stack, kind_with_marks, kind_marks}
 use Rattle.death_cleanup.specs.Ties.{InStep, LawfulParts}
 use Rattle.death_cleanup.specs.View.{state_of}
 use Rattle.death_cleanup.specs.declared.parts.Parts.{Parts}
@@ -69,7 +69,7 @@ module _ (parts : Parts) (lawful : LawfulParts parts) (alone : parts.dying ≡ N
       based [] e = absurd (let no : false ≡ true = e in cc)
       based (m ∷ ms) e = omega arith
 
-kind-same : (k : Kind) → kind_marked (kind_marks (Some k)) k ≡ k
+kind-same : (k : Kind) → kind_with_marks (kind_marks (Some k)) k ≡ k
 kind-same (kind.Thread rec) = refl
 kind-same kind.Agent = refl
 
@@ -89,8 +89,8 @@ module _ (parts : Parts) (t : ℕ) (k : Kind) (rising : AreRising parts.ids.live
   put-same : put k ≡ parts
   put-same = ap (λ ps. record parts { ids = record parts.ids { live = ps } }) (written-changed t (λ v. v) k parts.ids.live rising is ∙ map-same t parts.ids.live)
 
-  put-marked : (ms : List Mark) → put (kind_marked ms k) ≡ after_set_stack parts t ms
-  put-marked ms = ap (λ ps. record parts { ids = record parts.ids { live = ps } }) (written-changed t (kind_marked ms) k parts.ids.live rising is)
+  put-marked : (ms : List Mark) → put (kind_with_marks ms k) ≡ after_set_stack parts t ms
+  put-marked ms = ap (λ ps. record parts { ids = record parts.ids { live = ps } }) (written-changed t (kind_with_marks ms) k parts.ids.live rising is)
 
   pub put-as-before : (v : Kind) → v ≡ k → IsAsBefore parts (put v)
   put-as-before v e = subst (λ new. IsAsBefore parts new) (sym (ap put e ∙ put-same)) (came_quietly parts parts [] (still (state_of parts)) step refl refl)
@@ -98,12 +98,12 @@ module _ (parts : Parts) (t : ℕ) (k : Kind) (rising : AreRising parts.ids.live
   pub put-refused : (v : Kind) (made : Case) (e : LwpErr) → v ≡ k → made ≡ refusal_case (state_of parts) e → Answers parts (put v) [] [] made (answer.Refused e)
   put-refused v made e same refuses = subst (λ new. Answers parts new [] [] made (answer.Refused e)) (sym (ap put same ∙ put-same)) (answers_refused parts [] made e step refuses)
 
-  pub put-answered : (v : Kind) (made : Case) (a : Answer) (ms : List Mark) → v ≡ kind_marked ms k → made ≡ answer_case (with_marks_of (state_of parts) t ms) a → Answers parts (put v) [] [] made a
+  pub put-answered : (v : Kind) (made : Case) (a : Answer) (ms : List Mark) → v ≡ kind_with_marks ms k → made ≡ answer_case (with_marks_of (state_of parts) t ms) a → Answers parts (put v) [] [] made a
   put-answered v made a ms e answers = subst (λ new. Answers parts new [] [] made a) (sym (ap put e ∙ put-marked ms))
       (answers_quietly parts (after_set_stack parts t ms) [] made a (InStep-stacked parts t ms step) refl (answers ∙ ap (λ (s : State). answer_case s a) (sym (stacked-is parts t ms))))
 
   -- an exit procedure is set, and so the next has another number
-  pub put-registered : (v : Kind) (made : Case) (a : Answer) (ms : List Mark) (n : ℕ) → v ≡ kind_marked ms k → made ≡ answer_case (with_marks_of (record (state_of parts) { next_registration = n }) t ms) a
+  pub put-registered : (v : Kind) (made : Case) (a : Answer) (ms : List Mark) (n : ℕ) → v ≡ kind_with_marks ms k → made ≡ answer_case (with_marks_of (record (state_of parts) { next_registration = n }) t ms) a
       → Answers parts (record (put v) { registration = n }) [] [] made a
   put-registered v made a ms n e answers = subst (λ (new : Parts). Answers parts (record new { registration = n }) [] [] made a) (sym (ap put e ∙ put-marked ms))
       (answers_quietly parts (record (after_set_stack parts t ms) { registration = n }) [] made a (InStep-given (after_set_stack parts t ms) (InStep-stacked parts t ms step) n parts.pattern) refl
@@ -116,11 +116,11 @@ module _ (parts : Parts) (t : ℕ) (k : Kind) (rising : AreRising parts.ids.live
   abbrev ms : List Mark
   ms = kind_marks (Some k)
 
-  full-kept : (m : Mark) → stack.is_full ms ≡ true → kind_marked (stack.with_mark m ms) k ≡ k
-  full-kept m full = ap (λ b. kind_marked (cond b ms (ms ++ m ∷ [])) k) full ∙ kind-same k
+  full-kept : (m : Mark) → stack.is_full ms ≡ true → kind_with_marks (stack.with_mark m ms) k ≡ k
+  full-kept m full = ap (λ b. kind_with_marks (cond b ms (ms ++ m ∷ [])) k) full ∙ kind-same k
 
-  frames-kept : has_all_frames ms ≡ true → kind_marked (with_frame ms) k ≡ k
-  frames-kept full = ap (λ b. kind_marked (cond b ms (ms ++ mark.Frame ∷ [])) k) full ∙ kind-same k
+  frames-kept : has_all_frames ms ≡ true → kind_with_marks (with_frame ms) k ≡ k
+  frames-kept full = ap (λ b. kind_with_marks (cond b ms (ms ++ mark.Frame ∷ [])) k) full ∙ kind-same k
 
   module _ (number : ℕ) (known : nat_le parts.procs number ≡ false) where
     abbrev tried : Bool → Bool → Case
@@ -130,7 +130,7 @@ module _ (parts : Parts) (t : ℕ) (k : Kind) (rising : AreRising parts.ids.live
     unfolding unless
     is-tried = rw (known, here) refl
 
-    pub called : (v : Kind) → v ≡ kind_marked (with_frame ms) k → true ≡ not (has_all_frames ms) → Answers parts (put v) [] [] (call_procedure (state_of parts) t number) (answer.Value (pos 0))
+    pub called : (v : Kind) → v ≡ kind_with_marks (with_frame ms) k → true ≡ not (has_all_frames ms) → Answers parts (put v) [] [] (call_procedure (state_of parts) t number) (answer.Value (pos 0))
     called v e fits = put-answered v _ _ (with_frame ms) e (is-tried ∙ by_tests (nat_le 64 (frames ms)) (nat_le 256 (length ms)) fits)
       where
         by_tests : (a b : Bool) → true ≡ not (a || b) → tried a b ≡ value_case (with_marks_of (state_of parts) t (cond (a || b) ms (ms ++ mark.Frame ∷ []))) 0
@@ -138,7 +138,7 @@ module _ (parts : Parts) (t : ℕ) (k : Kind) (rising : AreRising parts.ids.live
         by_tests false true e = absurd (cc)
         by_tests false false e = refl
 
-    pub not-called : (v : Kind) → v ≡ kind_marked (with_frame ms) k → false ≡ not (has_all_frames ms) → Answers parts (put v) [] [] (call_procedure (state_of parts) t number) (answer.Refused error.NoRoom)
+    pub not-called : (v : Kind) → v ≡ kind_with_marks (with_frame ms) k → false ≡ not (has_all_frames ms) → Answers parts (put v) [] [] (call_procedure (state_of parts) t number) (answer.Refused error.NoRoom)
     not-called v e full = put-refused v _ error.NoRoom (e ∙ frames-kept (true_of (has_all_frames ms) (sym full))) (is-tried ∙ by_tests (nat_le 64 (frames ms)) (nat_le 256 (length ms)) full)
       where
         by_tests : (a b : Bool) → false ≡ not (a || b) → tried a b ≡ refusal_case (state_of parts) error.NoRoom
@@ -147,7 +147,7 @@ module _ (parts : Parts) (t : ℕ) (k : Kind) (rising : AreRising parts.ids.live
         by_tests false false e = absurd (cc)
 
   module _ (pat : Pattern) (func : Func) (arg : ℕ) (fine : (check_pattern pat).0 ≡ false) where
-    pub handled : (v : Kind) → v ≡ kind_marked (stack.with_mark (mark.Handler pat func arg) ms) k → true ≡ not (stack.is_full ms) → Answers parts (put v) [] [] (handle (state_of parts) t pat func arg) (answer.Value (pos 0))
+    pub handled : (v : Kind) → v ≡ kind_with_marks (stack.with_mark (mark.Handler pat func arg) ms) k → true ≡ not (stack.is_full ms) → Answers parts (put v) [] [] (handle (state_of parts) t pat func arg) (answer.Value (pos 0))
     unfolding unless
     handled v e fits = put-answered v _ _ (stack.with_mark (mark.Handler pat func arg) ms) e (made (stack.is_full ms) refl fits)
       where
@@ -155,7 +155,7 @@ module _ (parts : Parts) (t : ℕ) (k : Kind) (rising : AreRising parts.ids.live
         made true full e = absurd (cc)
         made false room e = rw (fine, here, room) refl
 
-    pub not-handled : (v : Kind) → v ≡ kind_marked (stack.with_mark (mark.Handler pat func arg) ms) k → false ≡ not (stack.is_full ms) → Answers parts (put v) [] [] (handle (state_of parts) t pat func arg) (answer.Refused error.NoRoom)
+    pub not-handled : (v : Kind) → v ≡ kind_with_marks (stack.with_mark (mark.Handler pat func arg) ms) k → false ≡ not (stack.is_full ms) → Answers parts (put v) [] [] (handle (state_of parts) t pat func arg) (answer.Refused error.NoRoom)
     unfolding unless
     not-handled v e full = put-refused v _ error.NoRoom (e ∙ full-kept (mark.Handler pat func arg) (true_of (stack.is_full ms) (sym full))) (made (true_of (stack.is_full ms) (sym full)))
       where
@@ -163,7 +163,7 @@ module _ (parts : Parts) (t : ℕ) (k : Kind) (rising : AreRising parts.ids.live
         made full = rw (fine, here, full) refl
 
   module _ (x : ExitCall) where
-    pub set-exit : nat_le 4294967295 parts.registration ≡ false → (v : Kind) → v ≡ kind_marked (stack.with_mark (mark.Exit parts.registration x) ms) k → true ≡ not (stack.is_full ms)
+    pub set-exit : nat_le 4294967295 parts.registration ≡ false → (v : Kind) → v ≡ kind_with_marks (stack.with_mark (mark.Exit parts.registration x) ms) k → true ≡ not (stack.is_full ms)
         → Answers parts (record (put v) { registration = parts.registration + 1 }) [] [] (on_exit (state_of parts) t x) (answer.Value (pos parts.registration))
     unfolding unless
     set-exit few v e fits = put-registered v _ _ (stack.with_mark (mark.Exit parts.registration x) ms) (parts.registration + 1) e (made (stack.is_full ms) refl fits)
@@ -173,7 +173,7 @@ module _ (parts : Parts) (t : ℕ) (k : Kind) (rising : AreRising parts.ids.live
         made true full e = absurd (cc)
         made false room e = rw (here, room, few) refl
 
-    pub exit-full : (v : Kind) → v ≡ kind_marked (stack.with_mark (mark.Exit parts.registration x) ms) k → false ≡ not (stack.is_full ms) → Answers parts (put v) [] [] (on_exit (state_of parts) t x) (answer.Refused error.NoRoom)
+    pub exit-full : (v : Kind) → v ≡ kind_with_marks (stack.with_mark (mark.Exit parts.registration x) ms) k → false ≡ not (stack.is_full ms) → Answers parts (put v) [] [] (on_exit (state_of parts) t x) (answer.Refused error.NoRoom)
     unfolding unless
     exit-full v e full = put-refused v _ error.NoRoom (e ∙ full-kept (mark.Exit parts.registration x) (true_of (stack.is_full ms) (sym full))) (made (true_of (stack.is_full ms) (sym full)))
       where
@@ -188,7 +188,7 @@ module _ (parts : Parts) (t : ℕ) (k : Kind) (rising : AreRising parts.ids.live
   unfolding unless
   is-taken = rw here refl
 
-  pub taken-back : (v : Kind) → v ≡ kind_marked (after_unhandle ms) k → None ≡ refusal_on ms → Answers parts (put v) [] [] (unhandle (state_of parts) t) (answer.Value (pos 0))
+  pub taken-back : (v : Kind) → v ≡ kind_with_marks (after_unhandle ms) k → None ≡ refusal_on ms → Answers parts (put v) [] [] (unhandle (state_of parts) t) (answer.Value (pos 0))
   taken-back v e none = put-answered v _ _ (after_unhandle ms) e (is-taken ∙ by_tests (passes is_frame (last_mark ms)) (passes is_exit (last_mark ms)) none)
     where
       by_tests : (a b : Bool) → None ≡ cond a (Some error.NonExist) (cond b (Some error.InvalidArg) None)
@@ -197,8 +197,8 @@ module _ (parts : Parts) (t : ℕ) (k : Kind) (rising : AreRising parts.ids.live
       by_tests false true e = absurd (cc)
       by_tests false false e = refl
 
-  pub not-taken : (v : Kind) (err : LwpErr) → v ≡ kind_marked (after_unhandle ms) k → Some err ≡ refusal_on ms → Answers parts (put v) [] [] (unhandle (state_of parts) t) (answer.Refused err)
-  not-taken v err e some = put-refused v _ err (e ∙ ap (λ o. kind_marked (cond (is_some o) ms (without_last ms)) k) (sym some) ∙ kind-same k) (is-taken ∙ by_tests (passes is_frame (last_mark ms)) (passes is_exit (last_mark ms)) some)
+  pub not-taken : (v : Kind) (err : LwpErr) → v ≡ kind_with_marks (after_unhandle ms) k → Some err ≡ refusal_on ms → Answers parts (put v) [] [] (unhandle (state_of parts) t) (answer.Refused err)
+  not-taken v err e some = put-refused v _ err (e ∙ ap (λ o. kind_with_marks (cond (is_some o) ms (without_last ms)) k) (sym some) ∙ kind-same k) (is-taken ∙ by_tests (passes is_frame (last_mark ms)) (passes is_exit (last_mark ms)) some)
     where
       by_tests : (a b : Bool) → Some err ≡ cond a (Some error.NonExist) (cond b (Some error.InvalidArg) None) → taken a b ≡ refusal_case (state_of parts) err
       by_tests true b e = let same : err ≡ error.NonExist = cc in ap (refusal_case (state_of parts)) (sym same)

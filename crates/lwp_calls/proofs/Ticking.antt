@@ -13,7 +13,7 @@ use Rattle.lwp_types.specs.Counts.{is_timed, timers_of}
 use Rattle.lwp_types.specs.Lawful.{NineParts}
 use Rattle.lwp_types.specs.State.{State, ThreadRow, for_each, is_blocked_in, is_not_blocked, passes, times_in}
 use Rattle.lwp_types.specs.Time.{after_tick, due_threads, is_asleep_in, is_due, is_sleeping, tick, time_out}
-use Rattle.lwp_types.specs.Unblock.{after_unblock, is_timer_of, timed_out, without_timer, zero_answer}
+use Rattle.lwp_types.specs.Unblock.{after_unblock, is_timer_of, timeout_answer, without_timer, zero_answer}
 use Rattle.lwp_types.specs.declared.call.Effect.{Effect}
 use Rattle.lwp_types.specs.declared.call.Effect.TheVariants as effect
 use Rattle.lwp_types.specs.declared.rows.Block.{Block}
@@ -54,7 +54,7 @@ due_row n t ts s was listed = timed_row (record s { now = n }) None was.nine t s
 spends_time_out : (n t : ℕ) (ts : List ℕ) (s : State) → Before n s → due_threads s ≡ t ∷ ts → Spends 0 s (time_out t s)
 spends_time_out n t ts s was listed =
     let who = due_row n t ts s was listed in
-    record { few = (spends_unblock (record s { now = n }) None was.nine t who.row who.known (timed_waits who.row.block who.timed) (cond (is_asleep_in s t) zero_answer timed_out)).few }
+    record { few = (spends_unblock (record s { now = n }) None was.nine t who.row who.known (timed_waits who.row.block who.timed) (cond (is_asleep_in s t) zero_answer timeout_answer)).few }
 
 few_due : (n : ℕ) (s : State) → Before n s → length (for_each time_out (due_threads s) s).effects ≤ 1024
 few_due n s was = omega (arith, (spends_drain (Before n) due_threads time_out (time_out_first n) (spends_time_out n) (due_threads s) s was refl).few, sum-most s.threads, was.nine.numbers.3.0)

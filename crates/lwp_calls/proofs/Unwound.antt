@@ -5,12 +5,12 @@ use Rattle.death_cleanup.proofs.Unmarking.{marked_again, marks_now, remarked_out
 use Rattle.death_cleanup.proofs.Unwinding.{InStep-stacked, marks-are, stacked-is}
 use Rattle.death_cleanup.proofs.Living.{written-changed}
 use Rattle.death_cleanup.specs.Comes.{Answers, CameTo}
-use Rattle.death_cleanup.specs.Moves.{after_set_stack, kind_marked, kind_marks}
+use Rattle.death_cleanup.specs.Moves.{after_set_stack, kind_with_marks, kind_marks}
 use Rattle.death_cleanup.specs.Ties.{LawfulParts}
 use Rattle.death_cleanup.specs.View.{state_of}
 use Rattle.death_cleanup.specs.declared.parts.Parts.{Parts}
 use Rattle.death_cleanup.specs.declared.rows.Kind.{Kind}
-use Rattle.exceptions.specs.Stack.{IsInReach, handlers_on_top, settled_at}
+use Rattle.exceptions.specs.Stack.{IsInReach, handlers_on_top, after_settle_at}
 use Rattle.lwp_calls.proofs.Stacks.{stack-fine}
 use Rattle.lwp_types.specs.Case.{Case}
 use Rattle.lwp_types.specs.Choice.{is_eligible_in}
@@ -127,13 +127,13 @@ module _ (parts mid : Parts) (before now : List Effect) (t : ℕ) (f : Found) (l
     pub handler-there : f.mark < handlers_on_top (kind_marks (Some k))
     handler-there = omega (arith, reach.number, ap handlers_on_top here)
 
-    left-is : settled_at f.mark (kind_marks (Some k)) ≡ caught_marks f (marks_in (state_of parts) t)
-    left-is = ap (settled_at f.mark) here ∙ ap (λ n. marks_left n f.mark kept) as_deep
+    left-is : after_settle_at f.mark (kind_marks (Some k)) ≡ caught_marks f (marks_in (state_of parts) t)
+    left-is = ap (after_settle_at f.mark) here ∙ ap (λ n. marks_left n f.mark kept) as_deep
 
     caught_by : ℕ → Outcome → Case
     caught_by p out = record { after = out.after; others = out.effects; own = Some (answer.Caught f.depth f.mark p) }
 
-    pub caught-comes : (p : ℕ) (v : Kind) → v ≡ kind_marked (settled_at f.mark (kind_marks (Some k))) k
+    pub caught-comes : (p : ℕ) (v : Kind) → v ≡ kind_with_marks (after_settle_at f.mark (kind_marks (Some k))) k
         → Answers parts (record mid { ids = record mid.ids { live = with_value t v mid.ids.live } }) before now (catch_case (state_of parts) t p f) (answer.Caught f.depth f.mark p)
     caught-comes p v e = subst (λ (new : Parts). Answers parts new before now (catch_case (state_of parts) t p f) (answer.Caught f.depth f.mark p)) (sym put) (record {
       came = record {
@@ -155,5 +155,5 @@ module _ (parts mid : Parts) (before now : List Effect) (t : ℕ) (f : Found) (l
         out = each_so t left gone (state_of parts)
 
         put : record mid { ids = record mid.ids { live = with_value t v mid.ids.live } } ≡ after_set_stack mid t left
-        put = ap (λ w. record mid { ids = record mid.ids { live = with_value t w mid.ids.live } }) (e ∙ ap (λ ms. kind_marked ms k) left-is)
-            ∙ ap (λ ps. record mid { ids = record mid.ids { live = ps } }) (written-changed t (kind_marked left) k mid.ids.live rising is)
+        put = ap (λ w. record mid { ids = record mid.ids { live = with_value t w mid.ids.live } }) (e ∙ ap (λ ms. kind_with_marks ms k) left-is)
+            ∙ ap (λ ps. record mid { ids = record mid.ids { live = ps } }) (written-changed t (kind_with_marks left) k mid.ids.live rising is)

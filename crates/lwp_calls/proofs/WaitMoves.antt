@@ -17,7 +17,7 @@ use Rattle.lwp_types.specs.Counts.{is_waiting, requests_by}
 use Rattle.lwp_types.specs.Lawful.{NineParts}
 use Rattle.lwp_types.specs.Monitors.{depth_in}
 use Rattle.lwp_types.specs.MonitorRelease.{grant, is_lock, is_owned_by, last_lock, lock_of, locks_on, next_owner, release, without_lock}
-use Rattle.lwp_types.specs.State.{Outcome, State, ThreadRow, block_set, is_not_blocked, is_number, member, passes, priority_in, still, thread_of, with_block}
+use Rattle.lwp_types.specs.State.{Outcome, State, ThreadRow, row_with_block, is_not_blocked, is_number, member, passes, priority_in, still, thread_of, with_block}
 use Rattle.lwp_types.specs.Unblock.{after_block, zero_answer}
 use Rattle.lwp_types.specs.Conditions.{after_wait, condition_of, is_condition, wait}
 use Rattle.lwp_types.specs.declared.call.Effect.{Effect}
@@ -41,9 +41,9 @@ use Rattle.std.specs.Prelude.{is_none, is_some, option_map, unwrap_or}
 
 -- who may run still may where somebody goes on
 eligible_still : (s : State) (u v : ℕ) → is_eligible_in s v ≡ true → passes is_eligible (find (is_number v) (with_block u block.Not s.threads)) ≡ true
-eligible_still s u v may = ap (passes is_eligible) (find_rowed (block_set u block.Not) (λ row. refl) s.threads v) ∙ by_row (thread_of s v) may
+eligible_still s u v may = ap (passes is_eligible) (find_rowed (row_with_block u block.Not) (λ row. refl) s.threads v) ∙ by_row (thread_of s v) may
   where
-    by_row : (o : Option ThreadRow) → passes is_eligible o ≡ true → passes is_eligible (option_map (block_set u block.Not) o) ≡ true
+    by_row : (o : Option ThreadRow) → passes is_eligible o ≡ true → passes is_eligible (option_map (row_with_block u block.Not) o) ≡ true
     by_row None h = h
     by_row (Some row) h = by_test (is_number u row)
       where
@@ -87,7 +87,7 @@ module _ (s : State) (m : ℕ) where
   waits-kept = kept (λ now. now.waits ≡ s.waits) refl (λ r. refl)
 
   count-kept : length (release m s).after.threads ≡ length s.threads
-  count-kept = kept (λ now. length now.threads ≡ length s.threads) refl (λ r. length-map s.threads (block_set r.tid block.Not))
+  count-kept = kept (λ now. length now.threads ≡ length s.threads) refl (λ r. length-map s.threads (row_with_block r.tid block.Not))
 
   priority-kept : (v : ℕ) → priority_in (release m s).after v ≡ priority_in s v
   priority-kept v = kept (λ now. priority_in now v ≡ priority_in s v) refl (λ r. priority_still s r.tid block.Not v)

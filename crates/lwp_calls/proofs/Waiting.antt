@@ -1,6 +1,6 @@
 -- A thread begins to wait.
 use Rattle.death_cleanup.proofs.Looks.{rows-block, waits}
-use Rattle.death_cleanup.specs.Moves.{block_set}
+use Rattle.death_cleanup.specs.Moves.{pair_with_block}
 use Rattle.death_cleanup.specs.Named.{IsNoteOf, NameNote}
 use Rattle.death_cleanup.specs.Ties.{InStep}
 use Rattle.death_cleanup.specs.View.{state_of}
@@ -50,7 +50,7 @@ as_many t why (row ∷ rs) = omega (arith, as_many t why rs)
 -- the parts once thread t waits
 abbrev pub waiting : Parts → ℕ → Block → Parts
 waiting parts t why = record parts {
-  ids = record parts.ids { live = map (block_set t why) parts.ids.live };
+  ids = record parts.ids { live = map (pair_with_block t why) parts.ids.live };
   sched = sched.after_block parts.sched t;
 }
 
@@ -87,7 +87,7 @@ module _ (parts : Parts) (t : ℕ) (why : Block) where
     priority-kept u = ap (λ rs. change.priority_of parts t f h (λ c k. refl) (λ c row. refl) (find (is_number u) rs)) same ∙ change.priority-changed parts t f h (λ c k. refl) (λ c row. refl) (λ c row. refl) u
 
     -- whoever waits by name then is in this note
-    pub InStep-waiting : (named : NameNote) → IsNoteOf named (map (block_set t why) parts.ids.live) → InStep (record (waiting parts t why) { named = named })
+    pub InStep-waiting : (named : NameNote) → IsNoteOf named (map (pair_with_block t why) parts.ids.live) → InStep (record (waiting parts t why) { named = named })
     InStep-waiting named noted =
         let count : length (state_of (waiting parts t why)).threads ≡ length rows = ap length same ∙ as_many t why rows in
         record {

@@ -9,6 +9,6 @@ abbrev pub waits_for : ℕ → List AgentRow → ℕ → Bool
 waits_for e rows a = passes (λ row. is_for e row && not row.holding) (agent_of rows a)
 
 -- the agent that was found has the message
-abbrev pub deliver_found : List ℕ → Option AgentRow → State → Outcome
-deliver_found text None s = still s
-deliver_found text (Some row) s = deliver_to text row s
+abbrev pub deliver_to_found : List ℕ → Option AgentRow → State → Outcome
+deliver_to_found text None s = still s
+deliver_to_found text (Some row) s = deliver_to text row s

@@ -1,5 +1,5 @@
 -- What is read off a pod, and what a call keeps.
-pub use Rattle.pod_events.specs.Machine.{called_by, current_of, ending_of}
+pub use Rattle.pod_events.specs.Machine.{call_effects, current_of, ending_of}
 use Rattle.lwp_types.specs.Choice.{choice}
 use Rattle.lwp_types.specs.State.{State, passes}
 use Rattle.lwp_types.specs.Step.{case_of}
@@ -8,7 +8,7 @@ use Rattle.lwp_types.specs.declared.call.Answer.TheVariants as answer
 use Rattle.lwp_types.specs.declared.call.Call.{Call}
 use Rattle.lwp_types.specs.declared.call.Effect.{Effect}
 use Rattle.pod_laws.specs.Forgotten.{IsForgotten, is_died}
-use Rattle.pod_laws.specs.Once.{ExitTest, exits_passing, marks_passing, set_now}
+use Rattle.pod_laws.specs.Once.{ExitTest, exits_passing, marks_passing, sets_of_step}
 use Rattle.std.specs.List.{count_by}
 use Rattle.std.specs.Prelude.{Bool, List, false, true, ℕ, ◌+◌, ◌≡◌, ◌≤◌}
 
@@ -27,4 +27,4 @@ ForgetsTheDead after effects = (n : ℕ) → 1 ≤ count_by (is_died n) effects 
 
 -- of each exit procedure: where it was set it still is, or it has run now, once
 abbrev pub RunsExitsOnce : State → Call → State → List Effect → Type 0
-RunsExitsOnce before c after effects = (p : ExitTest) → marks_passing p after + exits_passing p effects ≡ marks_passing p before + set_now p before (choice before) c
+RunsExitsOnce before c after effects = (p : ExitTest) → marks_passing p after + exits_passing p effects ≡ marks_passing p before + sets_of_step p before (choice before) c

@@ -6,7 +6,7 @@ ghost use Rattle.death_cleanup.specs.View.{state_of};
 ghost use Rattle.lwp_types.specs.Agents.{deliver_to, event_agents, is_armed};
 ghost use Rattle.lwp_types.specs.Effects.{effect_places};
 ghost use Rattle.lwp_types.specs.State.{agent_of, for_each};
-ghost use Rattle.lwp_calls.specs.Deliveries.{deliver_found, waits_for};
+ghost use Rattle.lwp_calls.specs.Deliveries.{deliver_to_found, waits_for};
 
 use crate::message_calls::post;
 use death_cleanup::Parts;
@@ -28,7 +28,7 @@ fn deliver_to<'s>(
     requires waits { IsTrue (waits_for event parts.old.agents.agents agent) }
     requires room { length effects.old + 2 ≤ effect_places }
     ensures { CameTo parts.old parts.new effects.old effects.new
-        (deliver_found text.now (agent_of parts.old.agents.agents agent) (state_of parts.old)) }
+        (deliver_to_found text.now (agent_of parts.old.agents.agents agent) (state_of parts.old)) }
 {
     let Some(owner) = parts.agents.owner_of(agent) else {
         unreachable!()

@@ -2,10 +2,10 @@
 ghost use Rattle.std.specs.Prelude.{◌≡◌, ◌<◌, ◌≤◌, ◌++◌, ◌∷◌, [], Some, None, IfOk, IfSome, IsErr, IsTrue, OnErr, OnOk, length, not, option_map};
 ghost use Rattle.std.specs.Result.{IsOkAnd, result_err};
 ghost use Rattle.death_cleanup.specs.Comes.{Answers};
-ghost use Rattle.death_cleanup.specs.Moves.{kind_marked, kind_marks};
+ghost use Rattle.death_cleanup.specs.Moves.{kind_with_marks, kind_marks};
 ghost use Rattle.death_cleanup.specs.Ties.{InStep, LawfulParts};
 ghost use Rattle.death_cleanup.specs.View.{state_of};
-ghost use Rattle.exceptions.specs.Stack.{IsInReach, after_unhandle, handlers_on_top, has_all_frames, is_full, refusal_on, settled_at, with_frame, with_mark};
+ghost use Rattle.exceptions.specs.Stack.{IsInReach, after_unhandle, handlers_on_top, has_all_frames, is_full, refusal_on, after_settle_at, with_frame, with_mark};
 ghost use Rattle.lwp_types.specs.Case.{answer_by};
 ghost use Rattle.lwp_types.specs.Choice.{is_eligible_in};
 ghost use Rattle.lwp_types.specs.Death.{return_from};
@@ -100,7 +100,7 @@ fn enter_frame(kind: &mut Kind) -> Result<bool, NoMemory>
     ensures room { IfOk result
         (λ entered. entered ≡ not (has_all_frames (kind_marks (Some kind.old)))) }
     ensures ok { OnOk result
-        (kind.new ≡ kind_marked (with_frame (kind_marks (Some kind.old))) kind.old) }
+        (kind.new ≡ kind_with_marks (with_frame (kind_marks (Some kind.old))) kind.old) }
     ensures err { OnErr result (kind.new ≡ kind.old) }
 {
     match kind {
@@ -115,7 +115,7 @@ fn set_handler(kind: &mut Kind, pattern: Pattern, func: Func, arg: u32) -> Resul
     ensures room { IfOk result (λ set. set ≡ not (is_full (kind_marks (Some kind.old)))) }
     ensures ok { OnOk result
         (kind.new
-        ≡ kind_marked (with_mark (Mark.Handler pattern func arg) (kind_marks (Some kind.old)))
+        ≡ kind_with_marks (with_mark (Mark.Handler pattern func arg) (kind_marks (Some kind.old)))
         kind.old) }
     ensures err { OnErr result (kind.new ≡ kind.old) }
 {
@@ -131,7 +131,7 @@ fn set_exit<'s>(kind: &mut Kind<'s>, reg: u64, exit: &ExitCall<'s>) -> Result<bo
     ensures room { IfOk result (λ set. set ≡ not (is_full (kind_marks (Some kind.old)))) }
     ensures ok { OnOk result
         (kind.new
-        ≡ kind_marked (with_mark (Mark.Exit reg exit.now) (kind_marks (Some kind.old))) kind.old) }
+        ≡ kind_with_marks (with_mark (Mark.Exit reg exit.now) (kind_marks (Some kind.old))) kind.old) }
     ensures err { OnErr result (kind.new ≡ kind.old) }
 {
     match kind {
@@ -144,7 +144,7 @@ fn set_exit<'s>(kind: &mut Kind<'s>, reg: u64, exit: &ExitCall<'s>) -> Result<bo
 fn take_handler(kind: &mut Kind) -> Result<(), LwpErr>
     requires { 0 < length (kind_marks (Some kind.old)) }
     ensures refusal { result_err result ≡ refusal_on (kind_marks (Some kind.old)) }
-    ensures after { kind.new ≡ kind_marked (after_unhandle (kind_marks (Some kind.old))) kind.old }
+    ensures after { kind.new ≡ kind_with_marks (after_unhandle (kind_marks (Some kind.old))) kind.old }
 {
     match kind {
         Kind::Thread(rec) => rec.stack.unhandle(),
@@ -391,7 +391,7 @@ fn return_from<'s>(
 // In the topmost frame of a stack, the handlers from this number on go.
 fn settle(kind: &mut Kind, mark: u32)
     requires { mark < handlers_on_top (kind_marks (Some kind.old)) }
-    ensures { kind.new ≡ kind_marked (settled_at mark (kind_marks (Some kind.old))) kind.old }
+    ensures { kind.new ≡ kind_with_marks (after_settle_at mark (kind_marks (Some kind.old))) kind.old }
 {
     match kind {
         Kind::Thread(rec) => rec.stack.settle(mark),

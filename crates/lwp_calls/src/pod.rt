@@ -14,7 +14,7 @@ ghost use Rattle.lwp_types.specs.Lawful.{Lawful};
 ghost use Rattle.lwp_types.specs.State.{is_id, opening};
 ghost use Rattle.lwp_types.specs.Step.{case_of, step, end_effects, ends};
 ghost use Rattle.pod_events.specs.Events.{has_agent};
-ghost use Rattle.pod_events.specs.Machine.{asks_memory, called_by, current_of, ending_of};
+ghost use Rattle.pod_events.specs.Machine.{asks_memory, call_effects, current_of, ending_of};
 ghost use Rattle.pod_events.specs.Rites.{flags_of};
 ghost use Rattle.lwp_calls.specs.Comes.{IsAsBefore, Told};
 ghost use Rattle.lwp_calls.specs.Opening.{no_thread};
@@ -274,7 +274,7 @@ impl<'s> Pod<'s> {
         requires { IsSome (current_of self.old) }
         ensures after { OnOk result (self.new ≡ (step self.old call.now).after) }
         ensures effects { OnOk result
-            (called_by (current_of self.old) call.now ++ effects.new
+            (call_effects (current_of self.old) call.now ++ effects.new
             ≡ (step self.old call.now).effects) }
         ensures err { OnErr result (self.new ≡ self.old) }
         ensures err_effects { OnErr result (effects.new ≡ []) }

@@ -61,12 +61,12 @@ abbrev pub depth_in : List Lock → ℕ → ℕ
 depth_in locks m = unwrap_or (option_map (λ lock. lock.depth) (lock_of locks m)) 0
 
 -- a lock, at this depth if it is that of m
-abbrev pub depth_set : ℕ → ℕ → Lock → Lock
-depth_set m depth lock = record lock { depth = if is_lock m lock then depth else lock.depth }
+abbrev pub lock_with_depth : ℕ → ℕ → Lock → Lock
+lock_with_depth m depth lock = record lock { depth = if is_lock m lock then depth else lock.depth }
 
 -- of all locks, that of m is at this depth
 abbrev pub with_depth : ℕ → ℕ → List Lock → List Lock
-with_depth m depth locks = map (depth_set m depth) locks
+with_depth m depth locks = map (lock_with_depth m depth) locks
 
 -- a free monitor is held from now on, and one that has this lock is held one deeper
 abbrev pub with_entry : ℕ → ℕ → Option Lock → List Lock → List Lock

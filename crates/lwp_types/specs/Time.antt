@@ -1,6 +1,6 @@
 -- The clock: it ticks, and whose timer falls due waits no longer.
 use Rattle.lwp_types.specs.State.{Outcome, State, and_then, for_each, passes, thread_of}
-use Rattle.lwp_types.specs.Unblock.{timed_out, unblock, zero_answer}
+use Rattle.lwp_types.specs.Unblock.{timeout_answer, unblock, zero_answer}
 use Rattle.lwp_types.specs.declared.rows.Block.{Block}
 use Rattle.lwp_types.specs.declared.rows.TimerRow.{TimerRow}
 use Rattle.std.specs.List.{filter}
@@ -19,7 +19,7 @@ is_asleep_in s t = passes (λ row. is_sleeping row.block) (thread_of s t)
 
 -- its timer falls due: who sleeps goes on with 0, and who waits for a letter learns that none has come in time
 abbrev pub time_out : ℕ → State → Outcome
-time_out t s = unblock (if is_asleep_in s t then zero_answer else timed_out) t s
+time_out t s = unblock (if is_asleep_in s t then zero_answer else timeout_answer) t s
 
 -- the tick of this timer has come
 abbrev pub is_due : ℕ → TimerRow → Bool

@@ -1,11 +1,11 @@
 -- Which letter is meant, where its sender is named.
 use Rattle.lwp_types.specs.FirstLaws.{find-filter}
-use Rattle.lwp_types.specs.Messages.{is_letter_of, is_open, is_to, letters_of, received_from}
+use Rattle.lwp_types.specs.Messages.{is_letter_of, is_open, is_to, letters_of, received_letter}
 use Rattle.lwp_types.specs.State.{passes}
 use Rattle.lwp_types.specs.declared.rows.Letter.{Letter}
 use Rattle.messages.proofs.Found.{last_of_three}
 use Rattle.messages.proofs.SlotLemmas.{find_absent, find_only, has_one, slot_within}
-use Rattle.messages.specs.Slots.{IsFirstAt, IsOnce, IsSlotOf, is_held_by, is_unread_by, kept_if}
+use Rattle.messages.specs.Slots.{IsFirstAt, IsOnce, IsSlotOf, is_held_by, is_unread_by, letter_if}
 use Rattle.messages.specs.Kept.{IsFiled}
 use Rattle.messages.specs.declared.directory.Directory.{Directory}
 use Rattle.std.proofs.Common.{Bool, List, None, Option, Some, ap, cond, false, get_or, not, refl, sym, true, ℕ, ◌&&◌, ◌∙◌, ◌≡◌}
@@ -39,7 +39,7 @@ module _ (slots : List (Option Letter)) (once : IsOnce slots) (t x : ℕ) where
   pub none_open : letters_of (living slots) x ≡ 0 → find (λ l. is_to t l && is_open (Some x) l) (living slots) ≡ None
   none_open none = find_absent x (λ l. is_to t l && is_open (Some x) l) only_open (living slots) none
 
-  pub none_held : letters_of (living slots) x ≡ 0 → received_from (living slots) t x ≡ None
+  pub none_held : letters_of (living slots) x ≡ 0 → received_letter (living slots) t x ≡ None
   none_held none =
       find-filter (λ l. l.received && is_letter_of x l) (is_to t) (living slots)
       ∙ find_absent x (λ l. is_to t l && (l.received && is_letter_of x l)) only_held (living slots) none
@@ -83,9 +83,9 @@ module _ (slots : List (Option Letter)) (once : IsOnce slots) (t x : ℕ) where
         and-true true = refl
         and-true false = refl
 
-    pub held_found : received_from (living slots) t x ≡ kept_if (is_held_by t) (get_or slots i None)
+    pub held_found : received_letter (living slots) t x ≡ letter_if (is_held_by t) (get_or slots i None)
     held_found =
         find-filter (λ l. l.received && is_letter_of x l) (is_to t) (living slots)
         ∙ find_only x (λ l. is_to t l && (l.received && is_letter_of x l)) only_held slots i letter letter_is from_x (once x)
         ∙ ap (λ b. cond b (Some letter) None) as_held
-        ∙ ap (kept_if (is_held_by t)) (sym letter_is)
+        ∙ ap (letter_if (is_held_by t)) (sym letter_is)

@@ -2,7 +2,7 @@
 use Rattle.chains.proofs.Pushes.{items_pushed_other, items_pushed_same, length-pushed}
 use Rattle.chains.specs.Lists.{Lists, after_clear, after_move_to_back, after_remove, empty_lists, items, without}
 use Rattle.lwp_types.specs.CountLaws.{count-cons, count-failed, count-filter-le, count-map, count-push, length-failed, one}
-use Rattle.lwp_types.specs.Messages.{as_received, is_letter_of, is_to, letters_of, reception_set}
+use Rattle.lwp_types.specs.Messages.{as_received, is_letter_of, is_to, letters_of, letter_with_reception}
 use Rattle.lwp_types.specs.State.{passes}
 use Rattle.lwp_types.specs.declared.rows.Letter.{Letter}
 use Rattle.messages.proofs.Found.{marked_there, removed_there}
@@ -336,7 +336,7 @@ module _ (d : Directory) (sound : IsSound d) (key : ℕ) where
   }
 
   module _ (slots : List (Option Letter)) (slot : ℕ) (letter : Letter) (key_is : key ≡ d.width + slot) (is : get_or slots slot None ≡ Some letter) (once : IsOnce slots) where
-    pub living_received : living (set slots slot (Some (as_received letter))) ≡ map (reception_set letter.from) (living slots)
+    pub living_received : living (set slots slot (Some (as_received letter))) ≡ map (letter_with_reception letter.from) (living slots)
     living_received =
         let r = ranked slots slot letter is in
         r.written (as_received letter) ∙ marked_there (living slots) r.rank letter once r.here r.within
@@ -344,7 +344,7 @@ module _ (d : Directory) (sound : IsSound d) (key : ℕ) where
     found_received : (x : ℕ) (o : Option ℕ) → IsSlotOf slots x o → IsSlotOf (set slots slot (Some (as_received letter))) x o
     found_received x None none =
         let more = ap (λ ls. letters_of ls x) living_received in
-        omega (arith, more, count-map (is_letter_of x) (reception_set letter.from) (living slots), none)
+        omega (arith, more, count-map (is_letter_of x) (letter_with_reception letter.from) (living slots), none)
     found_received x (Some i) at = elim (cases_eq i slot) [
       | inl same ↦
           let there : passes (is_letter_of x) (Some letter) ≡ true = ap (passes (is_letter_of x)) (sym is ∙ ap (λ j. get_or slots j None) (sym same)) ∙ at in
@@ -355,7 +355,7 @@ module _ (d : Directory) (sound : IsSound d) (key : ℕ) where
     pub IsFiled-received : IsFiled slots d → IsFiled (set slots slot (Some (as_received letter))) (record d { unread = after_remove d.unread key })
     IsFiled-received was = record {
       found = λ x. found_received x (place_of d.senders x) (was.found x);
-      counted = omega (arith, was.counted, ap length living_received, length-map (living slots) (reception_set letter.from));
+      counted = omega (arith, was.counted, ap length living_received, length-map (living slots) (letter_with_reception letter.from));
       held = λ t. was.held t ∙ sym (keys-alike (is_to t) d.width slots slot (Some (as_received letter)) (sym (ap (passes (is_to t)) is)));
       unread = λ t. keys_removed key d.unread (place_of d.boxes t) ∙ ap (without key) (was.unread t) ∙ sym (keys-out (is_unread_by t) d.width key slots slot (Some (as_received letter)) key_is (and-false (is_to t letter)));
     }

@@ -1,7 +1,7 @@
 -- Each call keeps what a `Messages` keeps of its fields, and what it makes of the letters.
 use Rattle.lwp_types.specs.CountLaws.{length-failed}
 use Rattle.lwp_types.specs.FirstLaws.{find-filter}
-use Rattle.lwp_types.specs.Messages.{is_letter_of, is_open, is_to, letters_of, next_letter, reception_set, without_letter}
+use Rattle.lwp_types.specs.Messages.{is_letter_of, is_open, is_to, letters_of, next_letter, letter_with_reception, without_letter}
 use Rattle.lwp_types.specs.OnlyLaws.{filter_none}
 use Rattle.lwp_types.specs.declared.rows.Letter.{Letter}
 use Rattle.messages.specs.Kept.{IsKept, IsTied}
@@ -18,7 +18,7 @@ bag letters places = record { letters = letters; places = places }
 
 pub length-marked : (o : Option Letter) (letters : List Letter) → length (with_found_received o letters) ≡ length letters
 length-marked None letters = refl
-length-marked (Some letter) letters = length-map letters (reception_set letter.from)
+length-marked (Some letter) letters = length-map letters (letter_with_reception letter.from)
 
 -- the letters are marked, or fewer, or one more
 module _ (slots new : List (Option Letter)) (d d' : Directory) (capacity capacity' places : ℕ) (was : IsKept slots d capacity places) (tied : IsTied new d' capacity') (width : d'.width ≡ d.width) where

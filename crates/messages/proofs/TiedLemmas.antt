@@ -1,6 +1,6 @@
 -- Each change of the letters leaves them tied to their directory.
 use Rattle.lwp_types.specs.CountLaws.{count-filter-le, count-map, count-push, one, one-le}
-use Rattle.lwp_types.specs.Messages.{as_received, is_letter_of, letters_of, reception_set}
+use Rattle.lwp_types.specs.Messages.{as_received, is_letter_of, letters_of, letter_with_reception}
 use Rattle.lwp_types.specs.State.{passes}
 use Rattle.lwp_types.specs.declared.rows.Letter.{Letter}
 use Rattle.messages.proofs.FiledLemmas.{IsFiled-trimmed, living-nothing, living_gone, living_received}
@@ -46,14 +46,14 @@ module _ (slots : List (Option Letter)) (d : Directory) (capacity : ℕ) (was : 
     slots_received : set slots slot (option_map as_received (get_or slots slot None)) ≡ set slots slot (Some (as_received letter))
     slots_received = ap (λ o. set slots slot (option_map as_received o)) letter_is
 
-    living_marked : living (set slots slot (Some (as_received letter))) ≡ map (reception_set letter.from) (living slots)
+    living_marked : living (set slots slot (Some (as_received letter))) ≡ map (letter_with_reception letter.from) (living slots)
     living_marked = living_received d was.sound (d.width + slot) slots slot letter refl letter_is was.once
 
     pub letters_received : living (set slots slot (option_map as_received (get_or slots slot None))) ≡ with_found_received (get_or slots slot None) (living slots)
     letters_received = ap living slots_received ∙ living_marked ∙ ap (λ o. with_found_received o (living slots)) (sym letter_is)
 
     once_received : IsOnce (set slots slot (Some (as_received letter)))
-    once_received x = omega (arith, was.once x, ap (λ ls. letters_of ls x) living_marked, count-map (is_letter_of x) (reception_set letter.from) (living slots))
+    once_received x = omega (arith, was.once x, ap (λ ls. letters_of ls x) living_marked, count-map (is_letter_of x) (letter_with_reception letter.from) (living slots))
 
     pub tied_received : (d' : Directory) (capacity' : ℕ) → ((ss : List (Option Letter)) (l : Letter) → IsOnce ss → get_or ss slot None ≡ Some l → IsFiled ss d → IsFiled (set ss slot (Some (as_received l))) d') → IsSound d' → d'.width ≡ d.width → capacity' ≡ capacity → IsTied (set slots slot (option_map as_received (get_or slots slot None))) d' capacity'
     tied_received d' capacity' filed sound width same =

@@ -1,5 +1,5 @@
 -- Messages as a plain list of letters, and what each of its calls makes of it.
-use Rattle.lwp_types.specs.Messages.{is_letter_of, is_to, letters_of, marked_received, next_letter, without_letter}
+use Rattle.lwp_types.specs.Messages.{is_letter_of, is_to, letters_of, with_reception, next_letter, without_letter}
 use Rattle.lwp_types.specs.declared.call.LwpErr.{LwpErr}
 use Rattle.lwp_types.specs.declared.rows.Letter.{Letter}
 use Rattle.std.specs.List.{find, list_any}
@@ -40,7 +40,7 @@ after_post m letter = record m { letters = m.letters ++ letter ∷ [] }
 -- the letter that was found counts as received
 abbrev pub with_found_received : Option Letter → List Letter → List Letter
 with_found_received None letters = letters
-with_found_received (Some letter) letters = marked_received letter.from letters
+with_found_received (Some letter) letters = with_reception letter.from letters
 
 -- t receives the next letter, of this sender or of any
 abbrev pub after_take : MessageTable → ℕ → Option ℕ → MessageTable

@@ -21,9 +21,9 @@ abbrev pub is_unread_by : ℕ → Letter → Bool
 is_unread_by t letter = is_to t letter && is_open None letter
 
 -- the letter that was found, if it passes
-abbrev pub kept_if : (Letter → Bool) → Option Letter → Option Letter
-kept_if p None = None
-kept_if p (Some letter) = if p letter then Some letter else None
+abbrev pub letter_if : (Letter → Bool) → Option Letter → Option Letter
+letter_if p None = None
+letter_if p (Some letter) = if p letter then Some letter else None
 
 -- t has received the letter
 abbrev pub is_held_by : ℕ → Letter → Bool

@@ -2,7 +2,7 @@
 ghost use Rattle.std.specs.Prelude.{◌≡◌, ◌<◌, ◌≤◌, ◌&&◌, false, length, option_map, IsOk, IfOk, OnOk, OnErr};
 ghost use Rattle.std.specs.Result.{result_err};
 ghost use Rattle.lwp_types.specs.First.{FindsFirst};
-ghost use Rattle.lwp_types.specs.Messages.{as_received, is_open, is_to, next_letter, received_from, senders_to};
+ghost use Rattle.lwp_types.specs.Messages.{as_received, is_open, is_to, next_letter, received_letter, senders_to};
 ghost use Rattle.messages.specs.MessageTable.{IsOnePerSender, after_forget, after_pop, after_post, after_reserve, after_take, first_to, has_letter_of, no_messages, refusal};
 
 use crate::directory::Directory;
@@ -106,7 +106,7 @@ impl<'s> Messages<'s> {
     /// sender must have room for the reply.
     #[inline(always)]
     pub fn reply(&mut self, to: Tid, from: Tid, len: usize) -> Result<(), LwpErr>
-        ensures cause { result_err result ≡ refusal (received_from self.old.letters to from) len }
+        ensures cause { result_err result ≡ refusal (received_letter self.old.letters to from) len }
         ensures ok { OnOk result (self.new ≡ after_forget self.old from) }
         ensures err { OnErr result (self.new ≡ self.old) }
     {

@@ -5,7 +5,7 @@ ghost use Rattle.std.specs.Result.{result_err};
 ghost use Rattle.lwp_types.specs.Messages.{as_received};
 ghost use Rattle.lwp_types.specs.State.{passes};
 ghost use Rattle.messages.specs.MessageTable.{refusal};
-ghost use Rattle.messages.specs.Slots.{IsEmptied, is_held_by, is_unread_by, kept_if, slot_at};
+ghost use Rattle.messages.specs.Slots.{IsEmptied, is_held_by, is_unread_by, letter_if, slot_at};
 
 use lwp_types::{Letter, LwpErr, Tid};
 
@@ -83,7 +83,7 @@ pub fn receive<'s>(slots: &mut Vec<Option<Letter<'s>>>, slot: usize) -> Option<L
 pub fn check(slots: &Vec<Option<Letter>>, slot: usize, to: Tid, len: usize) -> Result<(), LwpErr>
     requires { slot < length slots.now.items }
     ensures { result_err result
-        ≡ refusal (kept_if (is_held_by to) (slot_at slots.now.items slot)) len }
+        ≡ refusal (letter_if (is_held_by to) (slot_at slots.now.items slot)) len }
 {
     match &slots[slot] {
         Some(letter) if letter.to == to && letter.received => {

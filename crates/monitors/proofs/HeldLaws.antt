@@ -1,7 +1,7 @@
 -- Each call keeps both lists of locks the same.
 use Rattle.lwp_types.specs.CountLaws.{count_any, length-failed}
 use Rattle.lwp_types.specs.MonitorRelease.{lock_of, locks_on, without_lock}
-use Rattle.lwp_types.specs.Monitors.{depth_set, with_depth}
+use Rattle.lwp_types.specs.Monitors.{lock_with_depth, with_depth}
 use Rattle.lwp_types.specs.declared.rows.Lock.{Lock}
 use Rattle.monitors.proofs.KeptLemmas.{held_free}
 use Rattle.monitors.proofs.LockLaws.{as_many, at_most_once, lock_deep, lock_push, lock_without, no_lock_of, ordered_deep, ordered_without}
@@ -29,7 +29,7 @@ module _ {s : MonitorTable} {held : List Lock} {counts : List ℕ} {lock_room he
   pub IsHeld-deepened : (m depth : ℕ) → IsHeld (record s { locks = with_depth m depth s.locks }) (with_depth m depth held) held_room
   IsHeld-deepened m depth = record {
     ordered = ordered_deep m depth held was.by_monitor.ordered;
-    same = λ k. lock_deep m depth k held ∙ ap (option_map (depth_set m depth)) (was.by_monitor.same k) ∙ sym (lock_deep m depth k s.locks);
+    same = λ k. lock_deep m depth k held ∙ ap (option_map (lock_with_depth m depth)) (was.by_monitor.same k) ∙ sym (lock_deep m depth k s.locks);
     fits = was.by_monitor.fits;
   }
 

@@ -2,7 +2,7 @@
 use Rattle.lwp_types.specs.CountLaws.{any_counted, count-failed, count-filter-le, count-map, count-push, count_any, count_found, count_not_found, find_none, length-failed, one, times-without_other}
 use Rattle.lwp_types.specs.FirstLaws.{best_passes}
 use Rattle.lwp_types.specs.MonitorRelease.{is_lock, lock_of, locks_on, without_lock}
-use Rattle.lwp_types.specs.Monitors.{depth_set, with_depth}
+use Rattle.lwp_types.specs.Monitors.{lock_with_depth, with_depth}
 use Rattle.lwp_types.specs.State.{times_in}
 use Rattle.lwp_types.specs.declared.rows.Lock.{Lock}
 use Rattle.monitors.proofs.LiveLaws.{All-without, AreRising-push, AreRising-without, born-push}
@@ -84,7 +84,7 @@ module _ {s : MonitorTable} {lock_room : ℕ} (was : IsKept s lock_room) where
   IsKept-deepened m depth = kept_locks (with_depth m depth s.locks) (λ k. omega (arith, was.held_once k, as_many k)) (λ k. omega (arith, was.held_live k, as_many k))
     where
       as_many : (k : ℕ) → locks_on (with_depth m depth s.locks) k ≡ locks_on s.locks k
-      as_many k = count-map (is_lock k) (depth_set m depth) s.locks
+      as_many k = count-map (is_lock k) (lock_with_depth m depth) s.locks
 
   module _ (m : ℕ) (live : is_live s m ≡ true) (free : is_free s m ≡ true) where
     -- there is room for the lock of a live monitor that is free

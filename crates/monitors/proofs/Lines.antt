@@ -7,7 +7,7 @@ use Rattle.monitors.specs.declared.requests.EntryRequest.{EntryRequest}
 use Rattle.std.proofs.Common.{List, [], ap, eqb, map, not, refl, sym, ℕ, ◌∙◌, ◌∷◌, ◌≡◌, ◌||◌}
 use Rattle.std.specs.List.{AllByRecursion, filter, list_any}
 use Rattle.std.specs.Prelude.{option_map}
-use Rattle.waiting_list.specs.Line.{is_for, is_thread, priority_set}
+use Rattle.waiting_list.specs.Line.{is_for, is_thread, waiting_with_priority}
 use Rattle.waiting_list.specs.declared.rows.Waiting.{Waiting}
 
 pub requests-line : (m : ℕ) (ws : List Waiting) → filter (λ (r : EntryRequest). eqb r.mon m) (map request_of ws) ≡ map request_of (filter (is_for m) ws)
@@ -25,9 +25,9 @@ next-line m ws =
 pub left-line : (t : ℕ) (ws : List Waiting) → map request_of (filter (λ (w : Waiting). not (is_thread t w)) ws) ≡ without_request t (map request_of ws)
 left-line t ws = sym (map-filter request_of (λ r. not (is_request_of t r)) ws)
 
-pub prioritized-line : (t p : ℕ) (ws : List Waiting) → map request_of (map (priority_set t p) ws) ≡ with_priority t p (map request_of ws)
+pub prioritized-line : (t p : ℕ) (ws : List Waiting) → map request_of (map (waiting_with_priority t p) ws) ≡ with_priority t p (map request_of ws)
 prioritized-line t p [] = refl
-prioritized-line t p (w ∷ ws) = ap (λ rs. request_of (priority_set t p w) ∷ rs) (prioritized-line t p ws)
+prioritized-line t p (w ∷ ws) = ap (λ rs. request_of (waiting_with_priority t p w) ∷ rs) (prioritized-line t p ws)
 
 pub any-line : (t : ℕ) (ws : List Waiting) → list_any (is_request_of t) (map request_of ws) ≡ list_any (is_thread t) ws
 any-line t [] = refl

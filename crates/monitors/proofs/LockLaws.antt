@@ -1,6 +1,6 @@
 -- Locks by rising monitors, and the same in the order of acquisition.
 use Rattle.lwp_types.specs.CountLaws.{count-cons, count_found, count_not_found, find_none, one}
-use Rattle.lwp_types.specs.Monitors.{depth_set, with_depth}
+use Rattle.lwp_types.specs.Monitors.{lock_with_depth, with_depth}
 use Rattle.lwp_types.specs.OnlyLaws.{count_at, filter_none, map_none, remove_only, set_only}
 use Rattle.lwp_types.specs.MonitorRelease.{is_lock, lock_of, locks_on, without_lock}
 use Rattle.lwp_types.specs.declared.rows.Lock.{Lock}
@@ -70,13 +70,13 @@ module _ (ls : List Lock) (m : ℕ) (few : locks_on ls m ≤ 1) where
   deep_there i depth l here is =
       let its : is_lock m l ≡ true = ap (is_lock m) is ∙ eq-eqb (get_or ls i l).mon m (here.here l) in
       ap (λ b. set ls i (record l { depth = cond b depth l.depth })) (sym its)
-      ∙ set_only (is_lock m) (depth_set m depth) (λ x other. ap (λ b. record x { depth = cond b depth x.depth }) other) ls i l few here.within is its
+      ∙ set_only (is_lock m) (lock_with_depth m depth) (λ x other. ap (λ b. record x { depth = cond b depth x.depth }) other) ls i l few here.within is its
 
 pub without_none : (ls : List Lock) (m : ℕ) → locks_on ls m ≡ 0 → without_lock m ls ≡ ls
 without_none ls m none = filter_none (is_lock m) ls none
 
 pub deep_none : (ls : List Lock) (m depth : ℕ) → locks_on ls m ≡ 0 → with_depth m depth ls ≡ ls
-deep_none ls m depth none = map_none (is_lock m) (depth_set m depth) (λ x other. ap (λ b. record x { depth = cond b depth x.depth }) other) ls none
+deep_none ls m depth none = map_none (is_lock m) (lock_with_depth m depth) (λ x other. ap (λ b. record x { depth = cond b depth x.depth }) other) ls none
 
 -- what a change leaves
 
@@ -102,11 +102,11 @@ lock_without m k ls = elim (cases_eq m k) [
         by_test true e rest = rw (ne_eqb l.mon k (λ f. other (sym (eqb-true l.mon m e) ∙ f))) rest
         by_test false e rest = ap (λ o. cond (eqb l.mon k) (Some l) o) rest
 
-pub lock_deep : (m depth k : ℕ) (ls : List Lock) → lock_of (with_depth m depth ls) k ≡ option_map (depth_set m depth) (lock_of ls k)
+pub lock_deep : (m depth k : ℕ) (ls : List Lock) → lock_of (with_depth m depth ls) k ≡ option_map (lock_with_depth m depth) (lock_of ls k)
 lock_deep m depth k [] = refl
 lock_deep m depth k (l ∷ ls) = by_test (eqb l.mon k) (lock_deep m depth k ls)
   where
-    by_test : (b : Bool) → lock_of (with_depth m depth ls) k ≡ option_map (depth_set m depth) (lock_of ls k) → cond b (Some (depth_set m depth l)) (lock_of (with_depth m depth ls) k) ≡ option_map (depth_set m depth) (cond b (Some l) (lock_of ls k))
+    by_test : (b : Bool) → lock_of (with_depth m depth ls) k ≡ option_map (lock_with_depth m depth) (lock_of ls k) → cond b (Some (lock_with_depth m depth l)) (lock_of (with_depth m depth ls) k) ≡ option_map (lock_with_depth m depth) (cond b (Some l) (lock_of ls k))
     by_test true rest = refl
     by_test false rest = rest
 

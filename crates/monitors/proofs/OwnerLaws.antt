@@ -1,6 +1,6 @@
 -- The locks are counted by their owners.
 use Rattle.lwp_types.specs.CountLaws.{count-cons, count_any, count-map, count-push, count-reverse, find_none, length-failed, one, one-le}
-use Rattle.lwp_types.specs.Monitors.{depth_set, with_depth}
+use Rattle.lwp_types.specs.Monitors.{lock_with_depth, with_depth}
 use Rattle.lwp_types.specs.OnlyLaws.{count_at}
 use Rattle.lwp_types.specs.MonitorRelease.{is_owned_by, last_lock}
 use Rattle.lwp_types.specs.declared.rows.Lock.{Lock}
@@ -48,7 +48,7 @@ module _ (locks : List Lock) (counts : List ℕ) (lock : Lock) (i : ℕ) (its : 
     ]
 
 pub IsCounted-deepened : (locks : List Lock) (counts : List ℕ) (m depth : ℕ) → IsCounted locks counts → IsCounted (with_depth m depth locks) counts
-IsCounted-deepened locks counts m depth was b = was b ∙ sym (count-map (is_in b) (depth_set m depth) locks)
+IsCounted-deepened locks counts m depth was b = was b ∙ sym (count-map (is_in b) (lock_with_depth m depth) locks)
 
 -- where nothing is counted the thread holds nothing
 

@@ -38,12 +38,12 @@ abbrev pub without_request : ℕ → List EntryRequest → List EntryRequest
 without_request t rs = filter (λ r. not (is_request_of t r)) rs
 
 -- a request, with another priority where it is that of t
-abbrev pub priority_set : ℕ → ℕ → EntryRequest → EntryRequest
-priority_set t p r = record r { prio = if is_request_of t r then p else r.prio }
+abbrev pub request_with_priority : ℕ → ℕ → EntryRequest → EntryRequest
+request_with_priority t p r = record r { prio = if is_request_of t r then p else r.prio }
 
 -- the priority of t becomes p; the request keeps its place
 abbrev pub with_priority : ℕ → ℕ → List EntryRequest → List EntryRequest
-with_priority t p rs = map (priority_set t p) rs
+with_priority t p rs = map (request_with_priority t p) rs
 
 -- questions
 

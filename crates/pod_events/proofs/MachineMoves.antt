@@ -13,9 +13,9 @@ use Rattle.lwp_types.specs.declared.call.Effect.TheVariants as effect
 use Rattle.lwp_types.specs.declared.call.LwpErr.TheVariants as error
 use Rattle.pod_events.specs.Events.{is_trapped, rites_event}
 use Rattle.pod_events.specs.Laws.{AsksForFates, CallsAreTheMachines, IsOfMoves, MachineMove, ToDeliver, ToStep, machine_after, machine_effects, machine_move}
-use Rattle.pod_events.specs.Rites.{after_first_report, as_rites, report_text, reports_after, rites_said}
+use Rattle.pod_events.specs.Rites.{after_first_report, as_rites, report_text, reports_after, after_rites}
 use Rattle.pod_events.specs.Step.{event_step, event_step_by, event_step_if}
-use Rattle.pod_events.specs.Traps.{after_call, after_call_as, after_machine_step, after_trap, after_trap_and_call, agent_event_of, but_call, is_catch, is_given, notice, refused_by, trap_of, trap_refusal}
+use Rattle.pod_events.specs.Traps.{after_call, after_call_as, after_machine_step, after_trap, after_trap_and_call, agent_event_of, but_call, is_catch, is_given, notice, after_refusal, trap_of, trap_refusal}
 use Rattle.std.proofs.Common.{Bool, List, None, Option, Some, [], ap, arith, cond, count_by, drop, false, map, refl, sym, true, ℕ, ◌++◌, ◌+◌, ◌∙◌, ◌∷◌, ◌≡◌}
 
 -- a state and effects are those of these moves, from a state
@@ -66,7 +66,7 @@ made-goes s trapped t c = by_trap (trap_of c)
     by_refusal e None = still-goes s _ (λ p asks. refusal-none p asks t c _)
     by_refusal e (Some why) = still-goes s _ (λ p asks. refusal-none p asks t c _)
 
-    by_agent : (b : Bool) → Goes s (cond b (refused_by s trapped t c error.InUse) (after_machine_step trapped (step s c))).state (cond b (refused_by s trapped t c error.InUse) (after_machine_step trapped (step s c))).effects
+    by_agent : (b : Bool) → Goes s (cond b (after_refusal s trapped t c error.InUse) (after_machine_step trapped (step s c))).state (cond b (after_refusal s trapped t c error.InUse) (after_machine_step trapped (step s c))).effects
     by_agent true = still-goes s _ (λ p asks. refusal-none p asks t c _)
     by_agent false = one-goes s c (step s c).effects (λ p asks. refl)
 
@@ -107,7 +107,7 @@ effects-push p (first ∷ moves) move s = omega (
   effects-push p moves move (machine_move s first).after,
 )
 
-said-goes : (from s : State) (es : List Effect) (reports : List ℕ) → Goes from s es → Goes from (rites_said s es reports).state (rites_said s es reports).effects
+said-goes : (from s : State) (es : List Effect) (reports : List ℕ) → Goes from s es → Goes from (after_rites s es reports).state (after_rites s es reports).effects
 said-goes from s es reports goes = by_armed (is_event_armed s rites_event) reports
   where
     by_armed : (b : Bool) (rs : List ℕ) → Goes from (cond b (after_first_report s es rs) (record { state = s; reports = rs; effects = es })).state (cond b (after_first_report s es rs) (record { state = s; reports = rs; effects = es })).effects

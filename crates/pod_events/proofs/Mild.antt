@@ -1,6 +1,6 @@
 -- What every change of the machine does, but for the birth of a thread and the last step of a death: nobody comes or goes, and what it
 -- tells is an answer, an exit procedure or a delivery.
-use Rattle.lwp_types.specs.Agents.{agent_gone, agents_of, deliver, deliver_to, end_agent, event_agents, is_for, message, without_agent}
+use Rattle.lwp_types.specs.Agents.{after_agent_end, agents_of, deliver, deliver_to, end_agent, event_agents, is_for, message, without_agent}
 use Rattle.lwp_types.specs.Case.{Case, Check, refusal_case, unless}
 use Rattle.lwp_types.specs.Choice.{best_by}
 use Rattle.lwp_types.specs.Death.{answer_joiners, end_agents, refuse_receivers, refuse_sender, refuse_senders, release_all, run_all_exits, withdraw}
@@ -11,7 +11,7 @@ use Rattle.lwp_types.specs.Exceptions.{exits_of}
 use Rattle.lwp_types.specs.MonitorRelease.{grant, next_owner, release, without_lock}
 use Rattle.lwp_types.specs.State.{Outcome, State, ThreadRow, and_then, for_each, is_agent, is_agent_row, marks_in, numbers, passes, priority_in, still, thread_of, with_block, with_marks, with_marks_of, with_priority, with_suspension}
 use Rattle.lwp_types.specs.Time.{after_tick, due_threads, is_asleep_in, tick, time_out}
-use Rattle.lwp_types.specs.Unblock.{after_block, nonexist, timed_out, unblock, zero_answer}
+use Rattle.lwp_types.specs.Unblock.{after_block, nonexist, timeout_answer, unblock, zero_answer}
 use Rattle.lwp_types.specs.Conditions.{after_wait, after_wake, after_wake_all, condition_of, waits_on, waking}
 use Rattle.lwp_types.specs.declared.call.Answer.{Answer}
 use Rattle.lwp_types.specs.declared.call.Effect.{Effect}
@@ -155,7 +155,7 @@ mild_waited t c (Some lock) s =
     record { tells = freed.tells; lives = freed.lives ∙ block_numbers t (block.Waiting c) s.threads; heard = freed.heard }
 
 pub mild_end_agent : (a : ℕ) (s : State) → Mild s (end_agent a s).after (end_agent a s).effects
-mild_end_agent a s = mild_then s (for_each (unblock nonexist) (receivers_of s a) s) (λ now. still (agent_gone a now)) (mild_each (unblock nonexist) (mild_unblock nonexist) (receivers_of s a) s)
+mild_end_agent a s = mild_then s (for_each (unblock nonexist) (receivers_of s a) s) (λ now. still (after_agent_end a now)) (mild_each (unblock nonexist) (mild_unblock nonexist) (receivers_of s a) s)
     (record { tells = refl; lives = refl; heard = λ e none. gone_heard e a _ none })
 
 woken_numbers : (m : ℕ) (ws : List WaitRow) (s : State) → numbers (fold (λ now w. after_wake m w now) s ws).threads ≡ numbers s.threads
@@ -219,7 +219,7 @@ mild_deliver_to text row s = mild_then s
     (mild_post _ _)
 
 mild_time_out : (t : ℕ) (s : State) → Mild s (time_out t s).after (time_out t s).effects
-mild_time_out t s = mild_unblock (cond (is_asleep_in s t) zero_answer timed_out) t s
+mild_time_out t s = mild_unblock (cond (is_asleep_in s t) zero_answer timeout_answer) t s
 
 mild_tick : (s : State) → Mild s (tick s).after (tick s).effects
 mild_tick s = mild_then s

@@ -3,7 +3,7 @@ use Rattle.lwp_types.specs.Agents.{end_agent}
 use Rattle.lwp_types.specs.Case.{Case, Check, answer_case, is_no_id, refusal_case, silent_case, unless, value_case, with_zero}
 use Rattle.lwp_types.specs.CountLaws.{count-cons, count_found, one, length-failed}
 use Rattle.lwp_types.specs.Death.{answer_joiners, bury, death, destroy, end_agents, refuse_receivers, refuse_senders, release_all, return_from, run_all_exits, withdraw}
-use Rattle.lwp_types.specs.Exits.{catch_case, leave_frame, notified_by}
+use Rattle.lwp_types.specs.Exits.{catch_case, leave_frame, excnotify_case_by}
 use Rattle.lwp_types.specs.Messages.{next_letter, post, receive_by}
 use Rattle.lwp_types.specs.Monitors.{after_request, enter_case, is_owned_by_other}
 use Rattle.lwp_types.specs.Exceptions.{caught_marks, first_frames, frames, handler_of, later_frames, with_match}
@@ -249,7 +249,7 @@ match_mild s on_match (Some f) mild = mild f
 caught_mild : (s : State) (t p : ℕ) (f : Found) → Mild s (catch_case s t p f).after (catch_case s t p f).others
 caught_mild s t p f = mild_unwind t (caught_marks f (marks_in s t)) (later_frames f.depth (marks_in s t)) s
 
-notified_mild : (s : State) (t p : ℕ) (f : Found) (h : Func) → Mild s (notified_by s t p f h).after (notified_by s t p f h).others
+notified_mild : (s : State) (t p : ℕ) (f : Found) (h : Func) → Mild s (excnotify_case_by s t p f h).after (excnotify_case_by s t p f h).others
 notified_mild s t p f func.Give = mild_quiet s s refl refl
 notified_mild s t p f func.Sum = mild_quiet s s refl refl
 notified_mild s t p f func.Nothing = caught_mild s t p f
@@ -313,7 +313,7 @@ case_toll s t (call.Handle pat func arg) = checked t _ _ (quiet (mark_numbers t 
 case_toll s t call.Unhandle = checked t _ _ (quiet (mark_numbers t _ s.threads) refl)
 case_toll s t (call.OnExit x) = checked t _ _ (quiet (mark_numbers t _ s.threads) refl)
 case_toll s t (call.Raise p) = checked t _ _ (match_mild s (catch_case s t p) (handler_of s t p) (caught_mild s t p))
-case_toll s t (call.ExcNotify p) = checked t _ _ (match_mild s (λ f. notified_by s t p f f.func) (handler_of s t p) (λ f. notified_mild s t p f f.func))
+case_toll s t (call.ExcNotify p) = checked t _ _ (match_mild s (λ f. excnotify_case_by s t p f f.func) (handler_of s t p) (λ f. notified_mild s t p f f.func))
 case_toll s t (call.Bound p) = checked t _ _ (match_mild s _ (handler_of s t p) (λ f. mild_quiet s s refl refl))
 case_toll s t (call.Agent e) = agent_toll s t e _ _ refl refl
 case_toll s t call.Agents = mild_toll t None 0 (mild_quiet s s refl refl)

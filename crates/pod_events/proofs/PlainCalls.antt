@@ -9,10 +9,10 @@ use Rattle.pod_events.proofs.QuietPods.{said-none}
 use Rattle.pod_events.proofs.Tolls.{step_deathless, step_heard, step_kept}
 use Rattle.pod_events.specs.Events.{EventOutcome, EventState, after_pass_on, has_agent, is_trapped, rites_event}
 use Rattle.pod_events.specs.Fates.{asks_no_event, births_by, is_machines, is_plain, victim}
-use Rattle.pod_events.specs.Machine.{called_by, current_of}
-use Rattle.pod_events.specs.Rites.{dead_to_report, deaths, reports_after, rites_said}
+use Rattle.pod_events.specs.Machine.{call_effects, current_of}
+use Rattle.pod_events.specs.Rites.{dead_to_report, deaths, reports_after, after_rites}
 use Rattle.pod_events.specs.Step.{after_settle, event_step, event_step_by, event_step_if, leads, leads_if, with_rites}
-use Rattle.pod_events.specs.Traps.{after_call_as, after_machine_step, after_trap_and_call, agent_event_of, lead, refused_by, trap_of}
+use Rattle.pod_events.specs.Traps.{after_call_as, after_machine_step, after_trap_and_call, agent_event_of, lead, after_refusal, trap_of}
 use Rattle.std.proofs.Common.{Bool, Err, List, None, Ok, OnErr, OnOk, Option, Result, Some, [], ap, arith, cond, eqb, false, inl, inr, length, not, refl, sym, true, ℕ, ◌&&◌, ◌++◌, ◌+◌, ◌∙◌, ◌≡◌, ◌≤◌, ◌⊎◌, ◌||◌}
 use Rattle.std.proofs.lemmas.Bool.{and_parts}
 use Rattle.std.specs.Prelude.{is_none, is_some}
@@ -50,7 +50,7 @@ module _ (es : EventState) (t : ℕ) (c : Call) (turn : current_of es.state ≡ 
   called_alone =
       ap (after_trap_and_call es.state es.trapped t c) none
       ∙ ap (after_call_as es.state es.trapped t c) alone.no_trap
-      ∙ ap (λ o. cond (passes (is_trapped es.trapped) o) (refused_by es.state es.trapped t c error.InUse) (after_machine_step es.trapped (step es.state c))) alone.no_agent
+      ∙ ap (λ o. cond (passes (is_trapped es.trapped) o) (after_refusal es.state es.trapped t c error.InUse) (after_machine_step es.trapped (step es.state c))) alone.no_agent
 
   -- nobody is there after it who wasn't before, but for the newborn
   pub alone_lives : length (step es.state c).after.threads ≤ length es.state.threads + births_by c
@@ -75,7 +75,7 @@ module _ (es : EventState) (t : ℕ) (c : Call) (turn : current_of es.state ≡ 
     alone_step =
         ap (event_step_if es c) (turn_of es.state t turn).chosen
         ∙ ap (with_rites es) called_alone
-        ∙ ap (λ rs. after_settle es.trapped (rites_said (step es.state c).after (step es.state c).effects rs)) none_noted
+        ∙ ap (λ rs. after_settle es.trapped (after_rites (step es.state c).after (step es.state c).effects rs)) none_noted
         ∙ ap (after_settle es.trapped) (said-none (step es.state c).after (step es.state c).effects)
         ∙ ap (λ (o : Option ℕ). record { after = record { state = (step es.state c).after; trapped = es.trapped; pending = o; reports = [] }; effects = (step es.state c).effects }) (sym none)
         ∙ ap (λ (rs : List ℕ). record { after = record { state = (step es.state c).after; trapped = es.trapped; pending = es.pending; reports = rs }; effects = (step es.state c).effects }) (sym empty)
@@ -84,11 +84,11 @@ module _ (es : EventState) (t : ℕ) (c : Call) (turn : current_of es.state ≡ 
     alone_after = sym (ap (λ (o : EventOutcome). o.after) alone_step)
 
     -- the call itself, and what the machine told
-    pub alone_effects : (told : List Effect) → called_by (current_of es.state) c ++ told ≡ (step es.state c).effects → leads es c ++ told ≡ (event_step es c).effects
+    pub alone_effects : (told : List Effect) → call_effects (current_of es.state) c ++ told ≡ (step es.state c).effects → leads es c ++ told ≡ (event_step es c).effects
     alone_effects told same =
         ap (λ o. leads_if es.pending c o ++ told) (turn_of es.state t turn).chosen
         ∙ ap (λ o. lead o t c ++ told) none
-        ∙ sym (ap (λ o. called_by o c ++ told) turn)
+        ∙ sym (ap (λ o. call_effects o c ++ told) turn)
         ∙ same
         ∙ sym (ap (λ (o : EventOutcome). o.effects) alone_step)
 

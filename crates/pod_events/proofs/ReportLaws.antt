@@ -14,9 +14,9 @@ use Rattle.pod_events.proofs.Mild.{mild_deliver}
 use Rattle.pod_events.proofs.MildCalls.{deaths-append, is_tame, mild_deathless}
 use Rattle.pod_events.proofs.Quiet.{IsAside, called-counts, delivery-none, raised_by}
 use Rattle.pod_events.specs.Events.{EventOutcome, EventState, after_pass_on, after_take_trap, has_agent, is_trapped, rites_event, take_event}
-use Rattle.pod_events.specs.Laws.{EveryAgentIsTold, EveryDeathIsReported, NoReportWaits, NobodyHearsNothing, mourned_in, mourned_now, reported_by, reported_in, told_in, told_now}
+use Rattle.pod_events.specs.Laws.{EveryAgentIsTold, EveryDeathIsReported, NoReportWaits, NobodyHearsNothing, reports_due, reports_due_of_move, dead_reported, deaths_reported, reports_of_moves, reports_of_call}
 use Rattle.pod_events.specs.Moves.{EventMove, ToCall, ToTake, after_moves, event_move}
-use Rattle.pod_events.specs.Rites.{Told, after_first_report, as_rites, dead_to_report, deaths, report_text, reports_after, rites_said}
+use Rattle.pod_events.specs.Rites.{Reporting, after_first_report, as_rites, dead_to_report, deaths, report_text, reports_after, after_rites}
 use Rattle.pod_events.specs.Step.{event_step, event_step_by, event_step_if}
 use Rattle.pod_events.specs.Traps.{after_trap_and_call}
 use Rattle.std.proofs.Common.{Bool, List, None, Option, Some, [], ap, arith, cond, count_by, false, map, not, refl, subst, sym, take, true, ℕ, ◌&&◌, ◌++◌, ◌∙◌, ◌∷◌, ◌≡◌, ◌||◌}
@@ -27,7 +27,7 @@ use Rattle.std.specs.Prelude.{is_some}
 
 -- the effect is a report
 abbrev is_rites : Effect → Bool
-is_rites x = is_some (reported_by x)
+is_rites x = is_some (dead_reported x)
 
 aside : IsAside is_rites
 aside = record { tame = tame; no_call = λ t c. refl; no_end = λ status. refl }
@@ -43,11 +43,11 @@ aside = record { tame = tame; no_call = λ t c. refl; no_end = λ status. refl }
     tame (effect.Trapped t f) h = refl
     tame (effect.Rites a d) h = absurd (cc)
 
-reported-none : (es : List Effect) → count_by is_rites es ≡ 0 → reported_in es ≡ []
+reported-none : (es : List Effect) → count_by is_rites es ≡ 0 → deaths_reported es ≡ []
 reported-none [] none = refl
 reported-none (x ∷ xs) none = by_effect x (omega (arith, none, count-cons is_rites x xs)) (reported-none xs (omega (arith, none, count-cons is_rites x xs)))
   where
-    by_effect : (x : Effect) → one (is_rites x) ≡ 0 → reported_in xs ≡ [] → reported_in (x ∷ xs) ≡ []
+    by_effect : (x : Effect) → one (is_rites x) ≡ 0 → deaths_reported xs ≡ [] → deaths_reported (x ∷ xs) ≡ []
     by_effect (effect.Called t c) h rest = rest
     by_effect (effect.Answered t a) h rest = rest
     by_effect (effect.Exited t reg c a) h rest = rest
@@ -58,11 +58,11 @@ reported-none (x ∷ xs) none = by_effect x (omega (arith, none, count-cons is_r
     by_effect (effect.Trapped t f) h rest = rest
     by_effect (effect.Rites a d) h rest = absurd (omega (arith, h))
 
-reported-append : (xs ys : List Effect) → reported_in (xs ++ ys) ≡ reported_in xs ++ reported_in ys
+reported-append : (xs ys : List Effect) → deaths_reported (xs ++ ys) ≡ deaths_reported xs ++ deaths_reported ys
 reported-append [] ys = refl
 reported-append (x ∷ xs) ys = by_effect x (reported-append xs ys)
   where
-    by_effect : (x : Effect) → reported_in (xs ++ ys) ≡ reported_in xs ++ reported_in ys → reported_in (x ∷ (xs ++ ys)) ≡ reported_in (x ∷ xs) ++ reported_in ys
+    by_effect : (x : Effect) → deaths_reported (xs ++ ys) ≡ deaths_reported xs ++ deaths_reported ys → deaths_reported (x ∷ (xs ++ ys)) ≡ deaths_reported (x ∷ xs) ++ deaths_reported ys
     by_effect (effect.Called t c) rest = rest
     by_effect (effect.Answered t a) rest = rest
     by_effect (effect.Exited t reg c a) rest = rest
@@ -134,20 +134,20 @@ deliver-heard s text f = each-heard text (event_agents s.agents rites_event) s f
 
 -- what a report does
 
-first-told : (dead : ℕ) (es : List Effect) → Begins es → take 1 (reported_in (map (as_rites dead) es)) ≡ dead ∷ []
-first-told dead es begins = ap (λ xs. take 1 (reported_in (map (as_rites dead) xs))) begins.splits
+first-told : (dead : ℕ) (es : List Effect) → Begins es → take 1 (deaths_reported (map (as_rites dead) es)) ≡ dead ∷ []
+first-told dead es begins = ap (λ xs. take 1 (deaths_reported (map (as_rites dead) xs))) begins.splits
 
-said-told : (s : State) (es : List Effect) (reports : List ℕ) → reported_in es ≡ [] → reports ≡ told_now (rites_said s es reports).effects ++ (rites_said s es reports).reports
+said-told : (s : State) (es : List Effect) (reports : List ℕ) → deaths_reported es ≡ [] → reports ≡ reports_of_call (after_rites s es reports).effects ++ (after_rites s es reports).reports
 said-told s es reports none = by_armed (is_event_armed s rites_event) refl reports
   where
-    by_armed : (b : Bool) → is_event_armed s rites_event ≡ b → (rs : List ℕ) → rs ≡ told_now (cond b (after_first_report s es rs) (record { state = s; reports = rs; effects = es })).effects ++ (cond b (after_first_report s es rs) (record { state = s; reports = rs; effects = es })).reports
+    by_armed : (b : Bool) → is_event_armed s rites_event ≡ b → (rs : List ℕ) → rs ≡ reports_of_call (cond b (after_first_report s es rs) (record { state = s; reports = rs; effects = es })).effects ++ (cond b (after_first_report s es rs) (record { state = s; reports = rs; effects = es })).reports
     by_armed true arms [] = sym (ap (λ ns. take 1 ns ++ []) none)
     by_armed true arms (dead ∷ later) = sym (
-        ap (λ ns. take 1 ns ++ later) (reported-append es (map (as_rites dead) (deliver s rites_event (report_text dead)).effects) ∙ ap (λ ns. ns ++ reported_in (map (as_rites dead) (deliver s rites_event (report_text dead)).effects)) none)
+        ap (λ ns. take 1 ns ++ later) (reported-append es (map (as_rites dead) (deliver s rites_event (report_text dead)).effects) ∙ ap (λ ns. ns ++ deaths_reported (map (as_rites dead) (deliver s rites_event (report_text dead)).effects)) none)
         ∙ ap (λ ns. ns ++ later) (first-told dead (deliver s rites_event (report_text dead)).effects (armed-delivers s (report_text dead) arms)))
     by_armed false arms rs = sym (ap (λ ns. take 1 ns ++ rs) none)
 
-said-deaths : (s : State) (es : List Effect) (reports : List ℕ) → deaths (rites_said s es reports).effects ≡ deaths es
+said-deaths : (s : State) (es : List Effect) (reports : List ℕ) → deaths (after_rites s es reports).effects ≡ deaths es
 said-deaths s es reports = by_armed (is_event_armed s rites_event) reports
   where
     by_armed : (b : Bool) (rs : List ℕ) → deaths (cond b (after_first_report s es rs) (record { state = s; reports = rs; effects = es })).effects ≡ deaths es
@@ -158,7 +158,7 @@ said-deaths s es reports = by_armed (is_event_armed s rites_event) reports
         ∙ append-nil (deaths es)
     by_armed false rs = refl
 
-said-heard : (s : State) (es : List Effect) (reports : List ℕ) (f : ℕ) → has_agent (rites_said s es reports).state f ≡ has_agent s f
+said-heard : (s : State) (es : List Effect) (reports : List ℕ) (f : ℕ) → has_agent (after_rites s es reports).state f ≡ has_agent s f
 said-heard s es reports f = by_armed (is_event_armed s rites_event) reports
   where
     by_armed : (b : Bool) (rs : List ℕ) → has_agent (cond b (after_first_report s es rs) (record { state = s; reports = rs; effects = es })).state f ≡ has_agent s f
@@ -166,7 +166,7 @@ said-heard s es reports f = by_armed (is_event_armed s rites_event) reports
     by_armed true (dead ∷ later) = deliver-heard s (report_text dead) f
     by_armed false rs = refl
 
-said-nothing : (s : State) (es : List Effect) → (rites_said s es []).reports ≡ []
+said-nothing : (s : State) (es : List Effect) → (after_rites s es []).reports ≡ []
 said-nothing s es = by_armed (is_event_armed s rites_event)
   where
     by_armed : (b : Bool) → (cond b (after_first_report s es []) (record { state = s; reports = []; effects = es })).reports ≡ []
@@ -174,7 +174,7 @@ said-nothing s es = by_armed (is_event_armed s rites_event)
     by_armed false = refl
 
 -- the machine's own part of a call reports nothing
-called-silent : (s : State) (trapped : List Bool) (t : ℕ) (c : Call) (pending : Option ℕ) → reported_in (after_trap_and_call s trapped t c pending).effects ≡ []
+called-silent : (s : State) (trapped : List Bool) (t : ℕ) (c : Call) (pending : Option ℕ) → deaths_reported (after_trap_and_call s trapped t c pending).effects ≡ []
 called-silent s trapped t c pending = reported-none (after_trap_and_call s trapped t c pending).effects (called-counts is_rites aside s trapped t c pending ∙ none pending)
   where
     none : (o : Option ℕ) → raised_by is_rites aside t o ≡ 0
@@ -183,45 +183,45 @@ called-silent s trapped t c pending = reported-none (after_trap_and_call s trapp
 
 -- one move
 
-step-told : (es : EventState) (c : Call) → has_agent (event_step es c).after.state rites_event ≡ true → es.reports ++ dead_to_report es.state (deaths (event_step es c).effects) ≡ told_now (event_step es c).effects ++ (event_step es c).after.reports
+step-told : (es : EventState) (c : Call) → has_agent (event_step es c).after.state rites_event ≡ true → es.reports ++ dead_to_report es.state (deaths (event_step es c).effects) ≡ reports_of_call (event_step es c).effects ++ (event_step es c).after.reports
 unfolding event_step event_step_by
 step-told es c heard = by_choice (choice es.state) heard
   where
-    by_choice : (o : Option ℕ) → has_agent (event_step_if es c o).after.state rites_event ≡ true → es.reports ++ dead_to_report es.state (deaths (event_step_if es c o).effects) ≡ told_now (event_step_if es c o).effects ++ (event_step_if es c o).after.reports
+    by_choice : (o : Option ℕ) → has_agent (event_step_if es c o).after.state rites_event ≡ true → es.reports ++ dead_to_report es.state (deaths (event_step_if es c o).effects) ≡ reports_of_call (event_step_if es c o).effects ++ (event_step_if es c o).after.reports
     by_choice None heard = append-nil es.reports
     by_choice (Some t) heard = by_out (after_trap_and_call es.state es.trapped t c es.pending).state (after_trap_and_call es.state es.trapped t c es.pending).effects heard (called-silent es.state es.trapped t c es.pending)
       where
-        by_out : (s : State) (ef : List Effect) → has_agent (rites_said s ef (reports_after es.state s es.reports ef)).state rites_event ≡ true → reported_in ef ≡ []
-            → es.reports ++ dead_to_report es.state (deaths (rites_said s ef (reports_after es.state s es.reports ef)).effects) ≡ told_now (rites_said s ef (reports_after es.state s es.reports ef)).effects ++ (rites_said s ef (reports_after es.state s es.reports ef)).reports
+        by_out : (s : State) (ef : List Effect) → has_agent (after_rites s ef (reports_after es.state s es.reports ef)).state rites_event ≡ true → deaths_reported ef ≡ []
+            → es.reports ++ dead_to_report es.state (deaths (after_rites s ef (reports_after es.state s es.reports ef)).effects) ≡ reports_of_call (after_rites s ef (reports_after es.state s es.reports ef)).effects ++ (after_rites s ef (reports_after es.state s es.reports ef)).reports
         by_out s ef heard none =
             ap (λ ds. es.reports ++ dead_to_report es.state ds) (said-deaths s ef (reports_after es.state s es.reports ef))
             ∙ sym (ap (λ b. cond b (es.reports ++ dead_to_report es.state (deaths ef)) []) (sym (said-heard s ef (reports_after es.state s es.reports ef) rites_event) ∙ heard))
             ∙ said-told s ef (reports_after es.state s es.reports ef) none
 
-take-told : (es : EventState) (e : ℕ) (text : List ℕ) → es.reports ++ dead_to_report es.state (deaths (take_event es e text).effects) ≡ told_now (take_event es e text).effects ++ (take_event es e text).after.reports
+take-told : (es : EventState) (e : ℕ) (text : List ℕ) → es.reports ++ dead_to_report es.state (deaths (take_event es e text).effects) ≡ reports_of_call (take_event es e text).effects ++ (take_event es e text).after.reports
 unfolding take_event
 take-told es e text = by_trapped (is_trapped es.trapped e)
   where
     by_trapped : (b : Bool) → es.reports ++ dead_to_report es.state (deaths (cond b (after_take_trap es e) (after_pass_on es (deliver es.state e text))).effects)
-        ≡ told_now (cond b (after_take_trap es e) (after_pass_on es (deliver es.state e text))).effects ++ (cond b (after_take_trap es e) (after_pass_on es (deliver es.state e text))).after.reports
+        ≡ reports_of_call (cond b (after_take_trap es e) (after_pass_on es (deliver es.state e text))).effects ++ (cond b (after_take_trap es e) (after_pass_on es (deliver es.state e text))).after.reports
     by_trapped true = append-nil es.reports
     by_trapped false =
         ap (λ ds. es.reports ++ dead_to_report es.state ds) (mild_deathless (deliver es.state e text).effects (mild_deliver es.state e text).tells)
         ∙ append-nil es.reports
         ∙ sym (ap (λ ns. take 1 ns ++ es.reports) (reported-none (deliver es.state e text).effects (delivery-none is_rites aside es.state e text)))
 
-move-told : (es : EventState) (move : EventMove) → has_agent (event_move es move).after.state rites_event ≡ true → es.reports ++ mourned_now es move ≡ told_now (event_move es move).effects ++ (event_move es move).after.reports
+move-told : (es : EventState) (move : EventMove) → has_agent (event_move es move).after.state rites_event ≡ true → es.reports ++ reports_due_of_move es move ≡ reports_of_call (event_move es move).effects ++ (event_move es move).after.reports
 move-told es (ToCall c) heard = step-told es c heard
 move-told es (ToTake e text) heard = take-told es e text
 
 pub every_death_is_reported : EveryDeathIsReported
 every_death_is_reported [] es heard = append-nil es.reports
 every_death_is_reported (move ∷ moves) es heard =
-    sym (append_assoc es.reports (mourned_now es move) (mourned_in moves (event_move es move).after))
-    ∙ ap (λ ns. ns ++ mourned_in moves (event_move es move).after) (move-told es move heard.0)
-    ∙ append_assoc (told_now (event_move es move).effects) (event_move es move).after.reports (mourned_in moves (event_move es move).after)
-    ∙ ap (λ ns. told_now (event_move es move).effects ++ ns) (every_death_is_reported moves (event_move es move).after heard.1)
-    ∙ sym (append_assoc (told_now (event_move es move).effects) (told_in moves (event_move es move).after) (after_moves moves (event_move es move).after).reports)
+    sym (append_assoc es.reports (reports_due_of_move es move) (reports_due moves (event_move es move).after))
+    ∙ ap (λ ns. ns ++ reports_due moves (event_move es move).after) (move-told es move heard.0)
+    ∙ append_assoc (reports_of_call (event_move es move).effects) (event_move es move).after.reports (reports_due moves (event_move es move).after)
+    ∙ ap (λ ns. reports_of_call (event_move es move).effects ++ ns) (every_death_is_reported moves (event_move es move).after heard.1)
+    ∙ sym (append_assoc (reports_of_call (event_move es move).effects) (reports_of_moves moves (event_move es move).after) (after_moves moves (event_move es move).after).reports)
 
 pub nobody_hears_nothing : NobodyHearsNothing
 unfolding event_step event_step_by
@@ -230,28 +230,28 @@ nobody_hears_nothing es c t chosen silent =
     let whole = ap (event_step_if es c) chosen in
     let none = sym (said-heard out.state out.effects (reports_after es.state out.state es.reports out.effects) rites_event) ∙ sym (ap (λ (o : EventOutcome). has_agent o.after.state rites_event) whole) ∙ silent in
     ap (λ (o : EventOutcome). o.after.reports) whole
-    ∙ ap (λ b. (rites_said out.state out.effects (cond b (es.reports ++ dead_to_report es.state (deaths out.effects)) [])).reports) none
+    ∙ ap (λ b. (after_rites out.state out.effects (cond b (es.reports ++ dead_to_report es.state (deaths out.effects)) [])).reports) none
     ∙ said-nothing out.state out.effects
 
 -- what a report that is said comes to
-record Says (s : State) (es : List Effect) (told : Told) (dead : ℕ) : Type 0 where
+record Says (s : State) (es : List Effect) (told : Reporting) (dead : ℕ) : Type 0 where
   pub waits : is_event_armed s rites_event ≡ true
   pub after : told.state ≡ (deliver s rites_event (report_text dead)).after
   pub effects : told.effects ≡ es ++ map (as_rites dead) (deliver s rites_event (report_text dead)).effects
 
-said-says : (s : State) (es : List Effect) (reports : List ℕ) (dead : ℕ) → reported_in es ≡ [] → told_now (rites_said s es reports).effects ≡ dead ∷ [] → Says s es (rites_said s es reports) dead
+said-says : (s : State) (es : List Effect) (reports : List ℕ) (dead : ℕ) → deaths_reported es ≡ [] → reports_of_call (after_rites s es reports).effects ≡ dead ∷ [] → Says s es (after_rites s es reports) dead
 said-says s es reports dead none said = by_armed (is_event_armed s rites_event) refl reports said
   where
-    nothing : told_now es ≡ dead ∷ [] → ⊥
-    nothing h = let empty : told_now es ≡ [] = ap (take 1) none in cc
+    nothing : reports_of_call es ≡ dead ∷ [] → ⊥
+    nothing h = let empty : reports_of_call es ≡ [] = ap (take 1) none in cc
 
-    by_armed : (b : Bool) → is_event_armed s rites_event ≡ b → (rs : List ℕ) → told_now (cond b (after_first_report s es rs) (record { state = s; reports = rs; effects = es })).effects ≡ dead ∷ []
+    by_armed : (b : Bool) → is_event_armed s rites_event ≡ b → (rs : List ℕ) → reports_of_call (cond b (after_first_report s es rs) (record { state = s; reports = rs; effects = es })).effects ≡ dead ∷ []
         → Says s es (cond b (after_first_report s es rs) (record { state = s; reports = rs; effects = es })) dead
     by_armed true arms [] h = absurd (nothing h)
     by_armed true arms (d ∷ later) h =
         let sent = deliver s rites_event (report_text d) in
-        let first : told_now (es ++ map (as_rites d) sent.effects) ≡ d ∷ [] =
-        ap (take 1) (reported-append es (map (as_rites d) sent.effects) ∙ ap (λ ns. ns ++ reported_in (map (as_rites d) sent.effects)) none) ∙ first-told d sent.effects (armed-delivers s (report_text d) arms) in
+        let first : reports_of_call (es ++ map (as_rites d) sent.effects) ≡ d ∷ [] =
+        ap (take 1) (reported-append es (map (as_rites d) sent.effects) ∙ ap (λ ns. ns ++ deaths_reported (map (as_rites d) sent.effects)) none) ∙ first-told d sent.effects (armed-delivers s (report_text d) arms) in
         let same : d ≡ dead = cc in
         subst (λ n. Says s es (record { state = (deliver s rites_event (report_text d)).after; reports = later; effects = es ++ map (as_rites d) (deliver s rites_event (report_text d)).effects }) n) same (record { waits = arms; after = refl; effects = refl })
     by_armed false arms rs h = absurd (nothing h)
@@ -262,7 +262,7 @@ every_agent_is_told es c t dead chosen told =
     let out = after_trap_and_call es.state es.trapped t c es.pending in
     let whole = ap (event_step_if es c) chosen in
     let says = said-says out.state out.effects (reports_after es.state out.state es.reports out.effects) dead (called-silent es.state es.trapped t c es.pending)
-    (sym (ap (λ (o : EventOutcome). told_now o.effects) whole) ∙ told) in
+    (sym (ap (λ (o : EventOutcome). reports_of_call o.effects) whole) ∙ told) in
     record {
       before = out.effects;
       at = out.state;
@@ -343,7 +343,7 @@ delivered-unarmed s text arms =
     by_agents (row ∷ rows) found h = each-busy text rows (deliver_to text row s).after rites_event
         (ap (list_any (is_busy rites_event)) (post-agents (message text row) (record s { agents = with_holding row.number true s.agents })) ∙ first-busy rites_event s.agents row rows found)
 
-said-waits : (s : State) (es : List Effect) (reports : List ℕ) → is_event_armed (rites_said s es reports).state rites_event ≡ true → (rites_said s es reports).reports ≡ []
+said-waits : (s : State) (es : List Effect) (reports : List ℕ) → is_event_armed (after_rites s es reports).state rites_event ≡ true → (after_rites s es reports).reports ≡ []
 said-waits s es reports arms = by_armed (is_event_armed s rites_event) refl reports arms
   where
     by_armed : (b : Bool) → is_event_armed s rites_event ≡ b → (rs : List ℕ) → is_event_armed (cond b (after_first_report s es rs) (record { state = s; reports = rs; effects = es })).state rites_event ≡ true

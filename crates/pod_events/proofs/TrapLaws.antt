@@ -11,7 +11,7 @@ use Rattle.pod_events.proofs.Quiet.{IsAside, called-counts, delivery-none, raise
 use Rattle.pod_events.specs.Events.{EventOutcome, EventState, after_pass_on, after_take_trap, has_turn, is_takeable, is_trapped, may_trap, rites_event, take_event}
 use Rattle.pod_events.specs.Laws.{CanMove, TrapsAreRaisedNext, TrapsAreRaisedOnce, can_move, is_raised, pends, traps_in, traps_now}
 use Rattle.pod_events.specs.Moves.{EventMove, ToCall, ToTake, after_moves, effects_of, event_move}
-use Rattle.pod_events.specs.Rites.{after_first_report, as_rites, report_text, reports_after, rites_said}
+use Rattle.pod_events.specs.Rites.{after_first_report, as_rites, report_text, reports_after, after_rites}
 use Rattle.pod_events.specs.Step.{event_step, event_step_by, event_step_if, with_rites}
 use Rattle.pod_events.specs.Traps.{after_spring_by, after_trap_and_call, notice}
 use Rattle.std.proofs.Common.{Bool, List, None, Option, Some, [], ap, arith, cond, count_by, eqb, false, map, refl, true, ℕ, ◌&&◌, ◌++◌, ◌+◌, ◌∙◌, ◌∷◌, ◌≡◌}
@@ -49,7 +49,7 @@ module _ (e : ℕ) where
       same (effect.Trapped t f) = refl
       same (effect.Rites a d) = refl
 
-  said-none : (s : State) (es : List Effect) (reports : List ℕ) → count_by (is_raised e) (rites_said s es reports).effects ≡ count_by (is_raised e) es
+  said-none : (s : State) (es : List Effect) (reports : List ℕ) → count_by (is_raised e) (after_rites s es reports).effects ≡ count_by (is_raised e) es
   said-none s es reports = by_armed (is_event_armed s rites_event) reports
     where
       by_armed : (b : Bool) (rs : List ℕ) → count_by (is_raised e) (cond b (after_first_report s es rs) (record { state = s; reports = rs; effects = es })).effects ≡ count_by (is_raised e) es
@@ -110,7 +110,7 @@ pub traps_are_raised_once : TrapsAreRaisedOnce
 traps_are_raised_once e moves es may = all-raised e moves es may
 
 -- the call's own effects stay in front of the report
-said-front : (s : State) (x : Effect) (xs : List Effect) (reports : List ℕ) → (rest : List Effect) × ((rites_said s (x ∷ xs) reports).effects ≡ x ∷ rest)
+said-front : (s : State) (x : Effect) (xs : List Effect) (reports : List ℕ) → (rest : List Effect) × ((after_rites s (x ∷ xs) reports).effects ≡ x ∷ rest)
 said-front s x xs reports = by_armed (is_event_armed s rites_event) reports
   where
     by_armed : (b : Bool) (rs : List ℕ) → (rest : List Effect) × ((cond b (after_first_report s (x ∷ xs) rs) (record { state = s; reports = rs; effects = x ∷ xs })).effects ≡ x ∷ rest)

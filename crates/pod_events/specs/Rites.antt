@@ -39,9 +39,9 @@ abbrev pub report_text : ℕ → List ℕ
 report_text dead = codes "t" ++ decimal dead
 
 -- the agent that this effect delivers to
-abbrev pub delivered_to : Effect → Option ℕ
-delivered_to (effect.Delivered agent event) = Some agent
-delivered_to _ = None
+abbrev pub agent_reached : Effect → Option ℕ
+agent_reached (effect.Delivered agent event) = Some agent
+agent_reached _ = None
 
 -- a letter to an agent is a report
 abbrev pub as_rites : ℕ → Effect → Effect
@@ -56,13 +56,13 @@ as_rites dead (effect.Trapped t e) = effect.Trapped t e
 as_rites dead (effect.Rites agent other) = effect.Rites agent other
 
 -- the machine after a report, what is to be reported still, and the effects so far
-pub record Told : Type 0 where
+pub record Reporting : Type 0 where
   pub state : State
   pub reports : List ℕ
   pub effects : List Effect
 
 -- the death is reported to each agent of the event
-abbrev pub after_report : State → List Effect → ℕ → List ℕ → Told
+abbrev pub after_report : State → List Effect → ℕ → List ℕ → Reporting
 after_report s es dead later = let sent = deliver s rites_event (report_text dead) in record {
   state = sent.after;
   reports = later;
@@ -70,10 +70,10 @@ after_report s es dead later = let sent = deliver s rites_event (report_text dea
 }
 
 -- the first of these is reported, if there is one
-abbrev pub after_first_report : State → List Effect → List ℕ → Told
+abbrev pub after_first_report : State → List Effect → List ℕ → Reporting
 after_first_report s es [] = record { state = s; reports = []; effects = es }
 after_first_report s es (dead ∷ later) = after_report s es dead later
 
 -- the same, if the agents of the event wait for it
-abbrev pub rites_said : State → List Effect → List ℕ → Told
-rites_said s es reports = if is_event_armed s rites_event then after_first_report s es reports else record { state = s; reports = reports; effects = es }
+abbrev pub after_rites : State → List Effect → List ℕ → Reporting
+after_rites s es reports = if is_event_armed s rites_event then after_first_report s es reports else record { state = s; reports = reports; effects = es }

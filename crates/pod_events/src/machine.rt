@@ -8,7 +8,7 @@ ghost use Rattle.lwp_types.specs.Lawful.{Lawful};
 ghost use Rattle.lwp_types.specs.State.{State, is_id};
 ghost use Rattle.lwp_types.specs.Step.{step};
 ghost use Rattle.pod_events.specs.Events.{has_agent};
-ghost use Rattle.pod_events.specs.Machine.{asks_memory, called_by, current_of, ending_of};
+ghost use Rattle.pod_events.specs.Machine.{asks_memory, call_effects, current_of, ending_of};
 ghost use Rattle.pod_events.specs.Rites.{flags_of};
 ghost use Rattle.pod_events.specs.Traps.{trap_of};
 
@@ -66,7 +66,7 @@ pub trait Driven<'s>: Machine {
         ensures after { OnOk result
             (Self.state self.new ≡ (step (Self.state self.old) call.now).after) }
         ensures effects { OnOk result
-            (called_by (current_of (Self.state self.old)) call.now ++ effects.new
+            (call_effects (current_of (Self.state self.old)) call.now ++ effects.new
             ≡ (step (Self.state self.old) call.now).effects) }
         ensures most { length effects.new ≤ most_of_a_step }
         ensures err { OnErr result (Self.state self.new ≡ Self.state self.old) }

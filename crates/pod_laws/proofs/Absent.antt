@@ -22,7 +22,7 @@ use Rattle.lwp_types.specs.declared.call.Answer.{Answer}
 use Rattle.lwp_types.specs.declared.call.ExitCall.{ExitCall}
 use Rattle.lwp_types.specs.declared.call.ExitCall.TheVariants as exit
 use Rattle.pod_laws.specs.Forgotten.{CondSendRefusesTheAbsent, DeliveriesAreQuiet, ExitsRefuseTheAbsent, IsQuiet, TheAbsentAreRefused, asks_for, exit_asks_for, is_died}
-use Rattle.pod_laws.specs.Once.{exited_passes}
+use Rattle.pod_laws.specs.Once.{is_exit_passing}
 use Rattle.std.proofs.Common.{Bool, List, Some, [], ap, arith, cond, eqb, false, not, refl, true, ℕ, ◌++◌, ◌+◌, ◌∙◌, ◌∷◌, ◌≡◌}
 use Rattle.std.proofs.lemmas.Bool.{eqb-true, or_parts}
 
@@ -88,7 +88,7 @@ quiet_then : (s : State) (first : Outcome) (more : State → Outcome) → IsQuie
 unfolding and_then
 quiet_then s first more one two = record {
   marks = λ p. two.marks p ∙ one.marks p;
-  exits = λ p. omega (arith, one.exits p, two.exits p, count-append (exited_passes p) first.effects (more first.after).effects);
+  exits = λ p. omega (arith, one.exits p, two.exits p, count-append (is_exit_passing p) first.effects (more first.after).effects);
   deaths = λ n. omega (arith, one.deaths n, two.deaths n, count-append (is_died n) first.effects (more first.after).effects);
 }
 

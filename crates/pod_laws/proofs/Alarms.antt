@@ -1,8 +1,8 @@
 -- A tick answers whoever's timer is due, each once.
 use Rattle.lwp_types.specs.CountLaws.{count-cons, one}
-use Rattle.lwp_types.specs.State.{State, ThreadRow, and_then, block_set, for_each, is_number, passes, times_in, with_block}
+use Rattle.lwp_types.specs.State.{State, ThreadRow, and_then, row_with_block, for_each, is_number, passes, times_in, with_block}
 use Rattle.lwp_types.specs.Time.{after_tick, due_threads, is_asleep_in, is_due, is_sleeping, time_out}
-use Rattle.lwp_types.specs.Unblock.{after_unblock, timed_out, zero_answer}
+use Rattle.lwp_types.specs.Unblock.{after_unblock, timeout_answer, zero_answer}
 use Rattle.lwp_types.specs.declared.rows.Block.{Block}
 use Rattle.lwp_types.specs.declared.rows.TimerRow.{TimerRow}
 use Rattle.lwp_types.specs.declared.call.Effect.TheVariants as effect
@@ -20,7 +20,7 @@ row_kept t u away b [] = refl
 row_kept t u away b (row ∷ rows) = by_test (is_number u row) refl (row_kept t u away b rows)
   where
     by_test : (c : Bool) → is_number u row ≡ c → find (is_number u) (with_block t b rows) ≡ find (is_number u) rows
-        → cond c (Some (block_set t b row)) (find (is_number u) (with_block t b rows)) ≡ cond c (Some row) (find (is_number u) rows)
+        → cond c (Some (row_with_block t b row)) (find (is_number u) (with_block t b rows)) ≡ cond c (Some row) (find (is_number u) rows)
     by_test true e rest = rw (ne_eqb row.number t (λ same. away (sym (eqb-true row.number u e) ∙ same))) refl
     by_test false e rest = rest
 
@@ -58,7 +58,7 @@ module _ (start : State) where
   all_told (t ∷ ts) s was listed =
       let next = midway_first t ts s was listed in
       let same = was.waits t (omega (arith, ap (λ ks. times_in ks t) listed, count-cons (λ k. eqb k t) t ts, ap one (eq-eqb t t refl))) in
-      ap (λ b. effect.Answered t (cond b zero_answer timed_out) ∷ (for_each time_out ts (time_out t s).after).effects) same
+      ap (λ b. effect.Answered t (cond b zero_answer timeout_answer) ∷ (for_each time_out ts (time_out t s).after).effects) same
       ∙ ap (λ es. due_answer start t ∷ es) (all_told ts (time_out t s).after next.0 next.1)
 
 pub ticks_answer_the_due : TicksAnswerTheDue

@@ -4,7 +4,7 @@ use Rattle.lwp_types.specs.Case.{Case, Check, refusal_case, silent_case, unless,
 use Rattle.lwp_types.specs.Choice.{choice}
 use Rattle.lwp_types.specs.CountLaws.{count-append, count-cons, count-push, one}
 use Rattle.lwp_types.specs.Death.{answer_joiners, bury, death, destroy, end_agents, refuse_receivers, refuse_sender, refuse_senders, release_all, return_from, run_all_exits, withdraw}
-use Rattle.lwp_types.specs.Exits.{catch_case, leave_frame, notified_by}
+use Rattle.lwp_types.specs.Exits.{catch_case, leave_frame, excnotify_case_by}
 use Rattle.lwp_types.specs.Lawful.{Lawful, NineParts}
 use Rattle.lwp_types.specs.Messages.{next_letter, receive_by, without_letter}
 use Rattle.lwp_types.specs.Monitors.{after_request, enter_case, is_owned_by_other}
@@ -86,7 +86,7 @@ module _ (n : ℕ) where
   match_deathless s on_match None none = deathless_nil n
   match_deathless s on_match (Some f) none = none f
 
-  notified_deathless : (s : State) (t p : ℕ) (f : Found) (h : Func) → Deathless n (notified_by s t p f h).others
+  notified_deathless : (s : State) (t p : ℕ) (f : Found) (h : Func) → Deathless n (excnotify_case_by s t p f h).others
   notified_deathless s t p f func.Give = deathless_nil n
   notified_deathless s t p f func.Sum = deathless_nil n
   notified_deathless s t p f func.Nothing = deathless_unwind n t (caught_marks f (marks_in s t)) (later_frames f.depth (marks_in s t)) s
@@ -158,7 +158,7 @@ module _ (n : ℕ) where
   case_died s was t x known call.Conditions = absent (deathless_nil n)
   case_died s was t x known call.Return = return_died s was t x known
   case_died s was t x known (call.Raise q) = absent (unless_deathless n s _ _ (match_deathless s (catch_case s t q) (handler_of s t q) (λ f. deathless_unwind n t (caught_marks f (marks_in s t)) (later_frames f.depth (marks_in s t)) s)))
-  case_died s was t x known (call.ExcNotify q) = absent (unless_deathless n s _ _ (match_deathless s (λ f. notified_by s t q f f.func) (handler_of s t q) (λ f. notified_deathless s t q f f.func)))
+  case_died s was t x known (call.ExcNotify q) = absent (unless_deathless n s _ _ (match_deathless s (λ f. excnotify_case_by s t q f f.func) (handler_of s t q) (λ f. notified_deathless s t q f f.func)))
   case_died s was t x known (call.Bound q) = absent (unless_deathless n s _ _ (match_deathless s _ (handler_of s t q) (λ f. deathless_nil n)))
   case_died s was t x known call.Agents = absent (deathless_nil n)
   case_died s was t x known (call.Trap e) = absent (deathless_nil n)

@@ -2,7 +2,7 @@
 use Rattle.lwp_types.specs.Case.{Case}
 use Rattle.lwp_types.specs.CountLaws.{count-append, count-push, one}
 use Rattle.lwp_types.specs.Counts.{has_its_marks}
-use Rattle.lwp_types.specs.Exits.{catch_case, exc_notify, leave_frame, notified_by, raise}
+use Rattle.lwp_types.specs.Exits.{catch_case, exc_notify, leave_frame, excnotify_case_by, raise}
 use Rattle.lwp_types.specs.Lawful.{NineParts, is_same_option}
 use Rattle.lwp_types.specs.Exceptions.{bound, call_procedure, caught_marks, first_frames, frames, handle, handler_in, is_frame, last_mark, later_frames, on_exit, searching, unhandle, unique_pattern, with_match, without_last}
 use Rattle.lwp_types.specs.State.{State, ThreadRow, is_number, passes, thread_of, with_marks_of}
@@ -97,7 +97,7 @@ module _ (s : State) (was : NineParts s None) (t : ℕ) (x : ThreadRow) (known :
   pub exc_notify_keeps : (p : ℕ) → NineParts (exc_notify s t p).after None
   exc_notify_keeps p = searched_keeps p _ (λ f e. by_func f e f.func)
     where
-      by_func : (f : Found) → handler_in p x.marks ≡ Some f → (h : Func) → NineParts (notified_by s t p f h).after None
+      by_func : (f : Found) → handler_in p x.marks ≡ Some f → (h : Func) → NineParts (excnotify_case_by s t p f h).after None
       by_func f e func.Give = was
       by_func f e func.Sum = was
       by_func f e func.Nothing = caught_keeps p f e

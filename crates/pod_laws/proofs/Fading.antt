@@ -1,14 +1,14 @@
 -- A number is given once: whoever is gone stays gone, whatever is called or delivered.
-use Rattle.lwp_types.specs.Agents.{after_agent_birth, agent_gone, deliver, deliver_to, end_agent, event_agents, message, new_agent}
+use Rattle.lwp_types.specs.Agents.{after_agent_birth, after_agent_end, deliver, deliver_to, end_agent, event_agents, message, new_agent}
 use Rattle.lwp_types.specs.Case.{Case, Check, refusal_case, silent_case, unless, value_case, with_zero}
 use Rattle.lwp_types.specs.Choice.{choice}
 use Rattle.lwp_types.specs.Death.{answer_joiners, bury, death, destroy_case, end_agents, refuse_receivers, refuse_sender, refuse_senders, release_all, run_all_exits, withdraw}
-use Rattle.lwp_types.specs.Exits.{catch_case, exit_case, leave_frame, notified_by, run_exit, unwind}
-use Rattle.lwp_types.specs.Messages.{after_reply, as_answer, as_received, holding_set, next_letter, post, receive_by, receivers_of, takes_from, with_holding, without_letter}
+use Rattle.lwp_types.specs.Exits.{catch_case, exit_case, leave_frame, excnotify_case_by, run_exit, unwind}
+use Rattle.lwp_types.specs.Messages.{after_reply, as_answer, as_received, agent_with_holding, next_letter, post, receive_by, receivers_of, takes_from, with_holding, without_letter}
 use Rattle.lwp_types.specs.Monitors.{after_exit, after_request, depth_in, enter_case, is_owned_by_other, with_depth}
 use Rattle.lwp_types.specs.Exceptions.{caught_marks, exits_of, first_frames, frames, handler_of, later_frames, with_match}
 use Rattle.lwp_types.specs.MonitorRelease.{grant, last_lock, next_owner, release, without_lock}
-use Rattle.lwp_types.specs.State.{Outcome, State, ThreadRow, agent_of, and_then, block_set, for_each, in_order, is_agent, is_agent_row, is_number, is_thread, marks_in, marks_set, passes, priority_set, still, suspension_set, thread_of, with_block, with_marks, with_marks_of, with_suspension}
+use Rattle.lwp_types.specs.State.{Outcome, State, ThreadRow, agent_of, and_then, row_with_block, for_each, in_order, is_agent, is_agent_row, is_number, is_thread, marks_in, row_with_marks, passes, row_with_priority, still, row_with_suspension, thread_of, with_block, with_marks, with_marks_of, with_suspension}
 use Rattle.lwp_types.specs.Step.{case_of, step, step_by, step_if}
 use Rattle.lwp_types.specs.Threads.{after_create, new_thread}
 use Rattle.lwp_types.specs.Time.{after_tick, due_threads, tick, time_out}
@@ -73,13 +73,13 @@ module _ (n : ℕ) where
       (λ gone. ap (λ rs. is_some (agent_of rs n)) agents ∙ gone)
 
   fades_block : (s after : State) (t : ℕ) (b : Block) → after.births ≡ s.births → after.threads ≡ with_block t b s.threads → after.agents ≡ s.agents → Fades n s after
-  fades_block s after t b same rows agents = rows_fade s after (block_set t b) (λ row. refl) same rows agents
+  fades_block s after t b same rows agents = rows_fade s after (row_with_block t b) (λ row. refl) same rows agents
 
   fades_suspension : (s after : State) (t : ℕ) (b : Bool) → after.births ≡ s.births → after.threads ≡ with_suspension t b s.threads → after.agents ≡ s.agents → Fades n s after
-  fades_suspension s after t b same rows agents = rows_fade s after (suspension_set t b) (λ row. refl) same rows agents
+  fades_suspension s after t b same rows agents = rows_fade s after (row_with_suspension t b) (λ row. refl) same rows agents
 
   fades_marks : (s after : State) (t : ℕ) (ms : List Mark) → after.births ≡ s.births → after.threads ≡ with_marks t ms s.threads → after.agents ≡ s.agents → Fades n s after
-  fades_marks s after t ms same rows agents = rows_fade s after (marks_set t ms) (λ row. refl) same rows agents
+  fades_marks s after t ms same rows agents = rows_fade s after (row_with_marks t ms) (λ row. refl) same rows agents
 
   -- whoever isn't in a list isn't in a part of it
   filter_none : {X : Type 0} (p keep : X → Bool) (xs : List X) → is_some (find p xs) ≡ false → is_some (find p (filter keep xs)) ≡ false
@@ -137,7 +137,7 @@ module _ (n : ℕ) where
   fades_holding : (s after : State) (a : ℕ) (b : Bool) → after.births ≡ s.births → after.threads ≡ s.threads → after.agents ≡ with_holding a b s.agents → Fades n s after
   fades_holding s after a b births threads agents = fades_of s after births
       (λ gone. ap (λ rs. is_some (find (is_number n) rs)) threads ∙ gone)
-      (λ gone. ap (λ rs. is_some (find (is_agent_row n) rs)) agents ∙ ap is_some (find_map (is_agent_row n) (is_agent_row n) (holding_set a b) (λ row. refl) s.agents) ∙ is_some_map (holding_set a b) (find (is_agent_row n) s.agents) ∙ gone)
+      (λ gone. ap (λ rs. is_some (find (is_agent_row n) rs)) agents ∙ ap is_some (find_map (is_agent_row n) (is_agent_row n) (agent_with_holding a b) (λ row. refl) s.agents) ∙ is_some_map (agent_with_holding a b) (find (is_agent_row n) s.agents) ∙ gone)
 
   fades_replied : (u : ℕ) (text : List ℕ) (s : State) → Fades n s (after_reply u text s).after
   fades_replied u text s = by_agent (is_agent s u)
@@ -165,14 +165,14 @@ module _ (n : ℕ) where
   fades_each change one [] s = fades_still s
   fades_each change one (x ∷ xs) s = fades_then s (change x s).after _ (one x s) (fades_each change one xs (change x s).after)
 
-  fades_gone : (a : ℕ) (s : State) → Fades n s (agent_gone a s)
-  fades_gone a s = fades_of s (agent_gone a s) refl (λ gone. gone) (λ gone. filter_none (is_agent_row n) (λ row. not (is_agent_row a row)) s.agents gone)
+  fades_gone : (a : ℕ) (s : State) → Fades n s (after_agent_end a s)
+  fades_gone a s = fades_of s (after_agent_end a s) refl (λ gone. gone) (λ gone. filter_none (is_agent_row n) (λ row. not (is_agent_row a row)) s.agents gone)
 
   fades_end_agent : (a : ℕ) (s : State) → Fades n s (end_agent a s).after
   unfolding and_then
   fades_end_agent a s =
       let woke = for_each (unblock nonexist) (receivers_of s a) s in
-      fades_then s woke.after (agent_gone a woke.after) (fades_each (unblock nonexist) (fades_unblock nonexist) (receivers_of s a) s) (fades_gone a woke.after)
+      fades_then s woke.after (after_agent_end a woke.after) (fades_each (unblock nonexist) (fades_unblock nonexist) (receivers_of s a) s) (fades_gone a woke.after)
 
   unless_fades : (s : State) (checks : List Check) (otherwise : Case) → Fades n s otherwise.after → Fades n s (unless s checks otherwise).after
   unless_fades s checks otherwise fine = unless_keeps (λ after. Fades n s after) s checks otherwise (fades_still s) (λ passed. fine)
@@ -251,7 +251,7 @@ module _ (n : ℕ) where
   fades_caught : (s : State) (t p : ℕ) (f : Found) → Fades n s (catch_case s t p f).after
   fades_caught s t p f = fades_unwind t (caught_marks f (marks_in s t)) (later_frames f.depth (marks_in s t)) s
 
-  fades_notified : (s : State) (t p : ℕ) (f : Found) (h : Func) → Fades n s (notified_by s t p f h).after
+  fades_notified : (s : State) (t p : ℕ) (f : Found) (h : Func) → Fades n s (excnotify_case_by s t p f h).after
   fades_notified s t p f func.Give = fades_still s
   fades_notified s t p f func.Sum = fades_still s
   fades_notified s t p f func.Nothing = fades_caught s t p f
@@ -265,7 +265,7 @@ module _ (n : ℕ) where
   case_fades s t (call.Create number prio flags) = unless_fades s _ _ (fades_created s prio flags)
   case_fades s t (call.Destroy u) = unless_fades s _ _ (fades_destroyed s t u)
   case_fades s t (call.Ping u) = unless_fades s _ _ (fades_still s)
-  case_fades s t (call.SetPri u q) = unless_fades s _ _ (rows_fade s _ (priority_set u q) (λ row. refl) refl refl refl)
+  case_fades s t (call.SetPri u q) = unless_fades s _ _ (rows_fade s _ (row_with_priority u q) (λ row. refl) refl refl refl)
   case_fades s t (call.Suspend u) = unless_fades s _ _ (fades_suspension s _ u true refl refl refl)
   case_fades s t (call.Resume u) = unless_fades s _ _ (fades_suspension s _ u false refl refl refl)
   case_fades s t (call.Join u) = unless_fades s _ _ (fades_block s _ t (block.Joining u) refl refl refl)
@@ -295,7 +295,7 @@ module _ (n : ℕ) where
   case_fades s t call.Unhandle = unless_fades s _ _ (fades_marks s _ t _ refl refl refl)
   case_fades s t (call.OnExit e) = unless_fades s _ _ (fades_marks s _ t _ refl refl refl)
   case_fades s t (call.Raise q) = unless_fades s _ _ (fades_match s (catch_case s t q) (handler_of s t q) (λ f. fades_caught s t q f))
-  case_fades s t (call.ExcNotify q) = unless_fades s _ _ (fades_match s (λ f. notified_by s t q f f.func) (handler_of s t q) (λ f. fades_notified s t q f f.func))
+  case_fades s t (call.ExcNotify q) = unless_fades s _ _ (fades_match s (λ f. excnotify_case_by s t q f f.func) (handler_of s t q) (λ f. fades_notified s t q f f.func))
   case_fades s t (call.Bound q) = unless_fades s _ _ (fades_match s _ (handler_of s t q) (λ f. fades_still s))
   case_fades s t (call.Agent e) = unless_fades s _ _ (fades_agent_born s t e)
   case_fades s t call.Agents = fades_still s

@@ -4,8 +4,8 @@ use Rattle.lwp_types.specs.Choice.{is_eligible}
 use Rattle.lwp_types.specs.CountLaws.{count_found_by, one}
 use Rattle.lwp_types.specs.Counts.{has_its_block, is_sending}
 use Rattle.lwp_types.specs.Lawful.{NineParts}
-use Rattle.lwp_types.specs.Messages.{as_answer, as_received, is_from, letters_of, with_holding, is_letter_of, is_to, marked_received, post, receive, receive_by, received_from, after_reply, reply, send, takes_from, next_letter, without_letter}
-use Rattle.lwp_types.specs.State.{State, ThreadRow, agent_of, block_set, still, is_agent, is_id, is_not_blocked, is_number, is_thread, passes, thread_of}
+use Rattle.lwp_types.specs.Messages.{as_answer, as_received, is_from, letters_of, with_holding, is_letter_of, is_to, with_reception, post, receive, receive_by, received_letter, after_reply, reply, send, takes_from, next_letter, without_letter}
+use Rattle.lwp_types.specs.State.{State, ThreadRow, agent_of, row_with_block, still, is_agent, is_id, is_not_blocked, is_number, is_thread, passes, thread_of}
 use Rattle.lwp_types.specs.Threads.{join, sleep}
 use Rattle.lwp_types.specs.Unblock.{after_block, after_block_for, after_unblock, unblock}
 use Rattle.lwp_types.specs.declared.call.Mode.{Mode}
@@ -73,13 +73,13 @@ post_keeps s d letter taken unread = by_test (passes (λ row. takes_from letter.
     by_test false e = unread e
 
 -- a letter is received
-pub NineParts-received : (s : State) (d : Option ℕ) → NineParts s d → (u : ℕ) → NineParts (record s { letters = marked_received u s.letters }) d
+pub NineParts-received : (s : State) (d : Option ℕ) → NineParts s d → (u : ℕ) → NineParts (record s { letters = with_reception u s.letters }) d
 NineParts-received s d was u = record {
   numbers = was.numbers;
   levels = was.levels;
   order = was.order;
   blocks = (
-    all_weaker (has_its_block s) (has_its_block (record s { letters = marked_received u s.letters })) (λ row h. block_weaker s (record s { letters = marked_received u s.letters }) row.number row.block (λ n e. e) (λ n e. e) (λ from e none. none_received u s.letters row.number from none) h) s.threads was.blocks.0,
+    all_weaker (has_its_block s) (has_its_block (record s { letters = with_reception u s.letters })) (λ row h. block_weaker s (record s { letters = with_reception u s.letters }) row.number row.block (λ n e. e) (λ n e. e) (λ from e none. none_received u s.letters row.number from none) h) s.threads was.blocks.0,
     λ n. senders_received u s.letters n ∙ was.blocks.1 n,
     was.blocks.2,
     was.blocks.3,
@@ -127,9 +127,9 @@ module _ (s : State) (was : NineParts s None) (t : ℕ) (x : ThreadRow) (known :
         where
           -- whoever waits for a letter isn't the sender
           still_there : (v : ℕ) (row : ThreadRow) (from : Option ℕ) → thread_of s v ≡ Some row → row.block ≡ block.Receiving from → thread_of (after_block s t block.Sending) v ≡ Some row
-          still_there v row from found e = find_rowed (block_set t block.Sending) (λ row. refl) s.threads v ∙ ap (option_map (block_set t block.Sending)) found ∙ ap Some (unchanged (is_number t row) refl)
+          still_there v row from found e = find_rowed (row_with_block t block.Sending) (λ row. refl) s.threads v ∙ ap (option_map (row_with_block t block.Sending)) found ∙ ap Some (unchanged (is_number t row) refl)
             where
-              unchanged : (b : Bool) → is_number t row ≡ b → block_set t block.Sending row ≡ row
+              unchanged : (b : Bool) → is_number t row ≡ b → row_with_block t block.Sending row ≡ row
               unchanged false away = rw away refl
               unchanged true here =
                   let same : Some row ≡ Some x = sym found ∙ ap (thread_of s) (sym (number_known s.threads v row found) ∙ eqb-true row.number t here) ∙ known in
@@ -166,10 +166,10 @@ sending_is (block.Waiting c) e = absurd (omega arith)
 sending_is block.Sleeping e = absurd (omega arith)
 
 -- whoever can be replied to has sent a letter
-pub reply_sends : (s : State) (t u : ℕ) → is_none (received_from s.letters t u) ≡ false → 1 ≤ letters_of s.letters u
-reply_sends s t u some = by_found (received_from s.letters t u) refl some
+pub reply_sends : (s : State) (t u : ℕ) → is_none (received_letter s.letters t u) ≡ false → 1 ≤ letters_of s.letters u
+reply_sends s t u some = by_found (received_letter s.letters t u) refl some
   where
-    by_found : (o : Option Letter) → received_from s.letters t u ≡ o → is_none o ≡ false → 1 ≤ letters_of s.letters u
+    by_found : (o : Option Letter) → received_letter s.letters t u ≡ o → is_none o ≡ false → 1 ≤ letters_of s.letters u
     by_found None e h = absurd (cc)
     by_found (Some letter) e h =
         let inner = sym (find-filter (λ letter. letter.received && is_letter_of u letter) (is_to t) s.letters) ∙ e in

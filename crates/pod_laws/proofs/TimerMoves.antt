@@ -1,11 +1,11 @@
 -- No timer comes but by the call that asks for it.
-use Rattle.lwp_types.specs.Agents.{agent_gone, deliver, deliver_to, end_agent, event_agents, message}
+use Rattle.lwp_types.specs.Agents.{after_agent_end, deliver, deliver_to, end_agent, event_agents, message}
 use Rattle.lwp_types.specs.Case.{Case, Check, refusal_case, silent_case, unless, value_case, with_zero}
 use Rattle.lwp_types.specs.Choice.{choice, is_eligible, is_eligible_in}
 use Rattle.lwp_types.specs.CountLaws.{count-append, count-filter-le, count_found_and, one}
 use Rattle.lwp_types.specs.Counts.{is_timed, timers_of}
 use Rattle.lwp_types.specs.Death.{answer_joiners, bury, death, destroy_case, end_agents, refuse_receivers, refuse_sender, refuse_senders, release_all, run_all_exits, withdraw}
-use Rattle.lwp_types.specs.Exits.{catch_case, exit_case, leave_frame, notified_by, run_exit, unwind}
+use Rattle.lwp_types.specs.Exits.{catch_case, exit_case, leave_frame, excnotify_case_by, run_exit, unwind}
 use Rattle.lwp_types.specs.Lawful.{Lawful}
 use Rattle.lwp_types.specs.Messages.{after_reply, as_answer, as_received, next_letter, post, receive_by, receivers_of, takes_from, with_holding, without_letter}
 use Rattle.lwp_types.specs.Monitors.{after_exit, after_request, depth_in, enter_case, is_owned_by_other, with_depth}
@@ -34,7 +34,7 @@ use Rattle.lwp_types.specs.declared.rows.WaitRow.{WaitRow}
 use Rattle.pod_laws.proofs.Checks.{unless_keeps}
 use Rattle.pod_laws.proofs.Rowed.{once_threads}
 use Rattle.pod_laws.proofs.Timers.{dropped_own, free_untimed}
-use Rattle.pod_laws.specs.Timers.{NoTimerComesUnasked, WaitsEndTimers, ticks_in, ticks_of, timers_asked, timers_by}
+use Rattle.pod_laws.specs.Timers.{NoTimerComesUnasked, WaitsEndTimers, ticks_in, ticks_of, timers_of_call, timers_by}
 use Rattle.std.proofs.lemmas.Bool.{and_parts}
 use Rattle.std.proofs.Common.{ap, arith, eqb, refl}
 use Rattle.std.specs.List.{count_by, fold}
@@ -132,7 +132,7 @@ module _ (p : TimerRow → Bool) where
   unfolding and_then
   quiet_end_agent a s =
       let woke = for_each (unblock nonexist) (receivers_of s a) s in
-      quiet_then s.timers woke.after (agent_gone a woke.after) (quiet_each (unblock nonexist) (quiet_unblock nonexist) (receivers_of s a) s) (quiet_same woke.after _ refl)
+      quiet_then s.timers woke.after (after_agent_end a woke.after) (quiet_each (unblock nonexist) (quiet_unblock nonexist) (receivers_of s a) s) (quiet_same woke.after _ refl)
 
   unless_quiet : (s : State) (timers : List TimerRow) (checks : List Check) (otherwise : Case) → count_by p s.timers ≤ count_by p timers → Among p timers otherwise.after → Among p timers (unless s checks otherwise).after
   unless_quiet s timers checks otherwise more fine = unless_keeps (λ after. Among p timers after) s checks otherwise (record { fewer = more }) (λ passed. fine)
@@ -186,7 +186,7 @@ module _ (p : TimerRow → Bool) where
   quiet_caught : (s : State) (t q : ℕ) (f : Found) → Among p s.timers (catch_case s t q f).after
   quiet_caught s t q f = quiet_unwind t (caught_marks f (marks_in s t)) (later_frames f.depth (marks_in s t)) s
 
-  quiet_notified : (s : State) (t q : ℕ) (f : Found) (h : Func) → Among p s.timers (notified_by s t q f h).after
+  quiet_notified : (s : State) (t q : ℕ) (f : Found) (h : Func) → Among p s.timers (excnotify_case_by s t q f h).after
   quiet_notified s t q f func.Give = quiet_still s
   quiet_notified s t q f func.Sum = quiet_still s
   quiet_notified s t q f func.Nothing = quiet_caught s t q f
@@ -242,18 +242,18 @@ module _ (p : TimerRow → Bool) where
   case_quiet s t (call.CvWaiters c) = none_asked s _ (unless_quiet s s.timers _ _ (omega arith) (quiet_still s))
   case_quiet s t call.Return = none_asked s _ (cond_quiet s.timers (nat_le 2 (frames (marks_in s t))) (leave_frame s t) (silent_case (death t s)) (quiet_unwind t (first_frames (frames (marks_in s t) - 1) (marks_in s t)) (later_frames (frames (marks_in s t) - 1) (marks_in s t)) s) (quiet_death t s))
   case_quiet s t (call.Raise q) = none_asked s _ (unless_quiet s s.timers _ _ (omega arith) (quiet_match s (catch_case s t q) (handler_of s t q) (λ f. quiet_caught s t q f)))
-  case_quiet s t (call.ExcNotify q) = none_asked s _ (unless_quiet s s.timers _ _ (omega arith) (quiet_match s (λ f. notified_by s t q f f.func) (handler_of s t q) (λ f. quiet_notified s t q f f.func)))
+  case_quiet s t (call.ExcNotify q) = none_asked s _ (unless_quiet s s.timers _ _ (omega arith) (quiet_match s (λ f. excnotify_case_by s t q f f.func) (handler_of s t q) (λ f. quiet_notified s t q f f.func)))
   case_quiet s t (call.Bound q) = none_asked s _ (unless_quiet s s.timers _ _ (omega arith) (quiet_match s _ (handler_of s t q) (λ f. quiet_still s)))
   case_quiet s t call.Agents = none_asked s _ (quiet_still s)
   case_quiet s t (call.Trap e) = none_asked s _ (quiet_still s)
   case_quiet s t (call.Say text) = none_asked s _ (quiet_still s)
   case_quiet s t _ = none_asked s _ (unless_quiet s s.timers _ _ (omega arith) (quiet_same s _ refl))
 
-  step_among : (s : State) (c : Call) → Among p (s.timers ++ timers_asked s (choice s) c) (step s c).after
+  step_among : (s : State) (c : Call) → Among p (s.timers ++ timers_of_call s (choice s) c) (step s c).after
   unfolding step step_by
   step_among s c = by_choice (choice s)
     where
-      by_choice : (o : Option ℕ) → Among p (s.timers ++ timers_asked s o c) (step_if s c o).after
+      by_choice : (o : Option ℕ) → Among p (s.timers ++ timers_of_call s o c) (step_if s c o).after
       by_choice None = none_asked s _ (quiet_still s)
       by_choice (Some t) = quiet_then (s.timers ++ timers_by s t (ticks_of c)) (case_of s t c).after _ (case_quiet s t c) (quiet_same (case_of s t c).after _ refl)
 

@@ -7,7 +7,7 @@ use Rattle.lwp_types.specs.Lawful.{Lawful}
 use Rattle.lwp_types.specs.State.{State, times_in}
 use Rattle.lwp_types.specs.Step.{step}
 use Rattle.lwp_types.specs.Time.{after_tick, due_threads, is_asleep_in, tick}
-use Rattle.lwp_types.specs.Unblock.{after_unblock, timed_out, timer_for, zero_answer}
+use Rattle.lwp_types.specs.Unblock.{after_unblock, timeout_answer, timer_for, zero_answer}
 use Rattle.lwp_types.specs.declared.call.Call.{Call}
 use Rattle.lwp_types.specs.declared.call.Effect.{Effect}
 use Rattle.lwp_types.specs.declared.call.Mode.{Mode}
@@ -22,7 +22,7 @@ use Rattle.lwp_types.specs.declared.call.Mode.TheVariants as mode
 
 -- what a thread is told whose timer falls due
 abbrev pub due_answer : State → ℕ → Effect
-due_answer s t = effect.Answered t (if is_asleep_in s t then zero_answer else timed_out)
+due_answer s t = effect.Answered t (if is_asleep_in s t then zero_answer else timeout_answer)
 
 -- it tells that the clock has ticked, and then each thread whose timer is due, once, in the order in which the timers arrived
 pub record TickAnswers (s : State) : Type 0 where
@@ -64,13 +64,13 @@ timers_by s t None = []
 timers_by s t (Some ticks) = timer_for s t ticks ∷ []
 
 -- the timer that the call asks for, of the thread whose turn it is
-abbrev pub timers_asked : State → Option ℕ → Call → List TimerRow
-timers_asked s None c = []
-timers_asked s (Some t) c = timers_by s t (ticks_of c)
+abbrev pub timers_of_call : State → Option ℕ → Call → List TimerRow
+timers_of_call s None c = []
+timers_of_call s (Some t) c = timers_by s t (ticks_of c)
 
 -- after a step there is no timer but those before it and the one that its call asks for; a delivery sets none
 pub record TimersAreAsked (s : State) (p : TimerRow → Bool) : Type 0 where
-  pub called : (c : Call) → count_by p (step s c).after.timers ≤ count_by p (s.timers ++ timers_asked s (choice s) c)
+  pub called : (c : Call) → count_by p (step s c).after.timers ≤ count_by p (s.timers ++ timers_of_call s (choice s) c)
   pub delivered : (e : ℕ) (text : List ℕ) → count_by p (deliver s e text).after.timers ≤ count_by p s.timers
 
 abbrev pub NoTimerComesUnasked : Type 0

@@ -5,7 +5,7 @@ use Rattle.std.specs.Prelude.{is_none, nat_lt, not, ◌&&◌}
 use Rattle.pod_events.specs.Events.{EventState, after_pass_on, after_take_trap, has_turn, is_takeable, is_trapped, may_trap, rites_event, take_event}
 use Rattle.std.specs.List.{list_all}
 use Rattle.lwp_types.specs.Agents.{deliver, deliver_to, event_agents, is_armed, is_event_armed, is_for, message}
-use Rattle.lwp_types.specs.Messages.{as_answer, as_received, holding_set, post, takes_from, with_holding}
+use Rattle.lwp_types.specs.Messages.{as_answer, as_received, agent_with_holding, post, takes_from, with_holding}
 use Rattle.lwp_types.specs.State.{Outcome, State, and_then, for_each, is_agent_row, is_empty, passes, still, thread_of}
 use Rattle.lwp_types.specs.Time.{after_tick, due_threads, may_tick, tick, time_out}
 use Rattle.lwp_types.specs.Unblock.{unblock}
@@ -18,7 +18,7 @@ empty-same a e [] = refl
 empty-same a e (x ∷ rows) = by (is_for e x) (empty-same a e rows)
   where
     by : (c : Bool) → is_empty (event_agents (with_holding a true rows) e) ≡ is_empty (event_agents rows e)
-        → is_empty (cond c (holding_set a true x ∷ event_agents (with_holding a true rows) e) (event_agents (with_holding a true rows) e)) ≡ is_empty (cond c (x ∷ event_agents rows e) (event_agents rows e))
+        → is_empty (cond c (agent_with_holding a true x ∷ event_agents (with_holding a true rows) e) (event_agents (with_holding a true rows) e)) ≡ is_empty (cond c (x ∷ event_agents rows e) (event_agents rows e))
     by true same = refl
     by false same = same
 
@@ -31,10 +31,10 @@ idle-fewer a e (x ∷ rows) all = by (is_for e x) (idle-fewer a e rows) all
     holds false held h = h
 
     by : (c : Bool) → (list_all (λ (row : AgentRow). not row.holding) (event_agents (with_holding a true rows) e) ≡ true → list_all (λ (row : AgentRow). not row.holding) (event_agents rows e) ≡ true)
-        → list_all (λ (row : AgentRow). not row.holding) (cond c (holding_set a true x ∷ event_agents (with_holding a true rows) e) (event_agents (with_holding a true rows) e)) ≡ true
+        → list_all (λ (row : AgentRow). not row.holding) (cond c (agent_with_holding a true x ∷ event_agents (with_holding a true rows) e) (event_agents (with_holding a true rows) e)) ≡ true
         → list_all (λ (row : AgentRow). not row.holding) (cond c (x ∷ event_agents rows e) (event_agents rows e)) ≡ true
     by true rest all =
-        let parts = and_parts (not (holding_set a true x).holding) (list_all (λ (row : AgentRow). not row.holding) (event_agents (with_holding a true rows) e)) all in
+        let parts = and_parts (not (agent_with_holding a true x).holding) (list_all (λ (row : AgentRow). not row.holding) (event_agents (with_holding a true rows) e)) all in
         and_from _ _ (holds (is_agent_row a x) x.holding parts.0) (rest parts.1)
     by false rest all = rest all
 

@@ -3,7 +3,7 @@ use Rattle.std.proofs.Common.{ℕ, zero, suc, List, [], ◌∷◌, Bool, true, f
 use Rattle.std.specs.Prelude.{Option, IsTrue, MatchBool, reverse, if◌then◌else◌, ◌==◌}
 use Rattle.lwp_types.specs.Choice.{choice}
 use Rattle.lwp_types.specs.Lawful.{Lawful}
-use Rattle.lwp_types.specs.Names.{polled_as}
+use Rattle.lwp_types.specs.Names.{names_for_poll}
 use Rattle.lwp_types.specs.Poll.{Polled}
 use Rattle.lwp_types.specs.State.{opening}
 use Rattle.pod_events.proofs.LawfulMoves.{step-lawful, take-lawful}
@@ -12,7 +12,7 @@ use Rattle.pod_laws.proofs.EveryStep.{Lawful-deliver, Lawful-step}
 use Rattle.pod_laws.proofs.Opening.{Lawful-opening}
 use Rattle.pod_runner.specs.Due.{AllDue, IsDefined, TakeDue, is_call_due, is_take_due}
 use Rattle.pod_runner.specs.Laws.{SessionsAreLawful}
-use Rattle.pod_runner.specs.Play.{calls_made, play, session_of_takes, with_take}
+use Rattle.pod_runner.specs.Play.{session_of_calls, play, session_of_takes, with_take}
 use Rattle.pod_runner.specs.Session.{Live, Session, Setting, call_move, call_step, move, move_by, move_row, row_of, take_move, take_step}
 use Rattle.pod_runner.specs.declared.session.Row.{Row}
 use Rattle.pod_runner.specs.declared.session.Took.{Took}
@@ -27,7 +27,7 @@ module _ {B : Type 0} (keeps : MachinesKeepLaw) (setting : Setting B) where
 
   row-lawful : (live : Live B) (t : ℕ) (o : Option (Row B)) → Lawful live.pod.state None → Lawful (move_row setting.next setting.bodies live t o).live.pod.state None
   row-lawful live t None h = h
-  row-lawful live t (Some row) h = called-lawful live t (setting.next row.body (polled_as t live.names) row.answer) h
+  row-lawful live t (Some row) h = called-lawful live t (setting.next row.body (names_for_poll t live.names) row.answer) h
 
   by-lawful : (live : Live B) (o : Option ℕ) → Lawful live.pod.state None → Lawful (move_by setting.next setting.bodies live o).live.pod.state None
   by-lawful live None h = h
@@ -41,9 +41,9 @@ module _ {B : Type 0} (keeps : MachinesKeepLaw) (setting : Setting B) where
   unfolding take_move
   took-lawful took s may h = take-lawful keeps s.live.pod took.event took.line.text may h
 
-  calls-lawful : Lawful (opening setting.params) None → (n : ℕ) → IsLawful (calls_made setting n)
+  calls-lawful : Lawful (opening setting.params) None → (n : ℕ) → IsLawful (session_of_calls setting n)
   calls-lawful start zero = start
-  calls-lawful start (suc n) = call-lawful (calls_made setting n) (calls-lawful start n)
+  calls-lawful start (suc n) = call-lawful (session_of_calls setting n) (calls-lawful start n)
 
   with-lawful : (took : Took) (before : ℕ → Session B) (Before : ℕ → Type 0) → ((n : ℕ) → Before n → IsLawful (before n)) → (n : ℕ) → TakeDue setting took before Before n → IsLawful (with_take setting took before n)
   with-lawful took before Before was zero h = took-lawful took (before 0) h.2 (was 0 h.1)

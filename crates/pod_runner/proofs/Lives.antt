@@ -6,13 +6,13 @@ use Rattle.std.specs.Slice.Scan.{HoldsNowhere}
 use Rattle.std.proofs.lemmas.Bool.{cases_lt, eq-eqb, eqb-true, ne_eqb}
 use Rattle.std.proofs.lemmas.List.{get_or-map, get_or-set_other, get_or-set_same, length-map, length-set, map-append}
 use Rattle.std.proofs.lemmas.List.Elements.{All-append, filter-append}
-use Rattle.event_gate.specs.Inlet.{AllTold, EachInlet, EventsRise, HasEvent, InletFindsNothing, InletTakes, Intake, IsInletTaken, IsInletTold, drawn_from}
+use Rattle.event_gate.specs.Inlet.{AllTold, EachInlet, EventsRise, HasEvent, InletFindsNothing, InletTakes, Intake, IsInletTaken, IsInletTold, after_draws}
 use Rattle.pod_events.specs.Events.{EventState, has_turn, is_takeable, take_event}
 use Rattle.lwp_types.specs.Poll.{Next}
 use Rattle.lwp_types.specs.declared.call.Line.{Line}
 use Rattle.pod_runner.specs.Due.{IsDefined}
 use Rattle.pod_runner.specs.Inlets.{AreBelow, IsCalm, IsSeen, Serves, ServesAt, Takes}
-use Rattle.pod_runner.specs.Live.{Answers, Draws, Extends, Gives, Halts, IsQuiet, IsWanted, LivesOn, NoneComes, is_take_of, lines_taken, looks, may_lose}
+use Rattle.pod_runner.specs.Live.{Answers, Draws, Extends, Gives, Halts, IsQuiet, IsWanted, LivesOn, NoneComes, is_take_of, lines_of_takes, looks, may_lose}
 use Rattle.pod_runner.specs.Over.{can_take, events, halt_if, is_wanted, over}
 use Rattle.pod_runner.specs.Phase.{phase_by, phase_of}
 use Rattle.pod_runner.specs.Play.{play}
@@ -38,13 +38,13 @@ use Rattle.pod_runner.proofs.Rounds.{but_last-extended, goes-same, ran-answer, r
 
 -- ---- takes
 
-lines-append : (e : ℕ) (a b : List Took) → lines_taken e (a ++ b) ≡ lines_taken e a ++ lines_taken e b
+lines-append : (e : ℕ) (a b : List Took) → lines_of_takes e (a ++ b) ≡ lines_of_takes e a ++ lines_of_takes e b
 lines-append e a b = ap (map (λ (took : Took). took.line)) (filter-append (is_take_of e) a b) ∙ map-append (λ (took : Took). took.line) (filter (is_take_of e) a) (filter (is_take_of e) b)
 
-lines-other : (took : Took) (e : ℕ) → took.event ≢ e → lines_taken e (took ∷ []) ≡ []
+lines-other : (took : Took) (e : ℕ) → took.event ≢ e → lines_of_takes e (took ∷ []) ≡ []
 lines-other took e h = rw (ne_eqb took.event e h) refl
 
-lines-one : (took : Took) (e : ℕ) → took.event ≡ e → lines_taken e (took ∷ []) ≡ took.line ∷ []
+lines-one : (took : Took) (e : ℕ) → took.event ≡ e → lines_of_takes e (took ∷ []) ≡ took.line ∷ []
 lines-one took e h = rw (eq-eqb took.event e h) refl
 
 all-none : (Q : Took → Type 0) → All Q []
@@ -66,13 +66,13 @@ gives-none t = let same : t.finds ≡ t.finds + 0 = omega arith in
 
 gives-then : (a b : List Took) (t u v : Intake) → Gives a t u → Gives b u v → Gives (a ++ b) t v
 gives-then a b t u v p q =
-    let given : (t.taken ++ lines_taken t.event a) ++ lines_taken t.event b ≡ t.taken ++ lines_taken t.event (a ++ b)
-    = append_assoc t.taken (lines_taken t.event a) (lines_taken t.event b) ∙ ap (λ xs. t.taken ++ xs) (sym (lines-append t.event a b)) in
+    let given : (t.taken ++ lines_of_takes t.event a) ++ lines_of_takes t.event b ≡ t.taken ++ lines_of_takes t.event (a ++ b)
+    = append_assoc t.taken (lines_of_takes t.event a) (lines_of_takes t.event b) ∙ ap (λ xs. t.taken ++ xs) (sym (lines-append t.event a b)) in
     let nothing : (t.finds + p.nothing) + q.nothing ≡ t.finds + (p.nothing + q.nothing) = omega arith in
     record {
       nothing = p.nothing + q.nothing;
       after = q.after
-          ∙ ap (λ (w : Intake). drawn_from w (lines_taken w.event b) q.nothing) p.after
+          ∙ ap (λ (w : Intake). after_draws w (lines_of_takes w.event b) q.nothing) p.after
           ∙ (λ i. record t { taken = given i; finds = nothing i });
     }
 
@@ -81,13 +81,13 @@ gives-found t u is = record { nothing = 1; after = is ∙ (λ i. record t { take
 
 gives-other : (took : Took) (t : Intake) → took.event ≢ t.event → Gives (took ∷ []) t t
 gives-other took t h =
-    let given : t.taken ≡ t.taken ++ lines_taken t.event (took ∷ []) = sym (append-nil t.taken) ∙ ap (λ xs. t.taken ++ xs) (sym (lines-other took t.event h)) in
+    let given : t.taken ≡ t.taken ++ lines_of_takes t.event (took ∷ []) = sym (append-nil t.taken) ∙ ap (λ xs. t.taken ++ xs) (sym (lines-other took t.event h)) in
     let same : t.finds ≡ t.finds + 0 = omega arith in
     record { nothing = 0; after = (λ i. record t { taken = given i; finds = same i }) }
 
 gives-line : (took : Took) (t u : Intake) → took.event ≡ t.event → u ≡ record t { taken = t.taken ++ took.line ∷ [] } → Gives (took ∷ []) t u
 gives-line took t u h is =
-    let given : t.taken ++ took.line ∷ [] ≡ t.taken ++ lines_taken t.event (took ∷ []) = ap (λ xs. t.taken ++ xs) (sym (lines-one took t.event h)) in
+    let given : t.taken ++ took.line ∷ [] ≡ t.taken ++ lines_of_takes t.event (took ∷ []) = ap (λ xs. t.taken ++ xs) (sym (lines-one took t.event h)) in
     let same : t.finds ≡ t.finds + 0 = omega arith in
     record { nothing = 0; after = is ∙ (λ i. record t { taken = given i; finds = same i }) }
 

@@ -9,9 +9,9 @@ use Rattle.std.proofs.lemmas.List.Elements.{filter-append}
 use Rattle.event_gate.specs.Inlet.{Intake}
 use Rattle.pod_events.specs.Events.{is_takeable}
 use Rattle.lwp_types.specs.Poll.{Next}
-use Rattle.pod_runner.specs.Due.{AllDue, IsDefined, TakeDue, armed_calls, counted_to, is_armed_at, is_call_due, is_take_due, takes_by}
+use Rattle.pod_runner.specs.Due.{AllDue, IsDefined, TakeDue, armed_calls, numbers_to, is_armed_at, is_call_due, is_take_due, takes_by}
 use Rattle.pod_runner.specs.Inlets.{Serves, Takes}
-use Rattle.pod_runner.specs.Live.{Draws, Gives, LivesOn, LooksAt, LooksAtAll, armed_count, lines_taken, looks}
+use Rattle.pod_runner.specs.Live.{Draws, Gives, LivesOn, LooksAt, LooksAtAll, armed_count, lines_of_takes, looks}
 use Rattle.pod_runner.specs.Play.{play, session_of_takes, with_take}
 use Rattle.pod_runner.specs.Run.{GoesOn, Played, after_step, phase_now, session_of, setting_of, with_call}
 use Rattle.whole_streams.specs.Streams.{Stream}
@@ -79,29 +79,29 @@ late-all m (took ∷ takes) h =
 
 -- what is taken later changes nothing in earlier calls
 armed-same : {B : Type 0} (setting : Setting B) (takes later : List Took) (e m : ℕ) → All (λ took. m ≤ took.turn) later
-    → filter (is_armed_at setting (takes ++ later) e) (counted_to m) ≡ filter (is_armed_at setting takes e) (counted_to m)
+    → filter (is_armed_at setting (takes ++ later) e) (numbers_to m) ≡ filter (is_armed_at setting takes e) (numbers_to m)
 armed-same setting takes later e zero h = refl
 armed-same setting takes later e (suc m) h =
     let late : All (λ took. m < took.turn) later = λ k d low. let l = h k d low in omega (arith, l) in
     let same : takes_by m (takes ++ later) ≡ takes_by m takes
     = filter-append (λ (t : Took). nat_le t.turn m) takes later ∙ ap (λ xs. takes_by m takes ++ xs) (late-all m later late) ∙ append-nil (takes_by m takes) in
     let now : is_armed_at setting (takes ++ later) e m ≡ is_armed_at setting takes e m = ap (λ xs. is_takeable (play setting xs m).live.pod e) same in
-    filter-append (is_armed_at setting (takes ++ later) e) (counted_to m) (m ∷ [])
+    filter-append (is_armed_at setting (takes ++ later) e) (numbers_to m) (m ∷ [])
     ∙ (λ i. armed-same setting takes later e m (λ k d low. let l = h k d low in omega (arith, l)) i ++ cond (now i) (m ∷ []) [])
-    ∙ sym (filter-append (is_armed_at setting takes e) (counted_to m) (m ∷ []))
+    ∙ sym (filter-append (is_armed_at setting takes e) (numbers_to m) (m ∷ []))
 
 -- a call more counts where the event waits before it
 armed-call : {B : Type 0} (setting : Setting B) (takes : List Took) (e n : ℕ) → IsDefined setting takes n
     → armed_calls setting takes (n + 1) e ≡ armed_calls setting takes n e ++ cond (is_takeable (play setting takes n).live.pod e) (n ∷ []) []
 armed-call setting takes e n h =
     ap (λ m. armed_calls setting takes m e) (add-one n)
-    ∙ filter-append (is_armed_at setting takes e) (counted_to n) (n ∷ [])
+    ∙ filter-append (is_armed_at setting takes e) (numbers_to n) (n ∷ [])
     ∙ ap (λ xs. armed_calls setting takes n e ++ cond (is_takeable (play setting xs n).live.pod e) (n ∷ []) []) (by-now setting takes n h)
 
 gives-looks : (takes : List Took) (t u : Intake) → Gives takes t u → looks t ≤ looks u
 gives-looks takes t u h =
-    let e : looks u ≡ length (t.taken ++ lines_taken t.event takes) + (t.finds + h.nothing) = ap looks h.after in
-    omega (arith, e, length-append t.taken (lines_taken t.event takes))
+    let e : looks u ≡ length (t.taken ++ lines_of_takes t.event takes) + (t.finds + h.nothing) = ap looks h.after in
+    omega (arith, e, length-append t.taken (lines_of_takes t.event takes))
 
 module _ {B P : Type 0} (next : Next B) (bodies : P → List B) (procs : P → List (List ℕ)) where
   -- no call was made

@@ -5,7 +5,7 @@ use Rattle.std.proofs.lemmas.Option.{slice_get_past, slice_get_cases}
 use Rattle.pod_events.specs.Machine.{current_of}
 use Rattle.pod_events.specs.Events.{EventState, take_event}
 use Rattle.lwp_types.specs.Choice.{choice}
-use Rattle.lwp_types.specs.Names.{Names, polled_as}
+use Rattle.lwp_types.specs.Names.{Names, names_for_poll}
 use Rattle.lwp_types.specs.Poll.{Next}
 use Rattle.lwp_types.specs.State.{State}
 use Rattle.pod_events.specs.Step.{event_step}
@@ -35,27 +35,27 @@ unfolding move
 move_no_row next bodies live t h past = rw (h, row_of-place t live.rows, slice_get_past live.rows (place_of t live.rows) past) refl
 
 move_some : {B : Type 0} (next : Next B) (bodies : List B) (live : Live B) (t : ℕ) (row : Row B) → choice live.pod.state ≡ Some t → row_of t live.rows ≡ Some row
-    → move next bodies live ≡ call_move bodies live t (next row.body (polled_as t live.names) row.answer)
+    → move next bodies live ≡ call_move bodies live t (next row.body (names_for_poll t live.names) row.answer)
 unfolding move
 move_some next bodies live t row h there = rw (h, there) refl
 
 -- a call that was carried out
 pub moved : {B : Type 0} (next : Next B) (bodies : List B) (live : Live B) (t : ℕ) (row : Row B) (call : Call) (after : EventState) (effects : List Effect) (mid rows : List (Row B)) (names : Names)
     → choice live.pod.state ≡ Some t → slice_get live.rows (place_of t live.rows) ≡ Some row
-    → Polls next row (polled_as t live.names) call (place_of t live.rows) live.rows mid names
+    → Polls next row (names_for_poll t live.names) call (place_of t live.rows) live.rows mid names
     → after ≡ (event_step live.pod call).after → effects ≡ (event_step live.pod call).effects
     → rows ≡ after_settle bodies (proc_of call) effects mid
     → move next bodies live ≡ record { live = record { pod = after; rows = rows; names = names }; effects = effects }
 unfolding call_move
 moved next bodies live t row call after effects mid rows names h there polls a e r =
     let found : row_of t live.rows ≡ Some row = row_of-place t live.rows ∙ there in
-    let reply = next row.body (polled_as t live.names) row.answer in
+    let reply = next row.body (names_for_poll t live.names) row.answer in
     let left : mid ≡ after_poll t reply.1 live.rows = polls.leaves ∙ sym (with_row-place t _ live.rows row there) in
     move_some next bodies live t row h found ∙ rw (r, e, a, left, polls.names, polls.gives) refl
 
 -- the same, by the place of the row, with its lines
 pub moves_at : {B : Type 0} (next : Next B) (bodies : List B) (procs : List (List ℕ)) (live : Live B) (t i : ℕ) (known : Names) (call : Call) (after : EventState) (effects : List Effect) (mid rows : List (Row B)) (names : Names) (out : List ℕ) (born : Option ℕ)
-    → choice live.pod.state ≡ Some t → i ≡ place_of t live.rows → i < length live.rows → known ≡ polled_as t live.names
+    → choice live.pod.state ≡ Some t → i ≡ place_of t live.rows → i < length live.rows → known ≡ names_for_poll t live.names
     → ((row : Row B) → slice_get live.rows i ≡ Some row → Polls next row known call i live.rows mid names)
     → after ≡ (event_step live.pod call).after → effects ≡ (event_step live.pod call).effects
     → born ≡ proc_of call → rows ≡ after_settle bodies born effects mid → out ≡ step_lines procs None effects
@@ -63,7 +63,7 @@ pub moves_at : {B : Type 0} (next : Next B) (bodies : List B) (procs : List (Lis
 moves_at next bodies procs live t i known call after effects mid rows names out born h at there k polls a e b r o =
     let found = slice_get_present live.rows i there in
     let is : slice_get live.rows (place_of t live.rows) ≡ Some found.0 = ap (slice_get live.rows) (sym at) ∙ found.1 in
-    let p : Polls next found.0 (polled_as t live.names) call (place_of t live.rows) live.rows mid names = rw (← at, ← k) (polls found.0 found.1) in
+    let p : Polls next found.0 (names_for_poll t live.names) call (place_of t live.rows) live.rows mid names = rw (← at, ← k) (polls found.0 found.1) in
     let m = moved next bodies live t found.0 call after effects mid rows names h is p a e (r ∙ ap (λ born. after_settle bodies born effects mid) b) in
     record { live = rw m refl; effects = rw m refl; lines = o ∙ rw m refl }
 

@@ -1,12 +1,12 @@
 -- A session moves its pod by calls and takes alone.
 use Rattle.pod_runner.specs.Due.{AllDue, IsDefined, TakeDue, is_call_due, is_take_due}
-use Rattle.pod_runner.specs.Play.{calls_made, play, session_of_takes, with_take}
+use Rattle.pod_runner.specs.Play.{session_of_calls, play, session_of_takes, with_take}
 use Rattle.pod_runner.specs.Session.{Live, Made, Session, Setting, call_move, call_step, move, move_by, move_row, row_of, take_move, take_step, with_move}
 use Rattle.pod_runner.specs.SessionMoves.{IsMoved, SessionsAreMoves, effects_in}
 use Rattle.pod_runner.specs.declared.session.Row.{Row}
 use Rattle.pod_runner.specs.declared.session.Took.{Took}
 use Rattle.lwp_types.specs.Choice.{choice}
-use Rattle.lwp_types.specs.Names.{polled_as}
+use Rattle.lwp_types.specs.Names.{names_for_poll}
 use Rattle.lwp_types.specs.Poll.{Polled}
 use Rattle.lwp_types.specs.State.{opening}
 use Rattle.pod_events.specs.Events.{EventState, quiet_events}
@@ -65,7 +65,7 @@ module _ (start : EventState) where
 
     row-moves : (live : Live B) (steps : List Made) (t : ℕ) (o : Option (Row B)) → IsMoved start live.pod steps → InIt (with_move (record { live = live; steps = steps }) None (move_row setting.next setting.bodies live t o))
     row-moves live steps t None was = idle live.pod steps None was
-    row-moves live steps t (Some row) was = called-moves live steps t (setting.next row.body (polled_as t live.names) row.answer) was
+    row-moves live steps t (Some row) was = called-moves live steps t (setting.next row.body (names_for_poll t live.names) row.answer) was
 
     by-moves : (live : Live B) (steps : List Made) (o : Option ℕ) → IsMoved start live.pod steps → InIt (with_move (record { live = live; steps = steps }) None (move_by setting.next setting.bodies live o))
     by-moves live steps None was = idle live.pod steps None was
@@ -80,9 +80,9 @@ module _ (start : EventState) where
     take-moves took s may was = moves s.live.pod s.steps (Some took) (ToTake took.event took.line.text) was may
 
     module _ (opens : IsMoved start (quiet_events (opening setting.params)) []) where
-      calls-move : (n : ℕ) → InIt (calls_made setting n)
+      calls-move : (n : ℕ) → InIt (session_of_calls setting n)
       calls-move zero = opens
-      calls-move (suc n) = call-moves (calls_made setting n) (calls-move n)
+      calls-move (suc n) = call-moves (session_of_calls setting n) (calls-move n)
 
       with-moves : (took : Took) (before : ℕ → Session B) (Before : ℕ → Type 0) → ((n : ℕ) → Before n → InIt (before n)) → (n : ℕ) → TakeDue setting took before Before n → InIt (with_take setting took before n)
       with-moves took before Before was zero h = take-moves took (before 0) h.2 (was 0 h.1)

@@ -5,7 +5,7 @@ use Rattle.pod_runner.specs.Polls.{place_of}
 use Rattle.std.proofs.lemmas.Option.{slice_get_past}
 use Rattle.std.proofs.lemmas.Bool.{eq-eqb}
 use Rattle.std.proofs.lemmas.List.{take-append-drop, take-set, drop-set, drop_more, get_or_default}
-use Rattle.pod_runner.specs.Session.{row_of, row_opened, with_row}
+use Rattle.pod_runner.specs.Session.{row_of, rows_of_new, with_row}
 use Rattle.pod_runner.specs.declared.session.Row.{Row}
 
 -- a list with one place written
@@ -38,7 +38,7 @@ with_row-written t change rows i seen row within here there h so_far =
     ap (λ r. set rows i (change r)) there ∙ with_row-at t change rows i row within named so_far
 
 -- nobody's row is opened where there is no such procedure
-pub row_opened_past : {B : Type 0} (rows : List (Row B)) (bodies : List B) (t number : ℕ) → length bodies ≤ number → rows ≡ rows ++ row_opened t (slice_get bodies number)
+pub row_opened_past : {B : Type 0} (rows : List (Row B)) (bodies : List B) (t number : ℕ) → length bodies ≤ number → rows ≡ rows ++ rows_of_new t (slice_get bodies number)
 row_opened_past rows bodies t number past = rw slice_get_past (sym (append-nil rows))
 
 -- a thread's row is the one at its place

@@ -11,8 +11,8 @@ use Rattle.std.specs.List.{fold}
 use Rattle.std.specs.Prelude.{Bool, List, None, Option, Some, [], false, if◌then◌else◌, pos, ℕ, ◌==◌, ◌∷◌}
 
 -- a call that isn't answered yet
-abbrev pub made_now : ℕ → Call → Made
-made_now t c = record { tid = t; call = c; zero = false; thread = None }
+abbrev pub unanswered_call : ℕ → Call → Made
+unanswered_call t c = record { tid = t; call = c; zero = false; thread = None }
 
 -- the answer of a call that has nothing else to tell
 abbrev pub is_zero : Answer → Bool
@@ -20,39 +20,39 @@ is_zero (answer.Value (pos n)) = n == 0
 is_zero _ = false
 
 -- whoever made the call is answered so
-abbrev pub made_answered : Made → Answer → Made
-made_answered made a = record made { zero = is_zero a; thread = thread_in a }
+abbrev pub call_with_answer : Made → Answer → Made
+call_with_answer made a = record made { zero = is_zero a; thread = thread_in a }
 
 -- the same, if it was this thread that was answered
-abbrev pub made_if : Made → ℕ → Answer → Made
-made_if made t a = if t == made.tid then made_answered made a else made
+abbrev pub call_if_answered : Made → ℕ → Answer → Made
+call_if_answered made t a = if t == made.tid then call_with_answer made a else made
 
 -- what an effect tells where no call was told yet: a call, or nothing
-abbrev pub begun_by : Effect → Option Made
-begun_by (effect.Called t c) = Some (made_now t c)
-begun_by _ = None
+abbrev pub call_begun : Effect → Option Made
+call_begun (effect.Called t c) = Some (unanswered_call t c)
+call_begun _ = None
 
 -- what an effect tells of a call behind it: how it is answered, or nothing
-abbrev pub answered_by : Made → Effect → Made
-answered_by made (effect.Answered t a) = made_if made t a
-answered_by made _ = made
+abbrev pub call_after_effect : Made → Effect → Made
+call_after_effect made (effect.Answered t a) = call_if_answered made t a
+call_after_effect made _ = made
 
 -- what is known of the call, one effect more
-abbrev pub made_by : Option Made → Effect → Option Made
-made_by None e = begun_by e
-made_by (Some made) e = Some (answered_by made e)
+abbrev pub call_by_effect : Option Made → Effect → Option Made
+call_by_effect None e = call_begun e
+call_by_effect (Some made) e = Some (call_after_effect made e)
 
 -- the call of a step with these effects; none, if no call is told among them
-abbrev pub made_in : List Effect → Option Made
-made_in effects = fold made_by None effects
+abbrev pub call_of_effects : List Effect → Option Made
+call_of_effects effects = fold call_by_effect None effects
 
 -- the effects of the last step; none before the first
 abbrev pub last_effects : List Sessions.Made → List Effect
 last_effects steps = fold (λ effects step. step.effects) [] steps
 
 -- the call of the last step, if it has one
-abbrev pub last_made : List Sessions.Made → Option Made
-last_made steps = made_in (last_effects steps)
+abbrev pub last_call : List Sessions.Made → Option Made
+last_call steps = call_of_effects (last_effects steps)
 
 -- effects, with the call itself before them, if this thread made it and that was left out
 abbrev pub with_call_by : Option ℕ → Call → List Effect → List Effect

@@ -1,6 +1,6 @@
 -- Which sessions there are: at each call somebody's turn had come, at each take the event could be delivered.
 use Rattle.pod_events.specs.Events.{has_turn, is_takeable}
-use Rattle.pod_runner.specs.Play.{calls_made, play, session_of_takes, with_take}
+use Rattle.pod_runner.specs.Play.{session_of_calls, play, session_of_takes, with_take}
 use Rattle.pod_runner.specs.Session.{Session, Setting}
 use Rattle.pod_runner.specs.declared.session.Took.{Took}
 use Rattle.std.specs.List.{filter}
@@ -17,7 +17,7 @@ is_take_due took s = is_takeable s.live.pod took.event
 -- so many calls could be made one after the other, with no take
 abbrev pub CallsDue : {B : Type 0} → Setting B → ℕ → Type 0
 CallsDue setting zero = Unit {0}
-CallsDue setting (suc n) = CallsDue setting n × IsTrue (is_call_due (calls_made setting n))
+CallsDue setting (suc n) = CallsDue setting n × IsTrue (is_call_due (session_of_calls setting n))
 
 -- the same, if this was the last take, where `before` tells the sessions without it and `Before` which of them there are
 abbrev pub TakeDue : {B : Type 0} → Setting B → Took → (ℕ → Session B) → (ℕ → Type 0) → ℕ → Type 0
@@ -44,10 +44,10 @@ abbrev pub is_armed_at : {B : Type 0} → Setting B → List Took → ℕ → �
 is_armed_at setting takes e k = is_takeable (play setting (takes_by k takes) k).live.pod e
 
 -- the numbers from 0 up to n
-abbrev pub counted_to : ℕ → List ℕ
-counted_to zero = []
-counted_to (suc n) = counted_to n ++ n ∷ []
+abbrev pub numbers_to : ℕ → List ℕ
+numbers_to zero = []
+numbers_to (suc n) = numbers_to n ++ n ∷ []
 
 -- before which of its calls a line of the event could be taken
 abbrev pub armed_calls : {B : Type 0} → Setting B → List Took → ℕ → ℕ → List ℕ
-armed_calls setting takes n e = filter (is_armed_at setting takes e) (counted_to n)
+armed_calls setting takes n e = filter (is_armed_at setting takes e) (numbers_to n)

@@ -1,5 +1,5 @@
 -- A run over inlets, into which others post while it goes on.
-use Rattle.event_gate.specs.Inlet.{AllTold, EachInlet, HasEvent, Intake, IsInletTaken, drawn_from}
+use Rattle.event_gate.specs.Inlet.{AllTold, EachInlet, HasEvent, Intake, IsInletTaken, after_draws}
 use Rattle.pod_events.specs.Events.{is_takeable}
 use Rattle.lwp_types.specs.Poll.{Next}
 use Rattle.lwp_types.specs.declared.call.Line.{Line}
@@ -36,13 +36,13 @@ abbrev pub is_take_of : ℕ → Took → Bool
 is_take_of e took = took.event == e
 
 -- the lines of an event among these takes, in order
-abbrev pub lines_taken : ℕ → List Took → List Line
-lines_taken e takes = map (λ took. took.line) (filter (is_take_of e) takes)
+abbrev pub lines_of_takes : ℕ → List Took → List Line
+lines_of_takes e takes = map (λ took. took.line) (filter (is_take_of e) takes)
 
 -- an inlet gave the lines of its event among these takes, and at times none
 pub record Gives (takes : List Took) (t u : Intake) : Type 0 where
   pub nothing : ℕ
-  pub after : u ≡ drawn_from t (lines_taken t.event takes) nothing
+  pub after : u ≡ after_draws t (lines_of_takes t.event takes) nothing
 
 -- how many lines may be lost: one for which memory was wanting
 abbrev pub may_lose : {T : Type 0} → Result T RunErr → ℕ

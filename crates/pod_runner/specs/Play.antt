@@ -4,9 +4,9 @@ use Rattle.pod_runner.specs.declared.session.Took.{Took}
 use Rattle.std.specs.Prelude.{List, [], if◌then◌else◌, reverse, suc, zero, ℕ, ◌==◌, ◌≤◌, ◌∷◌}
 
 -- so many calls, and no take
-abbrev pub calls_made : {B : Type 0} → Setting B → ℕ → Session B
-calls_made setting zero = opening_session setting
-calls_made setting (suc n) = call_step setting (calls_made setting n)
+abbrev pub session_of_calls : {B : Type 0} → Setting B → ℕ → Session B
+session_of_calls setting zero = opening_session setting
+session_of_calls setting (suc n) = call_step setting (session_of_calls setting n)
 
 -- after so many calls, if this was the last take, and `before` tells the sessions without it
 abbrev pub with_take : {B : Type 0} → Setting B → Took → (ℕ → Session B) → ℕ → Session B
@@ -15,7 +15,7 @@ with_take setting took before (suc n) = if took.turn == suc n then take_step set
 
 -- these takes, the newest first, and so many calls
 abbrev pub session_of_takes : {B : Type 0} → Setting B → List Took → ℕ → Session B
-session_of_takes setting [] = calls_made setting
+session_of_takes setting [] = session_of_calls setting
 session_of_takes setting (took ∷ takes) = with_take setting took (session_of_takes setting takes)
 
 -- these takes, the oldest first, and so many calls

@@ -12,8 +12,8 @@ abbrev pub live_of : {B : Type 0} → RunParts B → Live B
 live_of parts = record { pod = parts.pod; rows = parts.rows; names = parts.env }
 
 -- the effects of the last step
-abbrev pub told_of : {B : Type 0} → RunParts B → List Effect
-told_of parts = with_call_by parts.caller parts.call parts.effects
+abbrev pub last_step_effects : {B : Type 0} → RunParts B → List Effect
+last_step_effects parts = with_call_by parts.caller parts.call parts.effects
 
 -- a step was made, in which this line was taken, if any, and these are its lines; the procedures are named so
 pub record Moves {B : Type 0} (procs : List (List ℕ)) (line : Option Line) (move : Move B) (new : Live B) (told : List Effect) (out : List ℕ) : Type 0 where

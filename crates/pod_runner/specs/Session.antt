@@ -1,6 +1,6 @@
 -- A session: what bodies and the machine do together, step by step.
 use Rattle.lwp_types.specs.Choice.{choice}
-use Rattle.lwp_types.specs.Names.{Names, polled_as}
+use Rattle.lwp_types.specs.Names.{Names, names_for_poll}
 use Rattle.lwp_types.specs.Poll.{Next, Polled}
 use Rattle.lwp_types.specs.State.{opening}
 use Rattle.pod_events.specs.Events.{EventState, quiet_events, take_event}
@@ -74,9 +74,9 @@ abbrev pub after_poll : {B : Type 0} → ℕ → B → List (Row B) → List (Ro
 after_poll t body rows = with_row t (λ row. record row { body = body }) rows
 
 -- the row of a new thread, if there is such a procedure
-abbrev pub row_opened : {B : Type 0} → ℕ → Option B → List (Row B)
-row_opened t None = []
-row_opened t (Some body) = record { tid = t; body = body; answer = zero_answer } ∷ []
+abbrev pub rows_of_new : {B : Type 0} → ℕ → Option B → List (Row B)
+rows_of_new t None = []
+rows_of_new t (Some body) = record { tid = t; body = body; answer = zero_answer } ∷ []
 
 -- the procedure of a Create
 abbrev pub proc_of : Call → Option ℕ
@@ -90,7 +90,7 @@ thread_in _ = None
 
 -- the row of the thread that was created, if the call creates one of this procedure, and it was answered so
 abbrev pub rows_born : {B : Type 0} → List B → Option ℕ → Option ℕ → List (Row B)
-rows_born bodies (Some number) (Some t) = row_opened t (slice_get bodies number)
+rows_born bodies (Some number) (Some t) = rows_of_new t (slice_get bodies number)
 rows_born bodies None t = []
 rows_born bodies (Some number) None = []
 
@@ -125,7 +125,7 @@ call_move bodies live t reply = let out = event_step live.pod reply.0 in record 
 -- the body of a thread is polled, and its call is made
 abbrev pub move_row : {B : Type 0} → Next B → List B → Live B → ℕ → Option (Row B) → Move B
 move_row next bodies live t None = no_move live
-move_row next bodies live t (Some row) = call_move bodies live t (next row.body (polled_as t live.names) row.answer)
+move_row next bodies live t (Some row) = call_move bodies live t (next row.body (names_for_poll t live.names) row.answer)
 
 -- the same, of the thread that was chosen, if one was
 abbrev pub move_by : {B : Type 0} → Next B → List B → Live B → Option ℕ → Move B
@@ -148,7 +148,7 @@ take_move bodies took live = let out = take_event live.pod took.event took.line.
 -- the first thread alone, before its first call
 abbrev pub opening_session : {B : Type 0} → Setting B → Session B
 opening_session setting = record {
-  live = record { pod = quiet_events (opening setting.params); rows = row_opened 0 (slice_get setting.bodies 0); names = setting.names };
+  live = record { pod = quiet_events (opening setting.params); rows = rows_of_new 0 (slice_get setting.bodies 0); names = setting.names };
   steps = [];
 }
 

@@ -16,14 +16,14 @@ abbrev pub lines : List (List ℕ) → List Made → List ℕ
 lines procs steps = flat_map (made_lines procs) steps
 
 -- how many lines of each client are left, counted from c
-abbrev pub left_from : ℕ → List ℕ → Shelves → List ℕ
-left_from c [] left = []
-left_from c (event ∷ clients) left = left_of_client c left ∷ left_from (c + 1) clients left
+abbrev pub left_counts_from : ℕ → List ℕ → Shelves → List ℕ
+left_counts_from c [] left = []
+left_counts_from c (event ∷ clients) left = left_of_client c left ∷ left_counts_from (c + 1) clients left
 
 -- what stands behind the lines of the last step; nothing, as long as the session isn't over
 abbrev pub tail_by : ℕ → List ℕ → Shelves → Option Halt → List ℕ
 tail_by turns clients left None = []
-tail_by turns clients left (Some halt) = end_text turns (left_from 0 clients left) halt
+tail_by turns clients left (Some halt) = end_text turns (left_counts_from 0 clients left) halt
 
 -- the same of a session with all lines in place, where the clients post to these events
 abbrev pub tail : {B : Type 0} → List ℕ → Planned B → Plan B → List ℕ

@@ -7,10 +7,10 @@ ghost use Rattle.pod_events.specs.Machine.{current_of};
 ghost use Rattle.pod_events.specs.Step.{event_step, leads};
 ghost use Rattle.pod_events.specs.Traps.{lead};
 ghost use Rattle.trace_text.specs.Lines.{step_lines};
-ghost use Rattle.pod_runner.specs.Calls.{caller_of, made_in};
+ghost use Rattle.pod_runner.specs.Calls.{caller_of, call_of_effects};
 ghost use Rattle.pod_runner.specs.Phase.{phase_of};
 ghost use Rattle.pod_runner.specs.Polls.{place_of};
-ghost use Rattle.pod_runner.specs.Session.{move, row_opened, take_move};
+ghost use Rattle.pod_runner.specs.Session.{move, rows_of_new, take_move};
 
 use crate::calls::made_among;
 use crate::row_list::RowList;
@@ -102,7 +102,7 @@ impl<'s, B: Drop> Drop for RunParts<'s, B> {
 }
 
 impl<'s, B: Polled<'s>> RunParts<'s, B> {
-    ghost use Rattle.pod_runner.specs.RunParts.{live_of, told_of, Moves};
+    ghost use Rattle.pod_runner.specs.RunParts.{live_of, last_step_effects, Moves};
 
     /// The first thread, before its first call.
     pub(crate) fn new<P: Program<B>>(
@@ -121,11 +121,11 @@ impl<'s, B: Polled<'s>> RunParts<'s, B> {
             live_of parts
             ≡ record {
               pod = quiet_events (opening params);
-              rows = row_opened 0
+              rows = rows_of_new 0
                   (slice_get (P.bodies program.now) 0);
               names = env;
             }) }
-        ensures effects { IfOk result (λ parts. told_of parts ≡ []) }
+        ensures effects { IfOk result (λ parts. last_step_effects parts ≡ []) }
     {
         let mut rows = RowList::new(alloc);
         rows.open(program, 0, Tid { number: 0 })?;
@@ -160,7 +160,7 @@ impl<'s, B: Polled<'s>> RunParts<'s, B> {
 
     /// The call of the last step, if it has one.
     pub(crate) fn made(&self) -> Option<Made<'s>>
-        ensures { result ≡ made_in (told_of self.now) }
+        ensures { result ≡ call_of_effects (last_step_effects self.now) }
     {
         made_among(self.caller, &self.call, &self.effects)
     }
@@ -194,7 +194,7 @@ impl<'s, B: Polled<'s>> RunParts<'s, B> {
         ensures { OnOk result
             (Moves names.now (Some took.now.line)
             (take_move (P.bodies program.now) took.now (live_of self.old)) (live_of self.new)
-            (told_of self.new) out.new) }
+            (last_step_effects self.new) out.new) }
     {
         self.caller = None;
         self.pod
@@ -215,7 +215,7 @@ impl<'s, B: Polled<'s>> RunParts<'s, B> {
         requires current { IsSome (current_of self.old.pod.state) }
         ensures { OnOk result
             (Moves names.now None (move B.next (P.bodies program.now) (live_of self.old))
-            (live_of self.new) (told_of self.new) out.new) }
+            (live_of self.new) (last_step_effects self.new) out.new) }
     {
         let tid = self.pod.current().unwrap();
         let i = self.rows.place(tid);
@@ -243,7 +243,7 @@ impl<'s, B: Polled<'s>> RunParts<'s, B> {
         requires within { i < length self.old.rows }
         ensures { OnOk result
             (Moves names.now None (move B.next (P.bodies program.now) (live_of self.old))
-            (live_of self.new) (told_of self.new) out.new) }
+            (live_of self.new) (last_step_effects self.new) out.new) }
     {
         self.env.set_me(tid);
         self.rows.poll_at(i, &mut self.env, &mut self.call)?;

@@ -2,7 +2,7 @@
 ghost use Rattle.std.specs.Prelude.{◌≡◌, ◌≤◌, ◌<◌, ◌^◌, [], false, length, IfNone, IfOk, IfSome, IsTrue, slice_index_or};
 ghost use Rattle.std.specs.Slice.Scan.{HoldsNowhere, IsFirstPlace};
 ghost use Rattle.pod_events.specs.Events.{is_takeable};
-ghost use Rattle.pod_runner.specs.Calls.{last_made};
+ghost use Rattle.pod_runner.specs.Calls.{last_call};
 ghost use Rattle.pod_runner.specs.Due.{IsDefined};
 ghost use Rattle.pod_runner.specs.Run.{setting_of, session_of, phase_now, trace_of, names_like, after_step, with_call, with_took, Tells};
 ghost use Rattle.pod_runner.specs.declared.phase.Phase.TheVariants as phase;
@@ -59,7 +59,7 @@ impl<'s, B: Body, P: Program<B>> Model for Run<'s, B, P> {
     ghost use Rattle.std.specs.Prelude.{◌≡◌, false};
     ghost use Rattle.lwp_types.specs.Names.{null_names};
     ghost use Rattle.pod_runner.specs.Run.{Played};
-    ghost use Rattle.pod_runner.specs.RunParts.{live_of, told_of};
+    ghost use Rattle.pod_runner.specs.RunParts.{live_of, last_step_effects};
     ghost use Rattle.pod_runner.specs.Keeps.{Keeps};
 
     ghost Value = { Played P };
@@ -79,7 +79,7 @@ impl<'s, B: Body, P: Program<B>> Model for Run<'s, B, P> {
       bodies = P.bodies r.program;
       params = r.params;
       names = null_names r.threads r.mons r.conds;
-    }) (P.proc_names r.program) r.procs (live_of r.parts) (told_of r.parts)
+    }) (P.proc_names r.program) r.procs (live_of r.parts) (last_step_effects r.parts)
         r.takes r.calls r.turns r.failed };
 }
 
@@ -189,7 +189,7 @@ impl<'s, B: Polled<'s>, P: Program<B>> Run<'s, B, P> {
     /// The call of the last step: None where there was no step yet, or the last one made no call.
     pub fn made(&self) -> Option<Made<'s>>
         requires { self.now.failed ≡ false }
-        ensures { result ≡ last_made (session_of B.next P.bodies self.now).steps }
+        ensures { result ≡ last_call (session_of B.next P.bodies self.now).steps }
     {
         self.parts.made()
     }

@@ -1,6 +1,6 @@
 // The bodies of the live threads, each found by its thread's number.
 ghost use Rattle.std.specs.Prelude.{◌≡◌, ◌++◌, ◌<◌, [], length, nat_lt, slice_get, Some, OnOk, IfOk, IsTrue};
-ghost use Rattle.pod_runner.specs.Session.{after_answer, without_row, row_opened};
+ghost use Rattle.pod_runner.specs.Session.{after_answer, without_row, rows_of_new};
 ghost use Rattle.pod_runner.specs.Polls.{AreRising, ComesLast, Polls, place_of};
 ghost use Rattle.lwp_types.specs.declared.call.Answer.TheVariants as answer;
 ghost use Rattle.pod_runner.specs.declared.session.Row.{Row};
@@ -287,7 +287,7 @@ impl<'s, B> RowList<'s, B> {
     fn push(&mut self, tid: Tid, body: B) -> Result<(), NoMemory>
     where
         B: Drop,
-        ensures { OnOk result (self.new ≡ self.old ++ row_opened tid (Some body)) }
+        ensures { OnOk result (self.new ≡ self.old ++ rows_of_new tid (Some body)) }
     {
         self.rising = self.rising && are_older(&self.rows, tid);
         self.rows.push(Row {
@@ -341,7 +341,7 @@ impl<'s, B> RowList<'s, B> {
     where
         B: Body,
         ensures { OnOk result
-            (self.new ≡ self.old ++ row_opened tid (slice_get (P.bodies program.now) proc)) }
+            (self.new ≡ self.old ++ rows_of_new tid (slice_get (P.bodies program.now) proc)) }
     {
         if proc < program.procs() {
             let body = program.body_of(proc)?;

@@ -7,7 +7,7 @@ use Rattle.lwp_types.specs.State as machine
 use Rattle.lwp_types.specs.State.{State, ThreadRow, is_not_blocked, passes, put_before, to_end, without}
 use Rattle.lwp_types.specs.Threads as threads
 use Rattle.lwp_types.specs.Unblock as unblock
-use Rattle.lwp_types.specs.Threads.{moved_to_end}
+use Rattle.lwp_types.specs.Threads.{with_found_last}
 use Rattle.lwp_types.specs.Unblock.{without_timer}
 use Rattle.lwp_types.specs.declared.call.Flags.{Flags}
 use Rattle.lwp_types.specs.declared.rows.Block.{Block}
@@ -138,7 +138,7 @@ module _ (dying : Option ℕ) (v : Schedule) (s : State) (shows : Shows dying v 
       by_dying false None = refl
       by_dying false (Some row) = ap Some (commutes row)
 
-  block-row : (t : ℕ) (b : Block) (flag : Bool) → flag ≡ not (is_not_blocked b) → (row : ThreadRow) → sched.block_set t flag (known_of row) ≡ known_of (machine.block_set t b row)
+  block-row : (t : ℕ) (b : Block) (flag : Bool) → flag ≡ not (is_not_blocked b) → (row : ThreadRow) → sched.row_with_block t flag (known_of row) ≡ known_of (machine.row_with_block t b row)
   block-row t b flag is row = ap (λ (c : Bool). record (known_of row) { blocked = c }) (by_test (eqb row.number t))
     where
       by_test : (c : Bool) → cond c flag (not (is_not_blocked row.block)) ≡ not (is_not_blocked (cond c b row.block))
@@ -147,7 +147,7 @@ module _ (dying : Option ℕ) (v : Schedule) (s : State) (shows : Shows dying v 
 
   pub blocked-shown : (t : ℕ) (b : Block) → is_not_blocked b ≡ false → Shows dying (sched.after_block v t) (unblock.after_block s t b)
   blocked-shown t b waits = record {
-    threads = λ u. moved-shown (sched.block_set t true) (machine.block_set t b) u (λ k. refl) (λ row. refl) (block-row t b true (ap not (sym waits)));
+    threads = λ u. moved-shown (sched.row_with_block t true) (machine.row_with_block t b) u (λ k. refl) (λ row. refl) (block-row t b true (ap not (sym waits)));
     order = ap (without t) shows.order;
     timers = shows.timers;
     now = shows.now;
@@ -160,7 +160,7 @@ module _ (dying : Option ℕ) (v : Schedule) (s : State) (shows : Shows dying v 
 
     pub unblocked-shown : Shows dying (sched.after_unblock v t) (unblock.after_unblock s t)
     unblocked-shown = record {
-      threads = λ u. moved-shown (sched.block_set t false) (machine.block_set t block.Not) u (λ k. refl) (λ row. refl) (block-row t block.Not false refl);
+      threads = λ u. moved-shown (sched.row_with_block t false) (machine.row_with_block t block.Not) u (λ k. refl) (λ row. refl) (block-row t block.Not false refl);
       order = ap (λ b. cond b v.order (v.order ++ t ∷ [])) same.suspended ∙ ap (λ o. cond (machine.is_suspended_in s t) o (o ++ t ∷ [])) shows.order;
       timers = ap (without_timer t) shows.timers;
       now = shows.now;
@@ -169,7 +169,7 @@ module _ (dying : Option ℕ) (v : Schedule) (s : State) (shows : Shows dying v 
 
     pub suspended-shown : Shows dying (sched.after_suspend v t) (threads.after_suspend s t)
     suspended-shown = record {
-      threads = λ u. moved-shown (sched.suspension_set t true) (machine.suspension_set t true) u (λ k. refl) (λ row. refl) (λ row. refl);
+      threads = λ u. moved-shown (sched.row_with_suspension t true) (machine.row_with_suspension t true) u (λ k. refl) (λ row. refl) (λ row. refl);
       order = ap (without t) shows.order;
       timers = shows.timers;
       now = shows.now;
@@ -178,7 +178,7 @@ module _ (dying : Option ℕ) (v : Schedule) (s : State) (shows : Shows dying v 
 
     pub resumed-shown : Shows dying (sched.after_resume v t) (threads.after_resume s t)
     resumed-shown = record {
-      threads = λ u. moved-shown (sched.suspension_set t false) (machine.suspension_set t false) u (λ k. refl) (λ row. refl) (λ row. refl);
+      threads = λ u. moved-shown (sched.row_with_suspension t false) (machine.row_with_suspension t false) u (λ k. refl) (λ row. refl) (λ row. refl);
       order = ap (λ b. cond (b && not (sched.is_blocked_in v t)) (v.order ++ t ∷ []) v.order) same.suspended
           ∙ (ap (λ b. cond (machine.is_suspended_in s t && not b) (v.order ++ t ∷ []) v.order) same.blocked
           ∙ ap (λ o. cond (machine.is_suspended_in s t && not (machine.is_blocked_in s t)) (o ++ t ∷ []) o) shows.order);
@@ -189,7 +189,7 @@ module _ (dying : Option ℕ) (v : Schedule) (s : State) (shows : Shows dying v 
 
     pub prioritized-shown : (p : ℕ) → Shows dying (sched.after_set_priority v t p) (threads.after_set_priority s t p)
     prioritized-shown p = record {
-      threads = λ u. moved-shown (sched.priority_set t p) (machine.priority_set t p) u (λ k. refl) (λ row. refl) (λ row. refl);
+      threads = λ u. moved-shown (sched.row_with_priority t p) (machine.row_with_priority t p) u (λ k. refl) (λ row. refl) (λ row. refl);
       order = ap (λ b. cond (b && not (eqb (sched.priority_in v t) p)) (to_end t v.order) v.order) same.eligible
           ∙ (ap (λ n. cond (choice.is_eligible_in s t && not (eqb n p)) (to_end t v.order) v.order) same.priority
           ∙ ap (λ o. cond (choice.is_eligible_in s t && not (eqb (machine.priority_in s t) p)) (to_end t o) o) shows.order);
@@ -200,14 +200,14 @@ module _ (dying : Option ℕ) (v : Schedule) (s : State) (shows : Shows dying v 
 
   pub marks-hidden : (t : ℕ) (ms : List Mark) → Shows dying v (machine.with_marks_of s t ms)
   marks-hidden t ms = record {
-    threads = λ u. shows.threads u ∙ ap (λ o. cond (is_same_option dying u) None o) (by_found (machine.thread_of s u) ∙ ap (option_map known_of) (sym (find-moved (machine.is_number u) (machine.marks_set t ms) (λ row. refl) s.threads)));
+    threads = λ u. shows.threads u ∙ ap (λ o. cond (is_same_option dying u) None o) (by_found (machine.thread_of s u) ∙ ap (option_map known_of) (sym (find-moved (machine.is_number u) (machine.row_with_marks t ms) (λ row. refl) s.threads)));
     order = shows.order;
     timers = shows.timers;
     now = shows.now;
     maxpri = shows.maxpri;
   }
     where
-      by_found : (m : Option ThreadRow) → option_map known_of m ≡ option_map known_of (option_map (machine.marks_set t ms) m)
+      by_found : (m : Option ThreadRow) → option_map known_of m ≡ option_map known_of (option_map (machine.row_with_marks t ms) m)
       by_found None = refl
       by_found (Some row) = refl
 
@@ -232,8 +232,8 @@ module _ (v : Schedule) (s : State) (shows : Shows None v s) where
   pub rescheduled-shown : (p : ℕ) → Shows None (sched.after_resched v p) (threads.after_resched s p)
   rescheduled-shown p = record {
     threads = shows.threads;
-    order = ap (λ o. moved_to_end o v.order) (find-same (λ t. eqb (sched.priority_in v t) p) (λ t. eqb (machine.priority_in s t) p) (λ t. ap (λ n. eqb n p) (priority-all t)) v.order)
-        ∙ ap (λ o. moved_to_end (find (λ t. eqb (machine.priority_in s t) p) o) o) shows.order;
+    order = ap (λ o. with_found_last o v.order) (find-same (λ t. eqb (sched.priority_in v t) p) (λ t. eqb (machine.priority_in s t) p) (λ t. ap (λ n. eqb n p) (priority-all t)) v.order)
+        ∙ ap (λ o. with_found_last (find (λ t. eqb (machine.priority_in s t) p) o) o) shows.order;
     timers = shows.timers;
     now = shows.now;
     maxpri = shows.maxpri;
@@ -263,10 +263,10 @@ module _ (v : Schedule) (s : State) (t : ℕ) where
   -- another thread's row is as it was
   unmoved : (u : ℕ) → t ≢ u → option_map known_of (find (machine.is_number u) (machine.with_suspension t false (machine.with_block t block.Not s.threads))) ≡ option_map known_of (machine.thread_of s u)
   unmoved u differs =
-      ap (option_map known_of) (find-moved (machine.is_number u) (machine.suspension_set t false) (λ row. refl) (machine.with_block t block.Not s.threads) ∙ ap (option_map (machine.suspension_set t false)) (find-moved (machine.is_number u) (machine.block_set t block.Not) (λ row. refl) s.threads))
+      ap (option_map known_of) (find-moved (machine.is_number u) (machine.row_with_suspension t false) (λ row. refl) (machine.with_block t block.Not s.threads) ∙ ap (option_map (machine.row_with_suspension t false)) (find-moved (machine.is_number u) (machine.row_with_block t block.Not) (λ row. refl) s.threads))
       ∙ by_found (machine.thread_of s u) refl
     where
-      by_found : (m : Option ThreadRow) → machine.thread_of s u ≡ m → option_map known_of (option_map (machine.suspension_set t false) (option_map (machine.block_set t block.Not) m)) ≡ option_map known_of m
+      by_found : (m : Option ThreadRow) → machine.thread_of s u ≡ m → option_map known_of (option_map (machine.row_with_suspension t false) (option_map (machine.row_with_block t block.Not) m)) ≡ option_map known_of m
       by_found None is = refl
       by_found (Some row) is =
           let other : eqb row.number t ≡ false = ne_eqb row.number t (λ same. differs (sym same ∙ eqb-true _ _ (found-passes (machine.is_number u) s.threads row is))) in

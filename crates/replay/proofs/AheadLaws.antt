@@ -2,7 +2,7 @@
 use Rattle.replay.proofs.CommonLaws.{fewer, take-next}
 use Rattle.replay.proofs.EndLaws.{all-taken}
 use Rattle.replay.proofs.LineLaws.{count-append, count-cons, one}
-use Rattle.replay.specs.Following.{Departs, Following, IsUnlike, told_in}
+use Rattle.replay.specs.Following.{Departs, Following, IsUnlike, bytes_told}
 use Rattle.replay.specs.Recorded.{is_newline, line_count}
 use Rattle.std.specs.Int.{from_le_bytes, to_le_bytes, w64}
 use Rattle.std.proofs.Common.{Bool, List, [], ap, append-nil, append_assoc, arith, drop, drop-drop, false, get_or, inl, inr, length, length-append, length-drop, length-take, refl, subst, suc, sym, take, take-add, take-append-drop, true, zero, ℕ, ◌++◌, ◌+◌, ◌-◌, ◌<◌, ◌∙◌, ◌∷◌, ◌≡◌, ◌≢◌, ◌≤◌, ◌⊎◌}
@@ -146,7 +146,7 @@ behind recorded at ahead = take_rest recorded (at + ahead) ∙ ap (λ n. drop n 
 pub told-ahead : (f : Following) (recorded extra bytes : List ℕ) (at ahead ticks faults : ℕ)
     → seen recorded (take ahead (drop at recorded) ++ extra) at ticks faults ≡ f
     → extra ≡ [] → at + ahead ≤ length recorded → take (length bytes) (take (length recorded - (at + ahead)) (drop (at + ahead) recorded)) ≡ bytes
-    → told_in (seen recorded (take (ahead + length bytes) (drop at recorded) ++ extra) at ticks faults) ≡ told_in f ++ take (length bytes) bytes
+    → bytes_told (seen recorded (take (ahead + length bytes) (drop at recorded) ++ extra) at ticks faults) ≡ bytes_told f ++ take (length bytes) bytes
 told-ahead f recorded extra bytes at ahead ticks faults is none low same =
     let front = length recorded ∷ at ∷ line_count (take at recorded) ∷ ticks ∷ recorded in
     let before = take at recorded in
@@ -155,7 +155,7 @@ told-ahead f recorded extra bytes at ahead ticks faults is none low same =
     ap (λ l. take (ahead + length bytes) (drop at recorded) ++ l) none
     ∙ ahead-on (drop at recorded) ahead (omega (arith, low, length-drop at recorded)) bytes (ap (take (length bytes)) (sym (behind recorded at ahead)) ∙ same)
     ∙ ap (λ l. (take ahead (drop at recorded) ++ l) ++ bytes) (sym none) in
-    subst (λ g. front ++ (before ++ (take (ahead + length bytes) (drop at recorded) ++ extra)) ≡ told_in g ++ take (length bytes) bytes) is
+    subst (λ g. front ++ (before ++ (take (ahead + length bytes) (drop at recorded) ++ extra)) ≡ bytes_told g ++ take (length bytes) bytes) is
     (ap (λ l. front ++ (before ++ l)) next ∙ ap (λ l. front ++ l) (sym (append_assoc before step bytes)) ∙ sym (append_assoc front (before ++ step) bytes)
     ∙ ap (λ l. (front ++ (before ++ step)) ++ l) (sym (all-taken bytes)))
 

@@ -1,7 +1,7 @@
 -- The clock in a session: it ticks by lines of event 0 alone, and that event is never trapped.
 use Rattle.lwp_types.specs.Agents.{deliver, is_event_armed}
 use Rattle.lwp_types.specs.Choice.{choice}
-use Rattle.lwp_types.specs.Names.{polled_as}
+use Rattle.lwp_types.specs.Names.{names_for_poll}
 use Rattle.lwp_types.specs.State.{State, passes}
 use Rattle.lwp_types.specs.Step.{step}
 use Rattle.lwp_types.specs.Time.{may_tick}
@@ -10,9 +10,9 @@ use Rattle.lwp_types.specs.declared.call.Effect.{Effect}
 use Rattle.lwp_types.specs.declared.call.Line.{Line}
 use Rattle.lwp_types.specs.declared.call.LwpErr.{LwpErr}
 use Rattle.pod_events.specs.Events.{EventState, after_pass_on, after_take_trap, has_agent, is_takeable, is_trapped, may_trap, rites_event, take_event}
-use Rattle.pod_events.specs.Rites.{after_first_report, report_text, reports_after, rites_said}
+use Rattle.pod_events.specs.Rites.{after_first_report, report_text, reports_after, after_rites}
 use Rattle.pod_events.specs.Step.{event_step, event_step_by, event_step_if}
-use Rattle.pod_events.specs.Traps.{after_call, after_call_as, after_machine_step, after_trap, after_trap_and_call, agent_event_of, but_call, is_catch, is_given, notice, refused_by, trap_of, trap_refusal}
+use Rattle.pod_events.specs.Traps.{after_call, after_call_as, after_machine_step, after_trap, after_trap_and_call, agent_event_of, but_call, is_catch, is_given, notice, after_refusal, trap_of, trap_refusal}
 use Rattle.pod_runner.proofs.Plays.{IsDefined-zero, LastBy-of, play-call, play-take, play-zero}
 use Rattle.pod_runner.specs.Session as Sessions
 use Rattle.pod_runner.specs.Session.{Live, Session, Setting, move, move_by, move_row, row_of, take_move}
@@ -63,7 +63,7 @@ calm_trap s trapped t e c = by_first (e == 0) refl
 calm_made : (s : State) (trapped : List Bool) (t : ℕ) (c : Call) → Calm s trapped (after_call s trapped t c).state (after_call s trapped t c).trapped
 calm_made s trapped t c = by_trap (trap_of c)
   where
-    by_agent : (b : Bool) → Calm s trapped (cond b (refused_by s trapped t c error.InUse) (after_machine_step trapped (step s c))).state (cond b (refused_by s trapped t c error.InUse) (after_machine_step trapped (step s c))).trapped
+    by_agent : (b : Bool) → Calm s trapped (cond b (after_refusal s trapped t c error.InUse) (after_machine_step trapped (step s c))).state (cond b (after_refusal s trapped t c error.InUse) (after_machine_step trapped (step s c))).trapped
     by_agent true = calm_still s trapped
     by_agent false = calm_step s trapped c
 
@@ -82,7 +82,7 @@ calm_called s trapped t c (Some e) = by_given (passes is_given (notice s t e)) (
     by_given false true = calm_step s trapped (call.ExcNotify e)
     by_given false false = calm_step s trapped (call.Destroy t)
 
-said_clock : (s : State) (es : List Effect) (reports : List ℕ) → (rites_said s es reports).state.now ≡ s.now
+said_clock : (s : State) (es : List Effect) (reports : List ℕ) → (after_rites s es reports).state.now ≡ s.now
 said_clock s es reports = by_armed (is_event_armed s rites_event) reports
   where
     by_armed : (b : Bool) (rs : List ℕ) → (cond b (after_first_report s es rs) (record { state = s; reports = rs; effects = es })).state.now ≡ s.now
@@ -154,7 +154,7 @@ module _ {B : Type 0} (setting : Setting B) where
     where
       by_row : (t : ℕ) (o : Option (Row B)) → Holds (move_row setting.next setting.bodies live t o).live.pod
       by_row t None = h
-      by_row t (Some row) = keeps live.pod (setting.next row.body (polled_as t live.names) row.answer).0 h
+      by_row t (Some row) = keeps live.pod (setting.next row.body (names_for_poll t live.names) row.answer).0 h
 
       by_choice : (o : Option ℕ) → Holds (move_by setting.next setting.bodies live o).live.pod
       by_choice None = h

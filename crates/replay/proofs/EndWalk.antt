@@ -20,8 +20,8 @@ use Rattle.replay.specs.Next.{NoneTold, counts_in, lowest_in}
 use Rattle.replay.specs.Recorded.{Agree, is_ended, line_count, next_line}
 use Rattle.replay.specs.Replayed.{Says}
 use Rattle.replay.specs.Says.{DiffersBy, EndSays}
-use Rattle.replay.specs.Verdict.{IsSame, call_lines, first_given, lowest_take, next_lines, next_of, or_else, take_by, take_lines, take_of, tells_take}
-use Rattle.replay.specs.Walk.{ClientsLeft, Due, Going, IsFit, IsNext, Moment, Speaks, moment, move_lines, session_of, told_until}
+use Rattle.replay.specs.Verdict.{IsSame, call_lines, first_result, lowest_take, next_lines, next_of, or_else, take_by, take_lines, take_of, tells_take}
+use Rattle.replay.specs.Walk.{ClientsLeft, Due, Going, IsFit, IsNext, Moment, Speaks, moment, move_lines, session_of, lines_until}
 use Rattle.replay.specs.declared.verdict.Verdict.{Verdict}
 use Rattle.trace_text.specs.Lines.{end_text}
 use Rattle.trace_text.specs.declared.ends.Halt.{Halt}
@@ -39,12 +39,12 @@ use Rattle.trace_text.specs.declared.ends.Halt.TheVariants as halt
 
 module _ (f : ℕ → Option (List ℕ)) (test : ℕ → Bool) where
   -- where one gives something where the other holds
-  given-any : (a n : ℕ) → ((k : ℕ) → a ≤ k → k < a + n → is_some (f k) ≡ test k) → is_some (first_given f (range_with_len a n)) ≡ list_any test (range_with_len a n)
+  given-any : (a n : ℕ) → ((k : ℕ) → a ≤ k → k < a + n → is_some (f k) ≡ test k) → is_some (first_result f (range_with_len a n)) ≡ list_any test (range_with_len a n)
   given-any a zero same = refl
   given-any a (suc n) same = head (f a) (test a) (same a (omega arith) (omega arith)) (given-any (a + 1) n (λ k low under. same k (omega (arith, low)) (omega (arith, under))))
     where
-      head : (o : Option (List ℕ)) (b : Bool) → is_some o ≡ b → is_some (first_given f (range_with_len (a + 1) n)) ≡ list_any test (range_with_len (a + 1) n)
-          → is_some (or_else o (first_given f (range_with_len (a + 1) n))) ≡ (b || list_any test (range_with_len (a + 1) n))
+      head : (o : Option (List ℕ)) (b : Bool) → is_some o ≡ b → is_some (first_result f (range_with_len (a + 1) n)) ≡ list_any test (range_with_len (a + 1) n)
+          → is_some (or_else o (first_result f (range_with_len (a + 1) n))) ≡ (b || list_any test (range_with_len (a + 1) n))
       head (Some x) true e rest = refl
       head (Some x) false e rest = absurd (cc)
       head None true e rest = absurd (cc)
@@ -55,22 +55,22 @@ bool-same true b f g = sym (f refl)
 bool-same false true f g = g refl
 bool-same false false f g = refl
 
-given-some-at : (f : ℕ → Option (List ℕ)) (ns : List ℕ) → is_some (first_given f ns) ≡ true → (k : ℕ) × (is_some (f k) ≡ true)
+given-some-at : (f : ℕ → Option (List ℕ)) (ns : List ℕ) → is_some (first_result f ns) ≡ true → (k : ℕ) × (is_some (f k) ≡ true)
 given-some-at f [] h = absurd (cc)
 given-some-at f (n ∷ ns) h = head (f n) refl h (given-some-at f ns)
   where
-    head : (o : Option (List ℕ)) → f n ≡ o → is_some (or_else o (first_given f ns)) ≡ true → (is_some (first_given f ns) ≡ true → (k : ℕ) × (is_some (f k) ≡ true)) → (k : ℕ) × (is_some (f k) ≡ true)
+    head : (o : Option (List ℕ)) → f n ≡ o → is_some (or_else o (first_result f ns)) ≡ true → (is_some (first_result f ns) ≡ true → (k : ℕ) × (is_some (f k) ≡ true)) → (k : ℕ) × (is_some (f k) ≡ true)
     head (Some x) e h rest = (n, ap is_some e)
     head None e h rest = rest h
 
-given-at : (f : ℕ → Option (List ℕ)) (a n k : ℕ) → a ≤ k → k < a + n → is_some (f k) ≡ true → is_some (first_given f (range_with_len a n)) ≡ true
+given-at : (f : ℕ → Option (List ℕ)) (a n k : ℕ) → a ≤ k → k < a + n → is_some (f k) ≡ true → is_some (first_result f (range_with_len a n)) ≡ true
 given-at f a zero k low under h = absurd (omega (arith, low, under))
 given-at f a (suc n) k low under h = head (f a) refl (elim (cases_eq a k) [
   | inl same ↦ inl (ap (λ j. is_some (f j)) same ∙ h)
   | inr other ↦ inr (given-at f (a + 1) n k (omega (arith, low, other)) (omega (arith, under)) h)
 ])
   where
-    head : (o : Option (List ℕ)) → f a ≡ o → (is_some (f a) ≡ true) ⊎ (is_some (first_given f (range_with_len (a + 1) n)) ≡ true) → is_some (or_else o (first_given f (range_with_len (a + 1) n))) ≡ true
+    head : (o : Option (List ℕ)) → f a ≡ o → (is_some (f a) ≡ true) ⊎ (is_some (first_result f (range_with_len (a + 1) n)) ≡ true) → is_some (or_else o (first_result f (range_with_len (a + 1) n))) ≡ true
     head (Some x) e w = refl
     head None e (inl h) = absurd (let bad : false ≡ true = sym (ap is_some e) ∙ h in cc)
     head None e (inr h) = h
@@ -112,14 +112,14 @@ module _ {B : Type 0} (asked : Asked B) (fit : IsFit asked) (at : Reach) (is : I
   event-wanted : (e : ℕ) → e < 256 → is_some (take_of asked at e) ≡ can_take state (full_shelves asked.clients at.left) e
   event-wanted e high = by_armed (is_takeable state e)
     where
-      inner : is_some (first_given (take_by asked state.state.now at.left e) (range_with_len 0 (length asked.clients))) ≡ is_some (first_left (full_shelves asked.clients at.left) e)
+      inner : is_some (first_result (take_by asked state.state.now at.left e) (range_with_len 0 (length asked.clients))) ≡ is_some (first_left (full_shelves asked.clients at.left) e)
       inner = bool-same _ _
           (λ h. let w = given-some-at (take_by asked state.state.now at.left e) (range_with_len 0 (length asked.clients)) h in let x = some-take e w.0 w.1 in
           ap is_some (first-for asked.clients e at.left high) ∙ client-some asked.clients e at.left w.0 x.0 x.1)
           (λ h. let w = some-client asked.clients e at.left (ap is_some (sym (first-for asked.clients e at.left high)) ∙ h) in
           given-at (take_by asked state.state.now at.left e) 0 (length asked.clients) w.0 (omega arith) (omega (arith, left-client w.0 w.2)) (take-some e w.0 w.1 w.2))
 
-      by_armed : (b : Bool) → is_some (if b then first_given (take_by asked state.state.now at.left e) (range_with_len 0 (length asked.clients)) else None) ≡ (b && is_some (first_left (full_shelves asked.clients at.left) e))
+      by_armed : (b : Bool) → is_some (if b then first_result (take_by asked state.state.now at.left e) (range_with_len 0 (length asked.clients)) else None) ≡ (b && is_some (first_left (full_shelves asked.clients at.left) e))
       by_armed true = inner
       by_armed false = refl
 
@@ -211,7 +211,7 @@ module _ {B : Type 0} (asked : Asked B) (bytes : List ℕ) (fit : IsFit asked) (
       by_verdict : (v : Verdict) → EndSays (end_text asked.turns (counts_in lines) h) rest n v → Says asked bytes v p.takes p.calls
       by_verdict (verdict.Same l) says =
           let whole = same-end asked bytes fit speaks p lines at n ticks here h halted (end_text asked.turns (counts_in lines) h) (ap (λ cs. end_text asked.turns cs h) counts) says.0 in
-          let count : line_count bytes ≡ l = omega (arith, says.1, here.stands.count, ap line_count here.stands.begins, count-append (told_until asked.setting asked.procs p) rest, ap line_count says.0) in
+          let count : line_count bytes ≡ l = omega (arith, says.1, here.stands.count, ap line_count here.stands.begins, count-append (lines_until asked.setting asked.procs p) rest, ap line_count says.0) in
           subst (λ k. IsSame asked bytes k p.takes p.calls) count whole
       by_verdict (verdict.Differs line want got ended) says =
           let text = end_text asked.turns (counts_in lines) h in

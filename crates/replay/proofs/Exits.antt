@@ -9,10 +9,10 @@ use Rattle.replay.proofs.Forcing.{call-one, closes-told, none-in-end, none-in-st
 use Rattle.replay.proofs.Left.{end-same, halt-same}
 use Rattle.replay.proofs.LineLaws.{agree-equal, agree-fewer, agree-front, agree-none, behind-all, behind-whole, closes-both, count-append, cut, first-append, none-whole, some-line}
 use Rattle.replay.proofs.Moves.{IsAt-moved, lines_on, told-gone, told-moved}
-use Rattle.replay.specs.Asked.{Asked, IsReached, Reach, end_by, halt_at, text_at, told_at}
+use Rattle.replay.specs.Asked.{Asked, IsReached, Reach, end_by, halt_at, text_at, lines_at}
 use Rattle.replay.specs.Recorded.{Agree, behind_lines, closes, first_lines, is_ended, line_count, next_line}
 use Rattle.replay.specs.Verdict.{IsBegun, IsFollowed, IsMost, IsOther, next_lines, or_else, want_at, want_between}
-use Rattle.replay.specs.Walk.{Due, DueAll, Forced, IsAt, IsFit, IsLast, IsNext, Moment, Move, Reaches, Speaks, Stands, after_move, after_moves, moment, move_lines, session_of, told_until, took_at}
+use Rattle.replay.specs.Walk.{Due, DueAll, Forced, IsAt, IsFit, IsLast, IsNext, Moment, Move, Reaches, Speaks, Stands, after_move, after_moves, moment, move_lines, session_of, lines_until, took_at}
 use Rattle.trace_text.specs.declared.ends.Halt.{Halt}
 use Rattle.std.specs.Prelude.{Option}
 use Rattle.std.proofs.Common.{List, None, Some, [], ap, append_assoc, append-nil, arith, inl, inr, length, length-append, refl, subst, sym, take, true, ℕ, ◌++◌, ◌+◌, ◌<◌, ◌∙◌, ◌∷◌, ◌≡◌, ◌≤◌, ◌⊎◌}
@@ -31,7 +31,7 @@ steps-moved {B} asked p None made = (_, ap (λ (s : Session B). s.steps) (play-c
 steps-moved {B} asked p (Some t) made = (_, ap (λ (s : Session B). s.steps) (play-take asked.setting (took_at p t) p.takes p.calls refl))
 
 -- its first line is among those told
-pub last-moved : {B : Type 0} (asked : Asked B) (p : Moment) (m : Move) → IsAt asked.setting p → (n : ℕ) → line_count (told_until asked.setting asked.procs p) < n → IsLast asked (after_move p m) n
+pub last-moved : {B : Type 0} (asked : Asked B) (p : Moment) (m : Move) → IsAt asked.setting p → (n : ℕ) → line_count (lines_until asked.setting asked.procs p) < n → IsLast asked (after_move p m) n
 last-moved asked p m made n low =
     let w = steps-moved asked p m made in
     inr (omega (arith, low, ap (λ l. line_count (lines asked.procs (but_last l))) w.1, ap (λ l. line_count (lines asked.procs l)) (but-last-push (session_of asked.setting p).steps w.0)))
@@ -41,7 +41,7 @@ module _ {B : Type 0} (asked : Asked B) (bytes : List ℕ) (fit : IsFit asked) (
   end_of at = end_by asked at (halt_at asked at)
 
   abbrev said : Moment → List ℕ
-  said p = told_until asked.setting asked.procs p
+  said p = lines_until asked.setting asked.procs p
 
   -- no session goes on with one line more
   abbrev pub NoMore : ℕ → Type 0
@@ -78,13 +78,13 @@ module _ {B : Type 0} (asked : Asked B) (bytes : List ℕ) (fit : IsFit asked) (
   }
 
   -- a session that goes through a moment, to its end
-  begun-at : (n : ℕ) (to : Reach) (front more : List ℕ) → IsReached asked to → closes true front ≡ true → n ≡ line_count front → told_at asked to ≡ front ++ more → (after : List ℕ) → bytes ≡ front ++ after → IsBegun asked bytes n
+  begun-at : (n : ℕ) (to : Reach) (front more : List ℕ) → IsReached asked to → closes true front ≡ true → n ≡ line_count front → lines_at asked to ≡ front ++ more → (after : List ℕ) → bytes ≡ front ++ after → IsBegun asked bytes n
   begun-at n to front more is closed count split after start =
       let e = ends asked fit to is in
       let whole : text_at asked e.to ≡ front ++ (more ++ (lines_on asked.setting asked.procs (moment asked to) e.way.moves ++ end_of e.to)) =
       ap (λ q. said q ++ end_of e.to) (sym e.way.comes)
       ∙ ap (λ l. l ++ end_of e.to) (told-gone asked.setting asked.procs e.way.moves (moment asked to) is.due e.way.due)
-      ∙ append_assoc (told_at asked to) (lines_on asked.setting asked.procs (moment asked to) e.way.moves) (end_of e.to)
+      ∙ append_assoc (lines_at asked to) (lines_on asked.setting asked.procs (moment asked to) e.way.moves) (end_of e.to)
       ∙ ap (λ l. l ++ (lines_on asked.setting asked.procs (moment asked to) e.way.moves ++ end_of e.to)) split
       ∙ append_assoc front more (lines_on asked.setting asked.procs (moment asked to) e.way.moves ++ end_of e.to) in (
         text_at asked e.to,
@@ -107,7 +107,7 @@ module _ {B : Type 0} (asked : Asked B) (bytes : List ℕ) (fit : IsFit asked) (
   }
 
   module _ (n : ℕ) (p : Moment) (rest : List ℕ) (here : Stands asked bytes n p rest) (to : Reach) (is : IsReached asked to) (stands : moment asked to ≡ p) where
-    told-is : told_at asked to ≡ said p
+    told-is : lines_at asked to ≡ said p
     told-is = ap said stands
 
     -- a session whose whole text is recorded stays, or goes on by a line at least
@@ -125,7 +125,7 @@ module _ {B : Type 0} (asked : Asked B) (bytes : List ℕ) (fit : IsFit asked) (
         by_moves [] due comes = inl (sym comes, cut (said p) rest (end_of at) (sym here.begins ∙ whole ∙ ap (λ q. said q ++ end_of at) (sym comes)))
         by_moves (m ∷ ms) due comes =
             let one = step-one m due.0 in
-            let way_told : told_at asked at ≡ said p ++ (move_lines asked.setting asked.procs p m ++ lines_on asked.setting asked.procs (after_move p m) ms) =
+            let way_told : lines_at asked at ≡ said p ++ (move_lines asked.setting asked.procs p m ++ lines_on asked.setting asked.procs (after_move p m) ms) =
             ap said (sym comes) ∙ told-gone asked.setting asked.procs (m ∷ ms) p here.made due in
             inr (agree-equal (n + 1) bytes (text_at asked at) whole (omega (
               arith,
@@ -133,7 +133,7 @@ module _ {B : Type 0} (asked : Asked B) (bytes : List ℕ) (fit : IsFit asked) (
               here.count,
               ap line_count whole,
               ap line_count way_told,
-              count-append (told_at asked at) (end_of at),
+              count-append (lines_at asked at) (end_of at),
               count-append (said p) (move_lines asked.setting asked.procs p m ++ lines_on asked.setting asked.procs (after_move p m) ms),
               count-append (move_lines asked.setting asked.procs p m) (lines_on asked.setting asked.procs (after_move p m) ms),
             )))
@@ -186,7 +186,7 @@ module _ {B : Type 0} (asked : Asked B) (bytes : List ℕ) (fit : IsFit asked) (
         start : bytes ≡ (said p ++ front) ++ after
         start = here.begins ∙ ap (λ l. said p ++ l) is_rest ∙ sym (append_assoc (said p) front after)
 
-        told_next : told_at asked next ≡ (said p ++ front) ++ more
+        told_next : lines_at asked next ≡ (said p ++ front) ++ more
         told_next = ap said moves_on ∙ told-moved asked.setting asked.procs p m here.made ∙ ap (λ l. said p ++ l) split ∙ sym (append_assoc (said p) front more)
 
         last : IsLast asked (moment asked next) (n + line_count front)

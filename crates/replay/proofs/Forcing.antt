@@ -12,9 +12,9 @@ use Rattle.replay.proofs.Left.{end-same}
 use Rattle.replay.proofs.LineLaws.{agree-fewer, agree-heads, agree-peel, agree-shorter, closes-both, count-append, head-append, head_of}
 use Rattle.replay.proofs.Clock.{clock-free, takeable-small}
 use Rattle.replay.proofs.Moves.{IsAt-moved, gone-calls, gone-takes, lines_on, reached, told-gone, told-moved, told-opened}
-use Rattle.replay.specs.Walk.{Due, DueAll, Forced, IsAt, IsFit, IsNext, Moment, Move, Reaches, Speaks, Stands, after_move, after_moves, count_of, first_moment, moment, move_lines, session_of, told_until, took_at}
+use Rattle.replay.specs.Walk.{Due, DueAll, Forced, IsAt, IsFit, IsNext, Moment, Move, Reaches, Speaks, Stands, after_move, after_moves, count_of, first_moment, moment, move_lines, session_of, lines_until, took_at}
 use Rattle.replay.proofs.StepLines.{Speaking, call-lines, call-some, closes-step, end-head, one-line, take-client, take-first, take-tells, tells-head, tells-same}
-use Rattle.replay.specs.Asked.{Asked, IsReached, Reach, counts_from, end_by, halt_at, pairs_of, text_at, told_at}
+use Rattle.replay.specs.Asked.{Asked, IsReached, Reach, counts_from, end_by, halt_at, pairs_of, text_at, lines_at}
 use Rattle.replay.specs.Recorded.{Agree, closes, line_count}
 use Rattle.replay.specs.Verdict.{take_text, tells_take}
 use Rattle.trace_text.specs.Lines.{ended_line, later_lines, step_lines}
@@ -110,16 +110,16 @@ module _ {B : Type 0} (asked : Asked B) (bytes : List ℕ) where
   closes-lines (made ∷ steps) = closes-both (made_lines asked.procs made) (lines asked.procs steps)
       (closes-step asked.procs _ made.effects) (closes-lines steps)
 
-  pub closes-told : (p : Moment) → closes true (told_until asked.setting asked.procs p) ≡ true
+  pub closes-told : (p : Moment) → closes true (lines_until asked.setting asked.procs p) ≡ true
   closes-told p = closes-lines (session_of asked.setting p).steps
 
   -- the first line behind those told
   next-line : (p : Moment) (rest more : List ℕ) (n : ℕ) (at : Reach) → Stands asked bytes n p rest → Agree (n + 1) bytes (text_at asked at)
-      → text_at asked at ≡ told_until asked.setting asked.procs p ++ more → Agree 1 rest more
+      → text_at asked at ≡ lines_until asked.setting asked.procs p ++ more → Agree 1 rest more
   next-line p rest more n at here agree whole =
-      agree-peel (told_until asked.setting asked.procs p) rest more 1 (closes-told p)
-      (subst (λ k. Agree (k + 1) (told_until asked.setting asked.procs p ++ rest) (told_until asked.setting asked.procs p ++ more)) here.count
-      (subst (λ b. Agree (n + 1) b (told_until asked.setting asked.procs p ++ more)) here.begins
+      agree-peel (lines_until asked.setting asked.procs p) rest more 1 (closes-told p)
+      (subst (λ k. Agree (k + 1) (lines_until asked.setting asked.procs p ++ rest) (lines_until asked.setting asked.procs p ++ more)) here.count
+      (subst (λ b. Agree (n + 1) b (lines_until asked.setting asked.procs p ++ more)) here.begins
       (subst (λ b. Agree (n + 1) bytes b) whole agree)))
 
   pub goes : (n : ℕ) (p : Moment) (rest : List ℕ) (at : Reach) → Stands asked bytes n p rest → IsReached asked at → Agree (n + 1) bytes (text_at asked at) → Goes p rest at
@@ -129,23 +129,23 @@ module _ {B : Type 0} (asked : Asked B) (bytes : List ℕ) where
       way = here.forced at is (agree-fewer n (n + 1) bytes (text_at asked at) (omega arith) agree)
 
       by_moves : (ms : List Move) → DueAll asked.setting p ms → after_moves p ms ≡ moment asked at → Goes p rest at
-      by_moves [] due comes = Stays comes (next-line p rest (end_of at) n at here agree (ap (λ q. told_until asked.setting asked.procs q ++ end_of at) (sym comes)))
+      by_moves [] due comes = Stays comes (next-line p rest (end_of at) n at here agree (ap (λ q. lines_until asked.setting asked.procs q ++ end_of at) (sym comes)))
       by_moves (None ∷ ms) due comes =
           let way_told = told-gone asked.setting asked.procs (None ∷ ms) p here.made due in
           let more = lines_on asked.setting asked.procs (after_move p None) ms ++ end_of at in
-          let whole : text_at asked at ≡ told_until asked.setting asked.procs p ++ (move_lines asked.setting asked.procs p None ++ more) =
-          ap (λ q. told_until asked.setting asked.procs q ++ end_of at) (sym comes) ∙ ap (λ l. l ++ end_of at) way_told
-          ∙ append_assoc (told_until asked.setting asked.procs p) (move_lines asked.setting asked.procs p None ++ lines_on asked.setting asked.procs (after_move p None) ms) (end_of at)
-          ∙ ap (λ l. told_until asked.setting asked.procs p ++ l) (append_assoc (move_lines asked.setting asked.procs p None) (lines_on asked.setting asked.procs (after_move p None) ms) (end_of at)) in
+          let whole : text_at asked at ≡ lines_until asked.setting asked.procs p ++ (move_lines asked.setting asked.procs p None ++ more) =
+          ap (λ q. lines_until asked.setting asked.procs q ++ end_of at) (sym comes) ∙ ap (λ l. l ++ end_of at) way_told
+          ∙ append_assoc (lines_until asked.setting asked.procs p) (move_lines asked.setting asked.procs p None ++ lines_on asked.setting asked.procs (after_move p None) ms) (end_of at)
+          ∙ ap (λ l. lines_until asked.setting asked.procs p ++ l) (append_assoc (move_lines asked.setting asked.procs p None) (lines_on asked.setting asked.procs (after_move p None) ms) (end_of at)) in
           Calls due.0 (omega (arith, gone-calls ms (after_move p None), ap (λ (q : Moment). q.calls) comes, is.room)) more (next-line p rest (move_lines asked.setting asked.procs p None ++ more) n at here agree whole)
           (record { moves = ms; due = due.1; comes = comes })
       by_moves (Some t ∷ ms) due comes =
           let way_told = told-gone asked.setting asked.procs (Some t ∷ ms) p here.made due in
           let more = lines_on asked.setting asked.procs (after_move p (Some t)) ms ++ end_of at in
-          let whole : text_at asked at ≡ told_until asked.setting asked.procs p ++ (move_lines asked.setting asked.procs p (Some t) ++ more) =
-          ap (λ q. told_until asked.setting asked.procs q ++ end_of at) (sym comes) ∙ ap (λ l. l ++ end_of at) way_told
-          ∙ append_assoc (told_until asked.setting asked.procs p) (move_lines asked.setting asked.procs p (Some t) ++ lines_on asked.setting asked.procs (after_move p (Some t)) ms) (end_of at)
-          ∙ ap (λ l. told_until asked.setting asked.procs p ++ l) (append_assoc (move_lines asked.setting asked.procs p (Some t)) (lines_on asked.setting asked.procs (after_move p (Some t)) ms) (end_of at)) in
+          let whole : text_at asked at ≡ lines_until asked.setting asked.procs p ++ (move_lines asked.setting asked.procs p (Some t) ++ more) =
+          ap (λ q. lines_until asked.setting asked.procs q ++ end_of at) (sym comes) ∙ ap (λ l. l ++ end_of at) way_told
+          ∙ append_assoc (lines_until asked.setting asked.procs p) (move_lines asked.setting asked.procs p (Some t) ++ lines_on asked.setting asked.procs (after_move p (Some t)) ms) (end_of at)
+          ∙ ap (λ l. lines_until asked.setting asked.procs p ++ l) (append_assoc (move_lines asked.setting asked.procs p (Some t)) (lines_on asked.setting asked.procs (after_move p (Some t)) ms) (end_of at)) in
           let later = gone-takes ms (after_move p (Some t)) in
           let takes : at.takes ≡ p.takes ++ took_at p t ∷ later.0 = sym (ap (λ (q : Moment). q.takes) comes) ∙ later.1 ∙ append_assoc p.takes (took_at p t ∷ []) later.0 in
           Takes t due.0 (next-of asked p t at.takes later.0 at.left takes is.history) more (next-line p rest (move_lines asked.setting asked.procs p (Some t) ++ more) n at here agree whole)
@@ -280,10 +280,10 @@ module _ {B : Type 0} (asked : Asked B) (bytes : List ℕ) where
         → Stands asked bytes (n + line_count (move_lines asked.setting asked.procs p m)) (after_move p m) after
     stands-on m due forced after is some = record {
       made = IsAt-moved asked.setting p m here.made due;
-      begins = here.begins ∙ ap (λ l. told_until asked.setting asked.procs p ++ l) is ∙ sym (append_assoc (told_until asked.setting asked.procs p) (move_lines asked.setting asked.procs p m) after)
+      begins = here.begins ∙ ap (λ l. lines_until asked.setting asked.procs p ++ l) is ∙ sym (append_assoc (lines_until asked.setting asked.procs p) (move_lines asked.setting asked.procs p m) after)
           ∙ ap (λ l. l ++ after) (sym (told-moved asked.setting asked.procs p m here.made));
       count = ap (λ k. k + line_count (move_lines asked.setting asked.procs p m)) here.count
-          ∙ sym (count-append (told_until asked.setting asked.procs p) (move_lines asked.setting asked.procs p m))
+          ∙ sym (count-append (lines_until asked.setting asked.procs p) (move_lines asked.setting asked.procs p m))
           ∙ ap line_count (sym (told-moved asked.setting asked.procs p m here.made));
       forced = forced-more (n + line_count (move_lines asked.setting asked.procs p m)) (n + 1) (after_move p m) (omega (arith, some)) forced;
     }
@@ -294,12 +294,12 @@ module _ {B : Type 0} (asked : Asked B) (bytes : List ℕ) where
         → (at : Reach) → IsReached asked at → Agree (n + line_count front + 1) bytes (text_at asked at) → ⊥
     none-in-step m due forced front more after split is closed some goes_on differs at reached agree =
         let way = forced at reached (agree-fewer (n + 1) (n + line_count front + 1) bytes (text_at asked at) (omega (arith, some)) agree) in
-        let said = told_until asked.setting asked.procs p in
+        let said = lines_until asked.setting asked.procs p in
         let z = lines_on asked.setting asked.procs (after_move p m) way.moves ++ end_of at in
         let whole : text_at asked at ≡ (said ++ front) ++ (more ++ z) =
-        ap (λ q. told_until asked.setting asked.procs q ++ end_of at) (sym way.comes)
+        ap (λ q. lines_until asked.setting asked.procs q ++ end_of at) (sym way.comes)
         ∙ ap (λ l. l ++ end_of at) (told-gone asked.setting asked.procs way.moves (after_move p m) (IsAt-moved asked.setting p m here.made due) way.due)
-        ∙ append_assoc (told_until asked.setting asked.procs (after_move p m)) (lines_on asked.setting asked.procs (after_move p m) way.moves) (end_of at)
+        ∙ append_assoc (lines_until asked.setting asked.procs (after_move p m)) (lines_on asked.setting asked.procs (after_move p m) way.moves) (end_of at)
         ∙ ap (λ l. l ++ z) (told-moved asked.setting asked.procs p m here.made ∙ ap (λ l. said ++ l) split ∙ sym (append_assoc said front more))
         ∙ append_assoc (said ++ front) more z in
         let start : bytes ≡ (said ++ front) ++ after = here.begins ∙ ap (λ l. said ++ l) is ∙ sym (append_assoc said front after) in
@@ -333,10 +333,10 @@ module _ {B : Type 0} (asked : Asked B) (bytes : List ℕ) where
         → (at : Reach) → IsReached asked at → Agree (n + line_count front + 1) bytes (text_at asked at) → ⊥
     none-in-end to reached stands front more after split is closed some differs at is_at agree =
         let same = stays-in-end to front more after split is some at is_at (agree-fewer (n + 1) (n + line_count front + 1) bytes (text_at asked at) (omega (arith, some)) agree) in
-        let said = told_until asked.setting asked.procs p in
+        let said = lines_until asked.setting asked.procs p in
         let whole : text_at asked at ≡ (said ++ front) ++ more =
-        ap (λ l. told_at asked at ++ l) (end-same asked at to is_at reached (sym same ∙ sym stands) ∙ split)
-        ∙ ap (λ (q : Moment). told_until asked.setting asked.procs q ++ (front ++ more)) (sym same)
+        ap (λ l. lines_at asked at ++ l) (end-same asked at to is_at reached (sym same ∙ sym stands) ∙ split)
+        ∙ ap (λ (q : Moment). lines_until asked.setting asked.procs q ++ (front ++ more)) (sym same)
         ∙ sym (append_assoc said front more) in
         let start : bytes ≡ (said ++ front) ++ after = here.begins ∙ ap (λ l. said ++ l) is ∙ sym (append_assoc said front after) in
         let count : n + line_count front + 1 ≡ line_count (said ++ front) + 1 = omega (arith, here.count, count-append said front) in

@@ -7,7 +7,7 @@ use Rattle.replay.proofs.LineLaws.{agree-equal, agree-shorter, common-none, comm
 use Rattle.replay.proofs.StepLines.{take-tells, tells-same}
 use Rattle.replay.specs.Next.{IsTold, NoneTold, event_in, lowest_in, take_at}
 use Rattle.replay.specs.Recorded.{Agree, IsCommon, line_count}
-use Rattle.replay.specs.Verdict.{first_given, or_else, take_text, tells_take}
+use Rattle.replay.specs.Verdict.{first_result, or_else, take_text, tells_take}
 use Rattle.replay.specs.Walk.{ClientsLeft}
 use Rattle.trace_text.specs.Lines.{ended_line}
 use Rattle.std.specs.List.{range_with_len}
@@ -15,25 +15,25 @@ use Rattle.std.specs.Prelude.{Option, nat_eq, not}
 use Rattle.std.proofs.Common.{Bool, List, None, Some, [], ap, append-nil, arith, drop, false, length, refl, subst, suc, sym, take, take-append-drop, true, zero, ℕ, ⊎_elim, ◌++◌, ◌+◌, ◌<◌, ◌∙◌, ◌∷◌, ◌≡◌, ◌≢◌, ◌≤◌}
 use Rattle.std.proofs.lemmas.Bool.{eqb-true}
 
-pub given-none : (f : ℕ → Option (List ℕ)) (a n : ℕ) → ((k : ℕ) → a ≤ k → k < a + n → f k ≡ None) → first_given f (range_with_len a n) ≡ None
+pub given-none : (f : ℕ → Option (List ℕ)) (a n : ℕ) → ((k : ℕ) → a ≤ k → k < a + n → f k ≡ None) → first_result f (range_with_len a n) ≡ None
 given-none f a zero none = refl
-given-none f a (suc n) none = ap (λ o. or_else o (first_given f (range_with_len (a + 1) n))) (none a (omega arith) (omega arith)) ∙ given-none f (a + 1) n (λ k from under. none k (omega (arith, from)) (omega (arith, under)))
+given-none f a (suc n) none = ap (λ o. or_else o (first_result f (range_with_len (a + 1) n))) (none a (omega arith) (omega arith)) ∙ given-none f (a + 1) n (λ k from under. none k (omega (arith, from)) (omega (arith, under)))
 
-pub given-some : (f : ℕ → Option (List ℕ)) (a n k : ℕ) (x : List ℕ) → a ≤ k → k < a + n → ((j : ℕ) → a ≤ j → j < k → f j ≡ None) → f k ≡ Some x → first_given f (range_with_len a n) ≡ Some x
+pub given-some : (f : ℕ → Option (List ℕ)) (a n k : ℕ) (x : List ℕ) → a ≤ k → k < a + n → ((j : ℕ) → a ≤ j → j < k → f j ≡ None) → f k ≡ Some x → first_result f (range_with_len a n) ≡ Some x
 given-some f a zero k x from under none is = absurd (omega (arith, from, under))
 given-some f a (suc n) k x from under none is = ⊎_elim
-    (λ (same : a ≡ k). ap (λ o. or_else o (first_given f (range_with_len (a + 1) n))) (ap f same ∙ is))
+    (λ (same : a ≡ k). ap (λ o. or_else o (first_result f (range_with_len (a + 1) n))) (ap f same ∙ is))
     (λ (other : a ≢ k).
-    ap (λ o. or_else o (first_given f (range_with_len (a + 1) n))) (none a (omega arith) (omega (arith, from, other)))
+    ap (λ o. or_else o (first_result f (range_with_len (a + 1) n))) (none a (omega arith) (omega (arith, from, other)))
     ∙ given-some f (a + 1) n k x (omega (arith, from, other)) (omega (arith, under)) (λ j low high. none j (omega (arith, low)) high) is)
     (same_or a k)
 
 -- ---- over clients and events, as far as they were gone over
 
-pub in-clients-none : (f : ℕ → Option (List ℕ)) (i n : ℕ) → n ≤ i → ((k : ℕ) → k < i → f k ≡ None) → first_given f (range_with_len 0 n) ≡ None
+pub in-clients-none : (f : ℕ → Option (List ℕ)) (i n : ℕ) → n ≤ i → ((k : ℕ) → k < i → f k ≡ None) → first_result f (range_with_len 0 n) ≡ None
 in-clients-none f i n all none = given-none f 0 n (λ k low under. none k (omega (arith, under, all)))
 
-pub in-clients-some : (f : ℕ → Option (List ℕ)) (i n : ℕ) (x : List ℕ) → i < n → ((k : ℕ) → k < i → f k ≡ None) → f i ≡ Some x → first_given f (range_with_len 0 n) ≡ Some x
+pub in-clients-some : (f : ℕ → Option (List ℕ)) (i n : ℕ) (x : List ℕ) → i < n → ((k : ℕ) → k < i → f k ≡ None) → f i ≡ Some x → first_result f (range_with_len 0 n) ≡ Some x
 in-clients-some f i n x under none is = given-some f 0 n i x (omega arith) (omega (arith, under)) (λ j low high. none j high) is
 
 pub on-none : (f : ℕ → Option (List ℕ)) (i : ℕ) → ((k : ℕ) → k < i → f k ≡ None) → f i ≡ None → (k : ℕ) → k < i + 1 → f k ≡ None

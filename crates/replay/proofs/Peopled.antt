@@ -4,7 +4,7 @@ use Rattle.lwp_types.specs.Case.{Case, Check, refusal_case, unless}
 use Rattle.lwp_types.specs.Choice.{choice}
 use Rattle.lwp_types.specs.CountLaws.{count-cons, one}
 use Rattle.lwp_types.specs.Lawful.{Lawful}
-use Rattle.lwp_types.specs.Names.{polled_as}
+use Rattle.lwp_types.specs.Names.{names_for_poll}
 use Rattle.lwp_types.specs.Poll.{Polled}
 use Rattle.lwp_types.specs.State.{State, all_below, is_agent, is_number, is_thread, numbers, opening_thread, passes, ThreadRow}
 use Rattle.lwp_types.specs.Step.{end_effects, step, step_by, step_if, step_outcome}
@@ -15,16 +15,16 @@ use Rattle.lwp_types.specs.declared.call.Effect.{Effect}
 use Rattle.lwp_types.specs.declared.call.Flags.{Flags}
 use Rattle.lwp_types.specs.declared.call.LwpErr.{LwpErr}
 use Rattle.pod_events.specs.Events.{EventState, after_pass_on, after_take_trap, is_takeable, is_trapped, rites_event, take_event}
-use Rattle.pod_events.specs.Rites.{after_first_report, as_rites, report_text, reports_after, rites_said}
+use Rattle.pod_events.specs.Rites.{after_first_report, as_rites, report_text, reports_after, after_rites}
 use Rattle.pod_events.specs.Step.{event_step, event_step_by, event_step_if}
-use Rattle.pod_events.specs.Traps.{after_call, after_call_as, after_machine_step, after_trap, after_trap_and_call, agent_event_of, but_call, is_catch, is_given, notice, refused_by, trap_of, trap_refusal}
+use Rattle.pod_events.specs.Traps.{after_call, after_call_as, after_machine_step, after_trap, after_trap_and_call, agent_event_of, but_call, is_catch, is_given, notice, after_refusal, trap_of, trap_refusal}
 use Rattle.pod_laws.proofs.Chosen.{chosen}
 use Rattle.pod_laws.proofs.Fading.{Fades, deliver_fades, fades_still, fades_then, step_fades}
 use Rattle.pod_laws.proofs.Opening.{Lawful-opening}
 use Rattle.pod_laws.specs.Forgotten.{IsGone, is_died}
 use Rattle.pod_runner.proofs.Plays.{IsDefined-zero, play-zero}
 use Rattle.pod_runner.specs.Session as Sessions
-use Rattle.pod_runner.specs.Session.{Live, Session, Setting, after_answer as answered_row, after_poll, after_settle, after_settle_by, move, move_by, move_row, proc_of, row_of, row_opened, rows_born, take_move, thread_in, with_row, without_row}
+use Rattle.pod_runner.specs.Session.{Live, Session, Setting, after_answer as answered_row, after_poll, after_settle, after_settle_by, move, move_by, move_row, proc_of, row_of, rows_of_new, rows_born, take_move, thread_in, with_row, without_row}
 use Rattle.pod_runner.specs.declared.session.Row.{Row}
 use Rattle.pod_runner.specs.declared.session.Took.{Took}
 use Rattle.replay.proofs.Clock.{live-call, live-take}
@@ -128,8 +128,8 @@ module _ (s : State) (t : ℕ) (u : ℕ) (turn : choice s ≡ Some t) (absent : 
       by_refusal e None = same-bears c (after_trap s trapped t c e None).effects
       by_refusal e (Some why) = same-bears c (after_trap s trapped t c e (Some why)).effects
 
-      by_agent : (b : Bool) → BearsIf s t c u (cond b (refused_by s trapped t c error.InUse) (after_machine_step trapped (step s c))).state (cond b (refused_by s trapped t c error.InUse) (after_machine_step trapped (step s c))).effects
-      by_agent true = same-bears c (refused_by s trapped t c error.InUse).effects
+      by_agent : (b : Bool) → BearsIf s t c u (cond b (after_refusal s trapped t c error.InUse) (after_machine_step trapped (step s c))).state (cond b (after_refusal s trapped t c error.InUse) (after_machine_step trapped (step s c))).effects
+      by_agent true = same-bears c (after_refusal s trapped t c error.InUse).effects
       by_agent false = λ low lives. step-bears s t c u turn absent high low lives
 
       by_trap : (o : Option ℕ) → BearsIf s t c u (after_call_as s trapped t c o).state (after_call_as s trapped t c o).effects
@@ -162,7 +162,7 @@ module _ (s : State) (t : ℕ) (u : ℕ) (turn : choice s ≡ Some t) (absent : 
       by_given false false = unborn c (call.Destroy t) _ refl
 
   -- and with the report behind it
-  said-bears : (c : Call) (after : State) (es : List Effect) (reports : List ℕ) → BearsIf s t c u after es → BearsIf s t c u (rites_said after es reports).state (rites_said after es reports).effects
+  said-bears : (c : Call) (after : State) (es : List Effect) (reports : List ℕ) → BearsIf s t c u after es → BearsIf s t c u (after_rites after es reports).state (after_rites after es reports).effects
   said-bears c after es reports h = by_armed (is_event_armed after rites_event) reports
     where
       lived : (b : Bool) (text : List ℕ) → is_thread after u ≡ b → u < (deliver after rites_event text).after.births → is_thread (deliver after rites_event text).after u ≡ true → is_thread after u ≡ true
@@ -224,7 +224,7 @@ keeps_made u s trapped t c = by_trap (trap_of c)
     by_refusal e None = keeps_still u s
     by_refusal e (Some why) = keeps_still u s
 
-    by_agent : (b : Bool) → Keeps u s (cond b (refused_by s trapped t c error.InUse) (after_machine_step trapped (step s c))).state
+    by_agent : (b : Bool) → Keeps u s (cond b (after_refusal s trapped t c error.InUse) (after_machine_step trapped (step s c))).state
     by_agent true = keeps_still u s
     by_agent false = keeps_step u s c
 
@@ -241,7 +241,7 @@ keeps_called u s trapped t c (Some e) = by_given (passes is_given (notice s t e)
     by_given false true = keeps_step u s (call.ExcNotify e)
     by_given false false = keeps_step u s (call.Destroy t)
 
-keeps_said : (u : ℕ) (s : State) (es : List Effect) (reports : List ℕ) → Keeps u s (rites_said s es reports).state
+keeps_said : (u : ℕ) (s : State) (es : List Effect) (reports : List ℕ) → Keeps u s (after_rites s es reports).state
 keeps_said u s es reports = by_armed (is_event_armed s rites_event) reports
   where
     by_armed : (b : Bool) (rs : List ℕ) → Keeps u s (cond b (after_first_report s es rs) (record { state = s; reports = rs; effects = es })).state
@@ -341,8 +341,8 @@ module _ {B : Type 0} where
   row_born : (bodies : List B) (number : ℕ) (body : B) (t u : ℕ) (before rest : List Effect) (rows : List (Row B)) → slice_get bodies number ≡ Some body → count_by (is_died u) (before ++ effect.Answered t (answer.Thread u) ∷ rest) ≡ 0
       → is_some (row_of u (after_settle bodies (Some number) (before ++ effect.Answered t (answer.Thread u) ∷ rest) rows)) ≡ true
   row_born bodies number body t u [] rest rows is none =
-      row_settled bodies (Some number) rest (answered_row t (answer.Thread u) rows ++ row_opened u (slice_get bodies number)) u (omega (arith, none, count-cons (is_died u) (effect.Answered t (answer.Thread u)) rest))
-      (subst (λ o. is_some (row_of u (answered_row t (answer.Thread u) rows ++ row_opened u o)) ≡ true) (sym is) (row_last u (answered_row t (answer.Thread u) rows) _ refl))
+      row_settled bodies (Some number) rest (answered_row t (answer.Thread u) rows ++ rows_of_new u (slice_get bodies number)) u (omega (arith, none, count-cons (is_died u) (effect.Answered t (answer.Thread u)) rest))
+      (subst (λ o. is_some (row_of u (answered_row t (answer.Thread u) rows ++ rows_of_new u o)) ≡ true) (sym is) (row_last u (answered_row t (answer.Thread u) rows) _ refl))
   row_born bodies number body t u (e ∷ before) rest rows is none =
       row_born bodies number body t u before rest (after_settle_by bodies (Some number) e rows) is (omega (arith, none, count-cons (is_died u) e (before ++ effect.Answered t (answer.Thread u) ∷ rest)))
 
@@ -417,7 +417,7 @@ module _ {B : Type 0} (setting : Setting B) where
     where
       by_row : (t : ℕ) (o : Option (Row B)) → choice live.pod.state ≡ Some t → Peopled bodies (move_row setting.next bodies live t o).live
       by_row t None turn = was
-      by_row t (Some row) turn = peopled_called live t (setting.next row.body (polled_as t live.names) row.answer) turn was
+      by_row t (Some row) turn = peopled_called live t (setting.next row.body (names_for_poll t live.names) row.answer) turn was
 
       by_choice : (o : Option ℕ) → choice live.pod.state ≡ o → Peopled bodies (move_by setting.next bodies live o).live
       by_choice None turn = was
@@ -454,7 +454,7 @@ module _ {B : Type 0} (setting : Setting B) where
         record {
           lawful = Lawful-opening setting.params fit.least fit.most;
           procs = sym fit.bodies;
-          rows = λ u lives. subst (λ o. is_some (row_of u (row_opened 0 o)) ≡ true) (sym first.1) (alone u first.0 (0 == u) lives);
+          rows = λ u lives. subst (λ o. is_some (row_of u (rows_of_new 0 o)) ≡ true) (sym first.1) (alone u first.0 (0 == u) lives);
         }
       where
         first_row : B → Row B
@@ -490,7 +490,7 @@ speaks {B} asked fit p made due =
     by_row : (t : ℕ) (o : Option (Row B)) → choice live.pod.state ≡ Some t → is_some o ≡ true → FirstSpoken (move_row asked.setting.next asked.setting.bodies live t o).effects
     by_row t None turn some = absurd (cc)
     by_row t (Some row) turn some =
-        spoken_in t (asked.setting.next row.body (polled_as t live.names) row.answer) turn
+        spoken_in t (asked.setting.next row.body (names_for_poll t live.names) row.answer) turn
 
     by_choice : (o : Option ℕ) → choice live.pod.state ≡ o → is_some o ≡ true → FirstSpoken (move_by asked.setting.next asked.setting.bodies live o).effects
     by_choice None turn some = absurd (cc)

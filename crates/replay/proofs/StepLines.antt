@@ -12,9 +12,9 @@ use Rattle.lwp_types.specs.declared.call.Line.{Line}
 use Rattle.lwp_types.specs.declared.call.LwpErr.{LwpErr}
 use Rattle.lwp_types.specs.declared.rows.AgentRow.{AgentRow}
 use Rattle.pod_events.specs.Events.{EventState, after_pass_on, after_take_trap, is_takeable, is_trapped, may_trap, rites_event, take_event}
-use Rattle.pod_events.specs.Rites.{after_first_report, as_rites, report_text, reports_after, rites_said}
+use Rattle.pod_events.specs.Rites.{after_first_report, as_rites, report_text, reports_after, after_rites}
 use Rattle.pod_events.specs.Step.{event_step, event_step_by, event_step_if}
-use Rattle.pod_events.specs.Traps.{after_call_as, after_machine_step, after_trap, after_trap_and_call, agent_event_of, refused_by, trap_of, trap_refusal}
+use Rattle.pod_events.specs.Traps.{after_call_as, after_machine_step, after_trap, after_trap_and_call, agent_event_of, after_refusal, trap_of, trap_refusal}
 use Rattle.replay.proofs.Digits.{decimal-no-line, number-split}
 use Rattle.replay.proofs.LineLaws.{agree-behind, agree-head, closes-both, closes-line, count-append, head_of}
 use Rattle.replay.specs.Recorded.{Agree, closes, first_lines, is_newline, line_count}
@@ -196,7 +196,7 @@ called-first s trapped t c None is = by_trap (trap_of c)
     by_refusal e None = record { first = effect.Called t c; rest = _; are = refl; spoken = refl }
     by_refusal e (Some why) = record { first = effect.Called t c; rest = _; are = refl; spoken = refl }
 
-    by_agent : (b : Bool) → FirstSpoken (cond b (refused_by s trapped t c error.InUse) (after_machine_step trapped (step s c))).effects
+    by_agent : (b : Bool) → FirstSpoken (cond b (after_refusal s trapped t c error.InUse) (after_machine_step trapped (step s c))).effects
     by_agent true = record { first = effect.Called t c; rest = _; are = refl; spoken = refl }
     by_agent false = let w = step-called s t c is in record { first = effect.Called t c; rest = w.0; are = w.1; spoken = refl }
 
@@ -205,7 +205,7 @@ called-first s trapped t c None is = by_trap (trap_of c)
     by_trap (Some e) = by_refusal e (trap_refusal s trapped e)
 
 -- a report comes behind it
-said-first : (s : State) (es : List Effect) (reports : List ℕ) → FirstSpoken es → FirstSpoken (rites_said s es reports).effects
+said-first : (s : State) (es : List Effect) (reports : List ℕ) → FirstSpoken es → FirstSpoken (after_rites s es reports).effects
 said-first s es reports h = by_armed (is_event_armed s rites_event) reports
   where
     by_armed : (b : Bool) (rs : List ℕ) → FirstSpoken (cond b (after_first_report s es rs) (record { state = s; reports = rs; effects = es })).effects

@@ -15,7 +15,7 @@ use Rattle.replay.specs.Asked.{Asked, IsReached, Reach, end_by, halt_at, pairs_o
 use Rattle.replay.specs.Recorded.{Agree, first_lines, line_count}
 use Rattle.replay.specs.Next.{without_next}
 use Rattle.replay.specs.Verdict.{IsSame}
-use Rattle.replay.specs.Walk.{AreLeft, ClientsLeft, Due, Forced, Going, IsFit, IsLast, IsNext, Moment, Move, Speaks, Stands, after_move, count_of, first_moment, move_lines, ticks_after, told_until, took_at}
+use Rattle.replay.specs.Walk.{AreLeft, ClientsLeft, Due, Forced, Going, IsFit, IsLast, IsNext, Moment, Move, Speaks, Stands, after_move, count_of, first_moment, move_lines, ticks_after, lines_until, took_at}
 use Rattle.trace_text.specs.declared.ends.Halt.{Halt}
 use Rattle.std.specs.Prelude.{slice_index_or, set}
 use Rattle.std.proofs.Common.{List, None, Some, [], ap, append-nil, arith, drop, drop-drop, get_or, get_or-set_other, get_or-set_same, inl, length, length-set, refl, slice_get, subst, sym, take, take-add, take-append-drop, ℕ, ⊎_elim, ◌++◌, ◌+◌, ◌<◌, ◌∙◌, ◌∷◌, ◌≡◌, ◌≢◌, ◌≤◌}
@@ -82,8 +82,8 @@ module _ {B : Type 0} (asked : Asked B) (bytes : List ℕ) where
       same = ap (first_lines 1) is ∙ first-append 1 w more some ∙ sym (ap (first_lines 1) (append-nil w));
     }
 
-    said-on : (m : Move) (w : List ℕ) → w ≡ lines_of_move m → take (length w) rest ≡ w → take (at + length w) bytes ≡ told_until asked.setting asked.procs (after_move p m)
-    said-on m w is front = take-add at (length w) bytes ∙ ap (λ l. l ++ take (length w) rest) here.said ∙ ap (λ l. told_until asked.setting asked.procs p ++ l) (front ∙ is) ∙ sym (told-moved asked.setting asked.procs p m here.stands.made)
+    said-on : (m : Move) (w : List ℕ) → w ≡ lines_of_move m → take (length w) rest ≡ w → take (at + length w) bytes ≡ lines_until asked.setting asked.procs (after_move p m)
+    said-on m w is front = take-add at (length w) bytes ∙ ap (λ l. l ++ take (length w) rest) here.said ∙ ap (λ l. lines_until asked.setting asked.procs p ++ l) (front ∙ is) ∙ sym (told-moved asked.setting asked.procs p m here.stands.made)
 
     stands-by : (m : Move) (w : List ℕ) → w ≡ lines_of_move m → take (length w) rest ≡ w → Due asked.setting p m → 1 ≤ line_count w → Forced asked bytes (n + 1) (after_move p m) → Stands asked bytes (n + line_count w) (after_move p m) (drop (at + length w) bytes)
     stands-by m w is front due some forced =
@@ -176,7 +176,7 @@ module _ {B : Type 0} (asked : Asked B) (bytes : List ℕ) where
         reached = here.reached;
         halt = h;
         over = over;
-        whole = here.stands.begins ∙ ap (λ l. told_until asked.setting asked.procs p ++ l) (all ∙ is ∙ ap (end_by asked (at_moment p here.left)) (sym over));
+        whole = here.stands.begins ∙ ap (λ l. lines_until asked.setting asked.procs p ++ l) (all ∙ is ∙ ap (end_by asked (at_moment p here.left)) (sym over));
       };
       count = refl;
     }

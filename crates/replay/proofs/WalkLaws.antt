@@ -18,13 +18,13 @@ use Rattle.replay.proofs.Moves.{told-moved}
 use Rattle.replay.proofs.StepLines.{closes-step}
 use Rattle.replay.proofs.Steps.{forced-by, going-call, going-take, left-next, reached-call, reached-take}
 use Rattle.replay.specs.Asked.{Asked, IsReached, Reach}
-use Rattle.replay.specs.Following.{Following, told_in}
+use Rattle.replay.specs.Following.{Following, bytes_told}
 use Rattle.replay.specs.Next.{IsTold, NoneTold, event_in, lowest_in, take_at, take_in, without_next}
 use Rattle.replay.specs.Recorded.{Agree, IsCommon, closes, is_ended, is_newline, line_count, next_line}
 use Rattle.replay.specs.Replayed.{Says}
 use Rattle.replay.specs.Says.{ComparedBy, DiffersBy, IsDifference}
-use Rattle.replay.specs.Verdict.{IsOther, call_lines, first_given, lowest_take, next_lines, take_by, take_of, tells_take}
-use Rattle.replay.specs.Walk.{AreLeft, ClientsLeft, Due, Forced, Going, IsFit, IsNext, Moment, Move, Speaks, after_move, moment, move_effects, move_lines, session_of, ticks_after, told_until}
+use Rattle.replay.specs.Verdict.{IsOther, call_lines, first_result, lowest_take, next_lines, take_by, take_of, tells_take}
+use Rattle.replay.specs.Walk.{AreLeft, ClientsLeft, Due, Forced, Going, IsFit, IsNext, Moment, Move, Speaks, after_move, moment, move_effects, move_lines, session_of, ticks_after, lines_until}
 use Rattle.replay.specs.declared.stepping.Difference.{Difference}
 use Rattle.replay.specs.declared.verdict.Verdict.{Verdict}
 use Rattle.std.specs.List.{range_with_len}
@@ -55,7 +55,7 @@ module _ {B : Type 0} (asked : Asked B) (p : Moment) (lines : ClientsLeft) (left
   abbrev now : ℕ
   now = (session_of asked.setting p).live.pod.state.now
 
-  given-same : (f g : ℕ → Option (List ℕ)) (a n : ℕ) → ((k : ℕ) → k < a + n → f k ≡ g k) → first_given f (range_with_len a n) ≡ first_given g (range_with_len a n)
+  given-same : (f g : ℕ → Option (List ℕ)) (a n : ℕ) → ((k : ℕ) → k < a + n → f k ≡ g k) → first_result f (range_with_len a n) ≡ first_result g (range_with_len a n)
   given-same f g a zero alike = refl
   given-same f g a (suc n) alike = rw (alike a (omega arith), given-same f g (a + 1) n (λ k low. alike k (omega (arith, low)))) refl
 
@@ -64,9 +64,9 @@ module _ {B : Type 0} (asked : Asked B) (p : Moment) (lines : ClientsLeft) (left
 
   event-same : (e : ℕ) → take_at lines (session_of asked.setting p).live.pod e ≡ take_of asked here_at e
   event-same e = ap (λ o. if is_takeable (session_of asked.setting p).live.pod e then o else None)
-      (given-same (take_in lines now e) (take_by asked now left e) 0 (length lines.clients) (λ k low. take-same e k (omega (arith, low))) ∙ ap (λ cs. first_given (take_by asked now left e) (range_with_len 0 (length cs))) same)
+      (given-same (take_in lines now e) (take_by asked now left e) 0 (length lines.clients) (λ k low. take-same e k (omega (arith, low))) ∙ ap (λ cs. first_result (take_by asked now left e) (range_with_len 0 (length cs))) same)
 
-  events-same : (es : List ℕ) → first_given (take_at lines (session_of asked.setting p).live.pod) es ≡ first_given (take_of asked here_at) es
+  events-same : (es : List ℕ) → first_result (take_at lines (session_of asked.setting p).live.pod) es ≡ first_result (take_of asked here_at) es
   events-same [] = refl
   events-same (e ∷ es) = rw (event-same e, events-same es) refl
 
@@ -109,13 +109,13 @@ module _ {B : Type 0} (asked : Asked B) (fit : IsFit asked) (speaks : Speaks ask
   lines_of m = move_lines asked.setting asked.procs p m
 
   abbrev Wrote : Move → Type 0
-  Wrote m = Writes (Some (told_in f0)) (Some (told_in f1)) (told_until asked.setting asked.procs p) (told_until asked.setting asked.procs (after_move p m))
+  Wrote m = Writes (Some (bytes_told f0)) (Some (bytes_told f1)) (lines_until asked.setting asked.procs p) (lines_until asked.setting asked.procs (after_move p m))
 
-  keeps : (m : Move) → Wrote m → Kept f0 f1 (told_until asked.setting asked.procs (after_move p m))
-  keeps m wrote = kept f0 f1 (told_until asked.setting asked.procs p) (told_until asked.setting asked.procs (after_move p m)) clean here.said wrote
+  keeps : (m : Move) → Wrote m → Kept f0 f1 (lines_until asked.setting asked.procs (after_move p m))
+  keeps m wrote = kept f0 f1 (lines_until asked.setting asked.procs p) (lines_until asked.setting asked.procs (after_move p m)) clean here.said wrote
 
   step-is : (m : Move) → Wrote m → f1.step ≡ lines_of m
-  step-is m wrote = cut (told_until asked.setting asked.procs p) f1.step (lines_of m)
+  step-is m wrote = cut (lines_until asked.setting asked.procs p) f1.step (lines_of m)
       (ap (λ l. l ++ f1.step) (sym here.said) ∙ (keeps m wrote).told ∙ told-moved asked.setting asked.procs p m here.stands.made)
 
   front-is : (m : Move) → Wrote m → take (length f1.step) (drop f1.at f1.recorded) ≡ f1.step → take (length f1.step) rest ≡ f1.step

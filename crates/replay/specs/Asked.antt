@@ -53,12 +53,12 @@ abbrev pub session_at : {B : Type 0} → Asked B → Reach → Session B
 session_at asked at = play asked.setting at.takes at.calls
 
 -- the lines of its steps
-abbrev pub told_at : {B : Type 0} → Asked B → Reach → List ℕ
-told_at asked at = lines asked.procs (session_at asked at).steps
+abbrev pub lines_at : {B : Type 0} → Asked B → Reach → List ℕ
+lines_at asked at = lines asked.procs (session_at asked at).steps
 
 -- the same without those of its last step
-abbrev pub told_before : {B : Type 0} → Asked B → Reach → List ℕ
-told_before asked at = lines asked.procs (but_last (session_at asked at).steps)
+abbrev pub lines_before : {B : Type 0} → Asked B → Reach → List ℕ
+lines_before asked at = lines asked.procs (but_last (session_at asked at).steps)
 
 -- how it has ended, if it has
 abbrev pub halt_at : {B : Type 0} → Asked B → Reach → Option Halt
@@ -71,7 +71,7 @@ end_by asked at (Some halt) = end_text asked.turns (counts_from 0 asked.clients 
 
 -- all that it has told
 abbrev pub text_at : {B : Type 0} → Asked B → Reach → List ℕ
-text_at asked at = told_at asked at ++ end_by asked at (halt_at asked at)
+text_at asked at = lines_at asked at ++ end_by asked at (halt_at asked at)
 
 -- the bytes are the trace of the session that is so far, and is over
 pub record IsTraceAt {B : Type 0} (asked : Asked B) (at : Reach) (bytes : List ℕ) : Type 0 where

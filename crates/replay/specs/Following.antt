@@ -16,8 +16,8 @@ abbrev pub front_of : Following → List ℕ
 front_of f = length f.recorded ∷ f.at ∷ f.lines ∷ f.ticks ∷ f.recorded
 
 -- that, and then all that was told; so whoever writes more of it is known to leave the front as it was
-abbrev pub told_in : Following → List ℕ
-told_in f = front_of f ++ (take f.at f.recorded ++ f.step)
+abbrev pub bytes_told : Following → List ℕ
+bytes_told f = front_of f ++ (take f.at f.recorded ++ f.step)
 
 -- what was recorded doesn't begin with these bytes
 abbrev pub Departs : List ℕ → List ℕ → Type 0

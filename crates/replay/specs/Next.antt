@@ -5,7 +5,7 @@ use Rattle.pod_events.specs.Events.{EventState, is_takeable}
 use Rattle.pod_runner.specs.Over.{events}
 use Rattle.pod_runner.specs.Phase.{phase_of, phase_of_halt}
 use Rattle.replay.specs.Recorded.{Agree}
-use Rattle.replay.specs.Verdict.{first_given, take_lines, take_text, tells_take}
+use Rattle.replay.specs.Verdict.{first_result, take_lines, take_text, tells_take}
 use Rattle.replay.specs.Walk.{ClientsLeft}
 use Rattle.replay.specs.declared.replaying.Next.{Next}
 use Rattle.replay.specs.declared.replaying.TakeTold.{TakeTold}
@@ -59,11 +59,11 @@ take_in lines now e c = if event_in lines c == e then take_lines now e (next_in 
 
 -- that of the lowest client of an event of which a line can be taken
 abbrev pub take_at : ClientsLeft → EventState → ℕ → Option (List ℕ)
-take_at lines pod e = if is_takeable pod e then first_given (take_in lines pod.state.now e) (range_with_len 0 (length lines.clients)) else None
+take_at lines pod e = if is_takeable pod e then first_result (take_in lines pod.state.now e) (range_with_len 0 (length lines.clients)) else None
 
 -- that of the lowest event
 abbrev pub lowest_in : ClientsLeft → EventState → Option (List ℕ)
-lowest_in lines pod = first_given (take_at lines pod) events
+lowest_in lines pod = first_result (take_at lines pod) events
 
 -- no take is told, and how it goes on by where the session stands
 abbrev pub Goes : ClientsLeft → EventState → ℕ → ℕ → List ℕ → Next → Type 0

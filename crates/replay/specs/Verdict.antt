@@ -7,7 +7,7 @@ use Rattle.pod_events.specs.Events.{is_takeable}
 use Rattle.pod_runner.specs.Over.{events}
 use Rattle.pod_runner.specs.Session.{move}
 use Rattle.pod_runner.specs.declared.session.Took.{Took}
-use Rattle.replay.specs.Asked.{Asked, IsReached, IsTrace, IsTraceAt, Reach, halt_at, session_at, text_at, told_at, told_before}
+use Rattle.replay.specs.Asked.{Asked, IsReached, IsTrace, IsTraceAt, Reach, halt_at, session_at, text_at, lines_at, lines_before}
 use Rattle.replay.specs.Recorded.{Agree, behind_lines, is_ended, line_count, next_line}
 use Rattle.trace_text.specs.Lines.{ended_line, step_lines, taken_text, ticked_text}
 use Rattle.trace_text.specs.declared.ends.Halt.{Halt}
@@ -30,7 +30,7 @@ pub record IsFollowed {B : Type 0} (asked : Asked B) (bytes : List ℕ) (n : ℕ
   pub reached : IsReached asked at
   pub agree : Agree n bytes (text_at asked at)
   -- each step has its first line among them
-  pub last : (session_at asked at).steps ≡ [] ⊎ (line_count (told_before asked at) < n)
+  pub last : (session_at asked at).steps ≡ [] ⊎ (line_count (lines_before asked at) < n)
 
 -- some line, or else another
 abbrev pub or_else : Option (List ℕ) → Option (List ℕ) → Option (List ℕ)
@@ -56,9 +56,9 @@ abbrev pub take_by : {B : Type 0} → Asked B → ℕ → List Line → ℕ → 
 take_by asked now left e c = if event_of asked.clients c == e then take_lines now e (next_of c left) else None
 
 -- what this gives first, if it gives anything, from a number on
-abbrev pub first_given : (ℕ → Option (List ℕ)) → List ℕ → Option (List ℕ)
-first_given f [] = None
-first_given f (n ∷ ns) = or_else (f n) (first_given f ns)
+abbrev pub first_result : (ℕ → Option (List ℕ)) → List ℕ → Option (List ℕ)
+first_result f [] = None
+first_result f (n ∷ ns) = or_else (f n) (first_result f ns)
 
 -- the pod's clock has ticked so often
 abbrev pub now_at : {B : Type 0} → Asked B → Reach → ℕ
@@ -66,11 +66,11 @@ now_at asked at = (session_at asked at).live.pod.state.now
 
 -- of an event of which a line can be taken, that of its lowest client that has one left
 abbrev pub take_of : {B : Type 0} → Asked B → Reach → ℕ → Option (List ℕ)
-take_of asked at e = if is_takeable (session_at asked at).live.pod e then first_given (take_by asked (now_at asked at) at.left e) (range_with_len 0 (length asked.clients)) else None
+take_of asked at e = if is_takeable (session_at asked at).live.pod e then first_result (take_by asked (now_at asked at) at.left e) (range_with_len 0 (length asked.clients)) else None
 
 -- that of the lowest event of which a line can be taken, and that has one left
 abbrev pub lowest_take : {B : Type 0} → Asked B → Reach → Option (List ℕ)
-lowest_take asked at = first_given (take_of asked at) events
+lowest_take asked at = first_result (take_of asked at) events
 
 -- the lines of the next call step
 abbrev pub call_lines : {B : Type 0} → Asked B → Reach → List ℕ
@@ -101,7 +101,7 @@ want_between asked at n rest None = next_line (next_lines asked at rest)
 
 -- the line that was to come behind the first n, where these bytes were recorded behind them: in the midst of a step its next line
 abbrev pub want_at : {B : Type 0} → Asked B → Reach → ℕ → List ℕ → Option (List ℕ)
-want_at asked at n rest = or_else (next_line (behind_lines n (told_at asked at))) (want_between asked at n rest (halt_at asked at))
+want_at asked at n rest = or_else (next_line (behind_lines n (lines_at asked at))) (want_between asked at n rest (halt_at asked at))
 
 -- ---- the verdict
 

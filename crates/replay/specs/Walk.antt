@@ -68,8 +68,8 @@ module _ {B : Type 0} (setting : Setting B) where
 
 module _ {B : Type 0} (setting : Setting B) (procs : List (List ℕ)) where
   -- the lines told until then
-  abbrev pub told_until : Moment → List ℕ
-  told_until at = lines procs (session_of setting at).steps
+  abbrev pub lines_until : Moment → List ℕ
+  lines_until at = lines procs (session_of setting at).steps
 
   -- the effects of the next step
   abbrev pub move_effects : Moment → Move → List Effect
@@ -129,8 +129,8 @@ Forced asked bytes n p = (at : Reach) → IsReached asked at → Agree n bytes (
 -- the recorded lines begin with those that are told until this moment, and no other session does
 pub record Stands {B : Type 0} (asked : Asked B) (bytes : List ℕ) (n : ℕ) (p : Moment) (rest : List ℕ) : Type 0 where
   pub made : IsAt asked.setting p
-  pub begins : bytes ≡ told_until asked.setting asked.procs p ++ rest
-  pub count : n ≡ line_count (told_until asked.setting asked.procs p)
+  pub begins : bytes ≡ lines_until asked.setting asked.procs p ++ rest
+  pub count : n ≡ line_count (lines_until asked.setting asked.procs p)
   pub forced : Forced asked bytes n p
 
 -- each step has told its first line by then
@@ -159,6 +159,6 @@ pub record Going {B : Type 0} (asked : Asked B) (bytes : List ℕ) (p : Moment) 
   pub same_clients : clients.clients ≡ asked.clients
   pub kept : AreLeft clients left
   pub stands : Stands asked bytes n p (drop at bytes)
-  pub said : take at bytes ≡ told_until asked.setting asked.procs p
+  pub said : take at bytes ≡ lines_until asked.setting asked.procs p
   pub last : IsLast asked p n
   pub clock : (session_of asked.setting p).live.pod.state.now ≡ ticks

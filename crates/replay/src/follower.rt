@@ -1,7 +1,7 @@
 // A sink for the lines of a run, which are compared with what was recorded.
 ghost use Rattle.std.specs.Prelude.{◌≡◌, ◌<◌, ◌≤◌, ◌++◌, ◌+◌, [], IfOk, MatchBool, None, OnErr, Some, drop, length, take};
 ghost use Rattle.lwp_types.specs.Streams.{HasCause, after_append};
-ghost use Rattle.replay.specs.Following.{Departs, told_in};
+ghost use Rattle.replay.specs.Following.{Departs, bytes_told};
 ghost use Rattle.replay.specs.Says.{ComparedBy};
 ghost use Rattle.replay.specs.Walk.{ticks_after};
 
@@ -123,9 +123,9 @@ impl<'b> Follower<'b> {
 
 impl<'b> Sink for Follower<'b> {
     ghost use Rattle.std.specs.Prelude.{Some};
-    ghost use Rattle.replay.specs.Following.{told_in};
+    ghost use Rattle.replay.specs.Following.{bytes_told};
 
-    ghost written = { λ f. Some (told_in f) };
+    ghost written = { λ f. Some (bytes_told f) };
 
     ghost faults = { λ f. f.faults };
 
@@ -134,8 +134,8 @@ impl<'b> Sink for Follower<'b> {
         ensures some { IfOk result (λ n. 0 < length bytes.now → 0 < n) }
         ensures ok { IfOk result
             (λ n.
-            Some (told_in self.new) ≡ after_append (Some (told_in self.old)) (take n bytes.now)) }
-        ensures err { OnErr result (Some (told_in self.new) ≡ Some (told_in self.old)) }
+            Some (bytes_told self.new) ≡ after_append (Some (bytes_told self.old)) (take n bytes.now)) }
+        ensures err { OnErr result (Some (bytes_told self.new) ≡ Some (bytes_told self.old)) }
         ensures cause { HasCause self.old.faults self.new.faults result }
         // It only makes the step longer.
         ensures recorded { self.new.recorded ≡ self.old.recorded }

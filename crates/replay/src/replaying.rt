@@ -1,7 +1,7 @@
 // The recorded lines are followed, step by step.
 ghost use Rattle.pod_runner.specs.Run.{session_of};
 ghost use Rattle.replay.specs.Next.{Goes, NoneTold, ToldBy, ToldOf, lowest_in, take_at, take_in};
-ghost use Rattle.replay.specs.Verdict.{first_given};
+ghost use Rattle.replay.specs.Verdict.{first_result};
 ghost use Rattle.std.specs.List.{range_with_len};
 ghost use Rattle.std.specs.Prelude.{IfOk, false, length, option_map, ◌<◌, ◌≡◌, ◌≤◌};
 
@@ -126,7 +126,7 @@ fn lowest_of<'s, C: Posted<'s>>(
     ensures { IfOk result
         (λ line.
         option_map (λ v. v.items) line
-        ≡ first_given (take_in (C.lines lines.now) ticks event)
+        ≡ first_result (take_in (C.lines lines.now) ticks event)
         (range_with_len 0 (length (C.lines lines.now).clients))) }
 {
     for client in 0..lines.clients() {

@@ -9,7 +9,7 @@ use Rattle.script_advice.specs.declared.ahead.Ahead.{Ahead}
 use Rattle.script_advice.specs.declared.sets.Sets.{Sets}
 use Rattle.script_advice.specs.declared.texts.Format.{Format}
 use Rattle.script_advice.specs.declared.way.Way.{Way}
-use Rattle.script_advice.specs.Doubts.{ahead_of, ahead_told, are_some, doubts_from, doubts_told, keeping, keeps, no_ahead, way_told}
+use Rattle.script_advice.specs.Doubts.{ahead_of, ahead_after_line, are_some, doubts_from, with_doubts, keeping, keeps, no_ahead, way_after_line}
 use Rattle.script_advice.specs.Remarks.{Remark}
 use Rattle.script_advice.specs.Texts.{remarks_text}
 use Rattle.std.specs.Prelude.{◌||◌}
@@ -84,18 +84,18 @@ last_behind text lines after front line e f g h =
 
 -- ---- One line more at the end.
 
-pub ahead_last : (a : Ahead) (ls : List (List ℕ)) (line : List ℕ) → ahead_of a (ls ++ line ∷ []) ≡ ahead_of (ahead_told (phrase_at line) a) ls
+pub ahead_last : (a : Ahead) (ls : List (List ℕ)) (line : List ℕ) → ahead_of a (ls ++ line ∷ []) ≡ ahead_of (ahead_after_line (phrase_at line) a) ls
 ahead_last a [] line = refl
-ahead_last a (l ∷ ls) line = ap (ahead_told (phrase_at l)) (ahead_last a ls line)
+ahead_last a (l ∷ ls) line = ap (ahead_after_line (phrase_at l)) (ahead_last a ls line)
 
-pub keeping_last : (a : Ahead) (ls : List (List ℕ)) (line : List ℕ) → keeping a (ls ++ line ∷ []) ≡ keeps a (phrase_at line) ∷ keeping (ahead_told (phrase_at line) a) ls
+pub keeping_last : (a : Ahead) (ls : List (List ℕ)) (line : List ℕ) → keeping a (ls ++ line ∷ []) ≡ keeps a (phrase_at line) ∷ keeping (ahead_after_line (phrase_at line) a) ls
 keeping_last a [] line = refl
 keeping_last a (l ∷ ls) line = rw (keeping_last a ls line, ahead_last a ls line) refl
 
 -- the last line is noted, and stands ahead of those before it
-pub kept_step : (kept new : List Bool) (a ahead : Ahead) (lines front : List (List ℕ)) (line : List ℕ) (all : List Bool) → kept ++ keeping a lines ≡ all → lines ≡ front ++ line ∷ [] → ahead ≡ ahead_told (phrase_at line) a → new ≡ kept ++ keeps a (phrase_at line) ∷ [] → new ++ keeping ahead front ≡ all
+pub kept_step : (kept new : List Bool) (a ahead : Ahead) (lines front : List (List ℕ)) (line : List ℕ) (all : List Bool) → kept ++ keeping a lines ≡ all → lines ≡ front ++ line ∷ [] → ahead ≡ ahead_after_line (phrase_at line) a → new ≡ kept ++ keeps a (phrase_at line) ∷ [] → new ++ keeping ahead front ≡ all
 kept_step kept new a ahead lines front line all i e f g =
-    let next = ahead_told (phrase_at line) a in
+    let next = ahead_after_line (phrase_at line) a in
     rw (f, g) (append_assoc kept (keeps a (phrase_at line) ∷ []) (keeping next front) ∙ sym (ap (λ (l : List Bool). kept ++ l) (ap (keeping a) e ∙ keeping_last a front line)) ∙ i)
 
 -- ---- The walk over the lines.
@@ -104,25 +104,25 @@ pub lines_are : (c : Cut) (line : List ℕ) (lines : List (List ℕ)) (tail : Li
 lines_are c line lines tail e = ap (λ (x : Cut). x.0) e
 
 pub walk_told : (f : Format) (s : Sets) (way next : Way) (n number left fewer : ℕ) (kept : Bool) (line : List ℕ) (lines ended : List (List ℕ)) (out new all : List ℕ) →
-    ended ≡ line ∷ lines → kept ≡ keeps (ahead_of no_ahead lines) (phrase_at line) → next ≡ way_told way (phrase_at line) → number ≡ suc n →
-    ((others : List Remark) → out ++ remarks_text f (take left (doubts_told s way kept n line (phrase_at line) others)) ≡ new ++ remarks_text f (take fewer others)) →
+    ended ≡ line ∷ lines → kept ≡ keeps (ahead_of no_ahead lines) (phrase_at line) → next ≡ way_after_line way (phrase_at line) → number ≡ suc n →
+    ((others : List Remark) → out ++ remarks_text f (take left (with_doubts s way kept n line (phrase_at line) others)) ≡ new ++ remarks_text f (take fewer others)) →
     out ++ remarks_text f (take left (doubts_from s way n ended)) ≡ all →
     new ++ remarks_text f (take fewer (doubts_from s next number lines)) ≡ all
 walk_told f s way next n number left fewer kept line lines ended out new all e k w m step i =
-    let others : List Remark = doubts_from s (way_told way (phrase_at line)) (suc n) lines in
+    let others : List Remark = doubts_from s (way_after_line way (phrase_at line)) (suc n) lines in
     rw (w, m) (sym (step others)
-    ∙ ap (λ (b : Bool). out ++ remarks_text f (take left (doubts_told s way b n line (phrase_at line) others))) k
+    ∙ ap (λ (b : Bool). out ++ remarks_text f (take left (with_doubts s way b n line (phrase_at line) others))) k
     ∙ sym (ap (λ (l : List (List ℕ)). out ++ remarks_text f (take left (doubts_from s way n l))) e)
     ∙ i)
 
 pub walk_any : (s : Sets) (way next : Way) (n number : ℕ) (any more kept : Bool) (line : List ℕ) (lines ended : List (List ℕ)) (all : Bool) →
-    ended ≡ line ∷ lines → kept ≡ keeps (ahead_of no_ahead lines) (phrase_at line) → next ≡ way_told way (phrase_at line) → number ≡ suc n →
-    ((others : List Remark) → (any || are_some (doubts_told s way kept n line (phrase_at line) others)) ≡ (more || are_some others)) →
+    ended ≡ line ∷ lines → kept ≡ keeps (ahead_of no_ahead lines) (phrase_at line) → next ≡ way_after_line way (phrase_at line) → number ≡ suc n →
+    ((others : List Remark) → (any || are_some (with_doubts s way kept n line (phrase_at line) others)) ≡ (more || are_some others)) →
     (any || are_some (doubts_from s way n ended)) ≡ all →
     (more || are_some (doubts_from s next number lines)) ≡ all
 walk_any s way next n number any more kept line lines ended all e k w m step i =
-    let others : List Remark = doubts_from s (way_told way (phrase_at line)) (suc n) lines in
+    let others : List Remark = doubts_from s (way_after_line way (phrase_at line)) (suc n) lines in
     rw (w, m) (sym (step others)
-    ∙ ap (λ (b : Bool). any || are_some (doubts_told s way b n line (phrase_at line) others)) k
+    ∙ ap (λ (b : Bool). any || are_some (with_doubts s way b n line (phrase_at line) others)) k
     ∙ sym (ap (λ (l : List (List ℕ)). any || are_some (doubts_from s way n l)) e)
     ∙ i)

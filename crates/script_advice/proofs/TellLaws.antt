@@ -3,12 +3,12 @@ use Rattle.std.proofs.Common.{◌≡◌, ℕ, zero, suc, ◌<◌, ◌-◌, List,
 use Rattle.script_text.specs.declared.reader.Declared.{Declared}
 use Rattle.script_text.specs.declared.reason.Reason.{Reason}
 use Rattle.script_advice.specs.declared.texts.Format.{Format}
-use Rattle.script_advice.specs.Errors.{told_first}
+use Rattle.script_advice.specs.Errors.{with_error}
 use Rattle.script_advice.specs.Remarks.{Remark, remark_of}
 use Rattle.script_advice.specs.Texts.{remark_text, remarks_text}
 
 -- where an error was told, one fewer of the others is
-pub told_some : (f : Format) (d : Declared) (n : ℕ) (line : List ℕ) (why : Reason) (x : Option Reason) (left : ℕ) (out new : List ℕ) (others : List Remark) → x ≡ Some why → 0 < left → new ≡ out ++ remark_text f (remark_of d n why line) → out ++ remarks_text f (take left (told_first d n line x others)) ≡ new ++ remarks_text f (take (left - 1) others)
+pub told_some : (f : Format) (d : Declared) (n : ℕ) (line : List ℕ) (why : Reason) (x : Option Reason) (left : ℕ) (out new : List ℕ) (others : List Remark) → x ≡ Some why → 0 < left → new ≡ out ++ remark_text f (remark_of d n why line) → out ++ remarks_text f (take left (with_error d n line x others)) ≡ new ++ remarks_text f (take (left - 1) others)
 told_some f d n line why x zero out new others e h i = absurd (omega arith)
 told_some f d n line why x (suc l) out new others e h i =
     let m : suc l - 1 ≡ l = omega arith in

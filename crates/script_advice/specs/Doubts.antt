@@ -95,8 +95,8 @@ abbrev pub no_sets : Sets
 no_sets = record { threads = []; monitors = []; conditions = []; promised = []; started = []; asked = []; most = 0 }
 
 -- what is set, and what one more line sets
-abbrev pub sets_said : Sets → Phrase → Sets
-sets_said s p = record {
+abbrev pub sets_after_phrase : Sets → Phrase → Sets
+sets_after_phrase s p = record {
   threads = enter s.threads (thread_set p.op p);
   monitors = enter s.monitors (monitor_set p.op p);
   conditions = enter s.conditions (condition_set p.op p);
@@ -106,12 +106,12 @@ sets_said s p = record {
   most = greater s.most (priority_given p.op p);
 }
 
-abbrev pub sets_told : Sets → Option Phrase → Sets
-sets_told s None = s
-sets_told s (Some p) = sets_said s p
+abbrev pub sets_after_line : Sets → Option Phrase → Sets
+sets_after_line s None = s
+sets_after_line s (Some p) = sets_after_phrase s p
 
 abbrev pub sets_on : Sets → List ℕ → Sets
-sets_on s line = sets_told s (phrase_at line)
+sets_on s line = sets_after_line s (phrase_at line)
 
 -- what the lines of a text set
 abbrev pub sets_of : List ℕ → Sets
@@ -156,27 +156,27 @@ abbrev pub stray_ahead : Ahead
 stray_ahead = record { strays = true; left = [] }
 
 -- what stands ahead of a statement, and the statement
-abbrev pub ahead_stated : Op → Phrase → Ahead → Ahead
-ahead_stated op.Return p a = no_ahead
-ahead_stated op.CallProc p a = stray_ahead
-ahead_stated op.Raise p a = stray_ahead
-ahead_stated o p a = record { strays = a.strays; left = enter a.left (monitor_left o p) }
+abbrev pub ahead_after_statement : Op → Phrase → Ahead → Ahead
+ahead_after_statement op.Return p a = no_ahead
+ahead_after_statement op.CallProc p a = stray_ahead
+ahead_after_statement op.Raise p a = stray_ahead
+ahead_after_statement o p a = record { strays = a.strays; left = enter a.left (monitor_left o p) }
 
 -- the same of a line that plays this part
 abbrev pub ahead_by : Role → Op → Phrase → Ahead → Ahead
-ahead_by role.Statement o p a = ahead_stated o p a
+ahead_by role.Statement o p a = ahead_after_statement o p a
 ahead_by role.Skip o p a = stray_ahead
 ahead_by role.Again o p a = stray_ahead
 ahead_by _ o p a = no_ahead
 
-abbrev pub ahead_told : Option Phrase → Ahead → Ahead
-ahead_told None a = a
-ahead_told (Some p) a = ahead_by (role_of p.op) p.op p a
+abbrev pub ahead_after_line : Option Phrase → Ahead → Ahead
+ahead_after_line None a = a
+ahead_after_line (Some p) a = ahead_by (role_of p.op) p.op p a
 
 -- what the way leaves from the first of these lines on, where it leaves this behind the last
 abbrev pub ahead_of : Ahead → List (List ℕ) → Ahead
 ahead_of a [] = a
-ahead_of a (line ∷ lines) = ahead_told (phrase_at line) (ahead_of a lines)
+ahead_of a (line ∷ lines) = ahead_after_line (phrase_at line) (ahead_of a lines)
 
 -- a line enters a monitor that isn't left ahead of it
 abbrev pub keeps : Ahead → Option Phrase → Bool
@@ -256,24 +256,24 @@ doubt_remark s n line p d = record {
 }
 
 -- what is told of a line, if anything is, in front of other remarks
-abbrev pub doubted_first : Sets → ℕ → List ℕ → Phrase → Option Doubt → List Remark → List Remark
-doubted_first s n line p None others = others
-doubted_first s n line p (Some d) others = doubt_remark s n line p d ∷ others
+abbrev pub with_doubt : Sets → ℕ → List ℕ → Phrase → Option Doubt → List Remark → List Remark
+with_doubt s n line p None others = others
+with_doubt s n line p (Some d) others = doubt_remark s n line p d ∷ others
 
 -- how the way goes on behind a line, by what it says
-abbrev pub way_told : Way → Option Phrase → Way
-way_told w None = w
-way_told w (Some p) = way_behind w p
+abbrev pub way_after_line : Way → Option Phrase → Way
+way_after_line w None = w
+way_after_line w (Some p) = way_behind w p
 
 -- what is told of a line, by what it says, in front of other remarks
-abbrev pub doubts_told : Sets → Way → Bool → ℕ → List ℕ → Option Phrase → List Remark → List Remark
-doubts_told s w k n line None others = others
-doubts_told s w k n line (Some p) others = doubted_first s n line p (doubt_of s w k p) others
+abbrev pub with_doubts : Sets → Way → Bool → ℕ → List ℕ → Option Phrase → List Remark → List Remark
+with_doubts s w k n line None others = others
+with_doubts s w k n line (Some p) others = with_doubt s n line p (doubt_of s w k p) others
 
 -- the doubts of these lines, of which the first has this number and stands on this way
 abbrev pub doubts_from : Sets → Way → ℕ → List (List ℕ) → List Remark
 doubts_from s w n [] = []
-doubts_from s w n (line ∷ lines) = doubts_told s w (keeps (ahead_of no_ahead lines) (phrase_at line)) n line (phrase_at line) (doubts_from s (way_told w (phrase_at line)) (suc n) lines)
+doubts_from s w n (line ∷ lines) = with_doubts s w (keeps (ahead_of no_ahead lines) (phrase_at line)) n line (phrase_at line) (doubts_from s (way_after_line w (phrase_at line)) (suc n) lines)
 
 -- the warnings of a text that spells a script
 abbrev pub doubts : List ℕ → List Remark

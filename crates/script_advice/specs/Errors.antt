@@ -16,20 +16,20 @@ use Rattle.script_advice.specs.Remarks.{Remark, remark_of}
 
 -- a line that says this is bad where it starts a procedure that nothing declares; one that says nothing is bad for the reason that it
 -- would have among statements
-abbrev pub alone_said : Declared → List ℕ → Option Phrase → Option Reason
-alone_said d line None = Some (reason_of stage.Calling line)
-alone_said d line (Some p) = if is_declared d p then None else Some reason.Statement
+abbrev pub reason_alone : Declared → List ℕ → Option Phrase → Option Reason
+reason_alone d line None = Some (reason_of stage.Calling line)
+reason_alone d line (Some p) = if is_declared d p then None else Some reason.Statement
 
 -- why a line is bad wherever it stands, in a text that declares these procedures
 unfoldable pub alone : Declared → List ℕ → Option Reason
-alone d line = if is_printable line then alone_said d line (phrase_at line) else Some reason.Bytes
+alone d line = if is_printable line then reason_alone d line (phrase_at line) else Some reason.Bytes
 
 -- ---- All errors.
 
 -- what is told of a line for a reason, if there is one, in front of other remarks
-abbrev pub told_first : Declared → ℕ → List ℕ → Option Reason → List Remark → List Remark
-told_first d n line None others = others
-told_first d n line (Some why) others = remark_of d n why line ∷ others
+abbrev pub with_error : Declared → ℕ → List ℕ → Option Reason → List Remark → List Remark
+with_error d n line None others = others
+with_error d n line (Some why) others = remark_of d n why line ∷ others
 
 -- a last line that hasn't ended
 abbrev pub end_remarks : Declared → ℕ → List ℕ → List Remark
@@ -39,7 +39,7 @@ end_remarks d n (b ∷ bs) = remark_of d n reason.Unended (b ∷ bs) ∷ []
 -- the errors of these lines, of which the first has this number, and of what stands behind them
 abbrev pub later : Declared → ℕ → List (List ℕ) → List ℕ → List Remark
 later d n [] tail = end_remarks d n tail
-later d n (line ∷ lines) tail = told_first d n line (alone d line) (later d (suc n) lines tail)
+later d n (line ∷ lines) tail = with_error d n line (alone d line) (later d (suc n) lines tail)
 
 -- the errors from the first bad line on, which is the first of these, or what stands behind them
 abbrev pub from_first : Declared → ℕ → Reason → List (List ℕ) → List ℕ → List Remark

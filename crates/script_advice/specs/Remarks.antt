@@ -123,15 +123,15 @@ abbrev pub starts_nothing : Declared → Reason → Phrase → Bool
 starts_nothing d r p = sameb reason_type r reason.Statement && not (is_declared d p)
 
 -- a line whose form is right: it breaks a rule, or starts a procedure that nothing declares
-abbrev pub said_place : Declared → Reason → List ℕ → Option Phrase → Place
-said_place d r line None = place_at (length line) (why.Rule r)
-said_place d r line (Some p) =
+abbrev pub place_of_phrase : Declared → Reason → List ℕ → Option Phrase → Place
+place_of_phrase d r line None = place_at (length line) (why.Rule r)
+place_of_phrase d r line (Some p) =
     if starts_nothing d r p then place_at (length (slot_at p.op kind.Procedure line)) why.Undeclared
     else place_at (length line) (why.Rule r)
 
 -- a line that has this fault, or none
 abbrev pub fault_place : Declared → Reason → List ℕ → Option Fault → Place
-fault_place d r line None = said_place d r line (phrase_at line)
+fault_place d r line None = place_of_phrase d r line (phrase_at line)
 fault_place d r line (Some f) = place_at f.left (why.Form f.what)
 
 -- the end of the line where it or the text ends too early, and else the first wrong word

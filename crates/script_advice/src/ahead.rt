@@ -2,7 +2,7 @@
 ghost use Rattle.std.specs.Prelude.{◌≡◌, ◌++◌, ◌∷◌, [], IfOk, OnOk, Some};
 ghost use Rattle.script_lines.specs.Reading.{phrase_at};
 ghost use Rattle.script_text.specs.Spelling.{line_cut};
-ghost use Rattle.script_advice.specs.Doubts.{ahead_told, keeping, keeps, monitor_entered, monitor_left, no_ahead};
+ghost use Rattle.script_advice.specs.Doubts.{ahead_after_line, keeping, keeps, monitor_entered, monitor_left, no_ahead};
 
 use crate::lines::last_line;
 use lwp_types::NoMemory;
@@ -45,7 +45,7 @@ fn monitor_left<'l>(phrase: &Phrase<'l>) -> &'l [u8]
 
 impl Ahead {
     ghost use Rattle.std.specs.Prelude.{◌≡◌, [], OnOk, Some};
-    ghost use Rattle.script_advice.specs.Doubts.{ahead_by, ahead_stated, keeps, no_ahead};
+    ghost use Rattle.script_advice.specs.Doubts.{ahead_by, ahead_after_statement, keeps, no_ahead};
 
     fn none(alloc: Global) -> Ahead
         ensures { result ≡ no_ahead }
@@ -66,7 +66,7 @@ impl Ahead {
 
     // Puts a statement in front.
     fn state(&mut self, alloc: Global, phrase: &Phrase<'_>) -> Result<(), NoMemory>
-        ensures { OnOk result (self.new ≡ ahead_stated phrase.now.op phrase.now self.old) }
+        ensures { OnOk result (self.new ≡ ahead_after_statement phrase.now.op phrase.now self.old) }
     {
         match phrase.op {
             Op::Return => self.end(alloc, false),
@@ -104,7 +104,7 @@ fn note_line(
     kept: &mut Vec<bool>,
     line: &[u8],
 ) -> Result<(), NoMemory>
-    ensures ahead { OnOk result (ahead.new ≡ ahead_told (phrase_at line.now) ahead.old) }
+    ensures ahead { OnOk result (ahead.new ≡ ahead_after_line (phrase_at line.now) ahead.old) }
     ensures kept { OnOk result
         (kept.new.items ≡ kept.old.items ++ keeps ahead.old (phrase_at line.now) ∷ []) }
 {

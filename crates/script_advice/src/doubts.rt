@@ -2,7 +2,7 @@
 ghost use Rattle.std.specs.Prelude.{◌≡◌, ◌++◌, ◌∷◌, ◌||◌, [], Bool, IfOk, List, OnOk, suc, take};
 ghost use Rattle.script_lines.specs.Reading.{phrase_at};
 ghost use Rattle.script_text.specs.Spelling.{line_cut};
-ghost use Rattle.script_advice.specs.Doubts.{are_some, doubt_if, doubt_of, doubt_remark, doubted_words, doubts, doubts_told, is_unset, name_doubt, near_set, or_words, role_doubt, way_told};
+ghost use Rattle.script_advice.specs.Doubts.{are_some, doubt_if, doubt_of, doubt_remark, doubted_words, doubts, with_doubts, is_unset, name_doubt, near_set, or_words, role_doubt, way_after_line};
 ghost use Rattle.script_advice.specs.Remarks.{Remark, some_names, word_or_none};
 ghost use Rattle.script_advice.specs.Near.{nearest};
 ghost use Rattle.script_advice.specs.Texts.{remark_text, remarks_text};
@@ -211,17 +211,17 @@ fn add_line(
         out.old.items
         ++ remarks_text format
         (take walk.left
-        (doubts_told sets.now walk.way keeps walk.number line.now
+        (with_doubts sets.now walk.way keeps walk.number line.now
         (phrase_at line.now) others))
         ≡ out.new.items ++ remarks_text format (take w.left others)) }
     ensures any { IfOk result
         (λ w.
         (others : List Remark) →
         (walk.any || are_some
-        (doubts_told sets.now walk.way keeps walk.number line.now
+        (with_doubts sets.now walk.way keeps walk.number line.now
         (phrase_at line.now) others))
         ≡ (w.any || are_some others)) }
-    ensures way { IfOk result (λ w. w.way ≡ way_told walk.way (phrase_at line.now)) }
+    ensures way { IfOk result (λ w. w.way ≡ way_after_line walk.way (phrase_at line.now)) }
     ensures number { IfOk result (λ w. w.number ≡ suc walk.number) }
 {
     let Some(number) = walk.number.checked_add(1) else {

@@ -3,7 +3,7 @@ ghost use Rattle.std.specs.Prelude.{◌≡◌, ◌++◌, ◌<◌, None, IfOk, On
 ghost use Rattle.script_lines.specs.Reading.{phrase_at};
 ghost use Rattle.script_text.specs.Spelling.{line_cut, reason_of};
 ghost use Rattle.script_text.specs.declared.stage.Stage.TheVariants as stage;
-ghost use Rattle.script_advice.specs.Errors.{alone, end_remarks, errors_at, later, told_first};
+ghost use Rattle.script_advice.specs.Errors.{alone, end_remarks, errors_at, later, with_error};
 ghost use Rattle.script_advice.specs.Remarks.{Remark, remark_of};
 ghost use Rattle.script_advice.specs.Texts.{remark_text, remarks_text};
 
@@ -88,7 +88,7 @@ fn add_alone(
         out.old.items
         ++ remarks_text format
         (take left
-        (told_first known.now number line.now (alone known.now line.now) others))
+        (with_error known.now number line.now (alone known.now line.now) others))
         ≡ out.new.items ++ remarks_text format (take after others)) }
 {
     let Some(reason) = alone(known, line) else {

@@ -1,7 +1,7 @@
 // What is told of a line: where, what stands there, and what may.
 ghost use Rattle.std.specs.Prelude.{◌≡◌, length, option_map};
 ghost use Rattle.script_lines.specs.Reading.{phrase_at};
-ghost use Rattle.script_advice.specs.Remarks.{cause_text, doubt_text, doubted_text, fault_place, form_of, is_of_text, key_or_none, likely_op, near_key, near_of, near_procedure, place_at, place_of, reason_text, remark_of, rule_text, said_place, severity_text, starts_nothing, why_text};
+ghost use Rattle.script_advice.specs.Remarks.{cause_text, doubt_text, doubted_text, fault_place, form_of, is_of_text, key_or_none, likely_op, near_key, near_of, near_procedure, place_at, place_of, reason_text, remark_of, rule_text, place_of_phrase, severity_text, starts_nothing, why_text};
 
 use crate::faults::{Fault, What, fault_of, key_at, op_of, slot_at};
 use crate::forms::nearest_op;
@@ -233,8 +233,8 @@ fn starts_nothing(known: &Known, reason: Reason, phrase: &Phrase<'_>) -> bool
 }
 
 // A line whose form is right.
-fn said_place(known: &Known, reason: Reason, line: &[u8]) -> Place
-    ensures { result ≡ said_place known.now reason line.now (phrase_at line.now) }
+fn place_of_phrase(known: &Known, reason: Reason, line: &[u8]) -> Place
+    ensures { result ≡ place_of_phrase known.now reason line.now (phrase_at line.now) }
 {
     if let Some(phrase) = phrase_at(line) {
         if starts_nothing(known, reason, &phrase) {
@@ -250,7 +250,7 @@ fn fault_place(known: &Known, reason: Reason, line: &[u8], fault: Option<Fault>)
     ensures { result ≡ fault_place known.now reason line.now fault }
 {
     match fault {
-        None => said_place(known, reason, line),
+        None => place_of_phrase(known, reason, line),
         Some(fault) => place_at(fault.left, Why::Form(fault.what)),
     }
 }

@@ -159,7 +159,7 @@ fn is_asked(events: &[u32], event: u32) -> bool
 impl Sets {
     ghost use Rattle.std.specs.Prelude.{◌≡◌, OnOk, IfOk};
     ghost use Rattle.script_lines.specs.Reading.{phrase_at};
-    ghost use Rattle.script_advice.specs.Doubts.{is_asked, no_sets, sets_of, sets_on, sets_said};
+    ghost use Rattle.script_advice.specs.Doubts.{is_asked, no_sets, sets_of, sets_on, sets_after_phrase};
 
     fn new(alloc: Global) -> Sets
         ensures { result ≡ no_sets }
@@ -177,7 +177,7 @@ impl Sets {
 
     // Notes what a line sets.
     fn note(&mut self, phrase: &Phrase<'_>) -> Result<(), NoMemory>
-        ensures { OnOk result (self.new ≡ sets_said self.old phrase.now) }
+        ensures { OnOk result (self.new ≡ sets_after_phrase self.old phrase.now) }
     {
         self.threads.enter(thread_set(phrase))?;
         self.monitors.enter(monitor_set(phrase))?;

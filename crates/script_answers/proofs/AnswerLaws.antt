@@ -4,7 +4,7 @@ use Rattle.lwp_types.specs.Streams.{AppendsPrefix, Rose, after_append}
 use Rattle.pod_runner.proofs.Appends.{cut_on}
 use Rattle.pod_runner.proofs.Eagers.{finished-grows}
 use Rattle.pod_runner.proofs.Rounds.{Going, going-falls, going-finishes, going-on, going-part, goes-same, goes-then, new-whole, stream}
-use Rattle.pod_runner.specs.Calls.{last_made}
+use Rattle.pod_runner.specs.Calls.{last_call}
 use Rattle.pod_runner.specs.Does.{Does}
 use Rattle.pod_runner.specs.Due.{IsDefined}
 use Rattle.pod_runner.specs.Eager.{IsFirstPart, Plan, Planned, after_advance, plan_over, plan_whole, round}
@@ -21,7 +21,7 @@ use Rattle.pod_runner.specs.declared.session.Made.{Made}
 use Rattle.pod_runner.specs.declared.session.Took.{Took}
 use Rattle.script_answers.proofs.KnownLaws.{advanced-before, advanced-called, advanced-still, replies-grow, round-ends, round-goes-on}
 use Rattle.script_answers.specs.Answers.{AnswersSay, IsCutOff, IsStopped, IsTold}
-use Rattle.script_answers.specs.Replies.{Known, agents_after, answers_after, answers_before, event_of, known_by, known_in, nothing_known, replies_in, told_by}
+use Rattle.script_answers.specs.Replies.{Known, agents_after, answers_after, answers_before, event_of, known_after_call, known_after_steps, nothing_known, replies_in, texts_told}
 use Rattle.script_gate.specs.Posted.{IsPosted}
 use Rattle.script_gate.specs.Stocked.{stock_of}
 use Rattle.script_plan.proofs.PlanLaws.{Came, Finished, came, finished, part-all, prefix-all, prefix-more, whole-is, whole-of}
@@ -38,7 +38,7 @@ use Rattle.script_text.specs.Script.{proc_names}
 use Rattle.script_text.specs.declared.script.Script.{Script}
 use Rattle.std.proofs.Common.{Err, List, None, Ok, Option, Result, Some, [], ap, arith, false, refl, subst, sym, ℕ, ◌++◌, ◌+◌, ◌-◌, ◌∙◌, ◌≡◌, ◌≢◌, ◌≤◌}
 use Rattle.trace_text.specs.Lines.{end_text}
-use Rattle.pod_runner.specs.Trace.{left_from}
+use Rattle.pod_runner.specs.Trace.{left_counts_from}
 use Rattle.trace_text.specs.declared.ends.Halt.{Halt}
 use Rattle.whole_streams.proofs.WriteLaws.{appended-append}
 use Rattle.whole_streams.specs.Streams.{Stream}
@@ -67,8 +67,8 @@ Goes old now stock left = Going body_next bodies_of proc_names silence old now s
 pub record Answering (event : Option ℕ) (old now : Played Script) (stock left : Shelves) (known : Option ℕ) (agents : List ℕ) (w v : Option (List ℕ)) (f g : ℕ) : Type 0 where
   pub going : Goes old now stock left
   pub is_event : known ≡ event
-  pub has_agents : agents ≡ (known_in event (steps_of now)).agents
-  pub written : v ≡ after_append w (known_in event (steps_of now)).replies
+  pub has_agents : agents ≡ (known_after_steps event (steps_of now)).agents
+  pub written : v ≡ after_append w (known_after_steps event (steps_of now)).replies
   pub same : g ≡ f
 
 -- a count that stays 0 hasn't risen
@@ -95,16 +95,16 @@ module _ (event : Option ℕ) (old now new : Played Script) (stock some left : S
     calls-are : new.calls ≢ now.calls → (after_advance (planned_by now) (plan_at now some)).calls ≢ now.calls
     calls-are h is = h (ap (λ (plan : Plan ThreadBody). plan.calls) comes ∙ is)
 
-    pub called : new.calls ≢ now.calls → known_in event (steps_of new) ≡ known_by event (known_in event (steps_of now)) (last_made (steps_of new))
-    called h = subst (λ (plan : Plan ThreadBody). known_in event plan.session.steps ≡ known_by event (known_in event (steps_of now)) (last_made plan.session.steps))
+    pub called : new.calls ≢ now.calls → known_after_steps event (steps_of new) ≡ known_after_call event (known_after_steps event (steps_of now)) (last_call (steps_of new))
+    called h = subst (λ (plan : Plan ThreadBody). known_after_steps event plan.session.steps ≡ known_after_call event (known_after_steps event (steps_of now)) (last_call plan.session.steps))
         (sym comes) (advanced-called event (planned_by now) (plan_at now some) (calls-are h))
 
-    before : new.calls ≢ now.calls → known_in event (but_last (steps_of new)) ≡ known_in event (steps_of now)
-    before h = subst (λ (plan : Plan ThreadBody). known_in event (but_last plan.session.steps) ≡ known_in event (steps_of now))
+    before : new.calls ≢ now.calls → known_after_steps event (but_last (steps_of new)) ≡ known_after_steps event (steps_of now)
+    before h = subst (λ (plan : Plan ThreadBody). known_after_steps event (but_last plan.session.steps) ≡ known_after_steps event (steps_of now))
         (sym comes) (advanced-before event (planned_by now) (plan_at now some) (calls-are h))
 
-    still : new.calls ≡ now.calls → known_in event (steps_of new) ≡ known_in event (steps_of now)
-    still h = subst (λ (plan : Plan ThreadBody). known_in event plan.session.steps ≡ known_in event (steps_of now))
+    still : new.calls ≡ now.calls → known_after_steps event (steps_of new) ≡ known_after_steps event (steps_of now)
+    still h = subst (λ (plan : Plan ThreadBody). known_after_steps event plan.session.steps ≡ known_after_steps event (steps_of now))
         (sym comes) (advanced-still event (planned_by now) (plan_at now some) (sym (ap (λ (plan : Plan ThreadBody). plan.calls) comes) ∙ h))
 
     pub goes-on : Goes old new stock left
@@ -121,35 +121,35 @@ module _ (event : Option ℕ) (old now new : Played Script) (stock some left : S
     }
 
     -- a call was told
-    pub answering-told : new.calls ≢ now.calls → (later : Option ℕ) (told : List ℕ) (after : List ℕ) (u : Option (List ℕ)) (h : ℕ) → later ≡ known → told ≡ told_by agents (last_made (steps_of new)) → after ≡ agents_after known agents (last_made (steps_of new))
+    pub answering-told : new.calls ≢ now.calls → (later : Option ℕ) (told : List ℕ) (after : List ℕ) (u : Option (List ℕ)) (h : ℕ) → later ≡ known → told ≡ texts_told agents (last_call (steps_of new)) → after ≡ agents_after known agents (last_call (steps_of new))
         → u ≡ after_append v told → h ≡ g → Answering event old new stock left later after w u f h
     answering-told differs later told after u h kept is-told is-after wrote quiet = record {
       going = goes-on;
       is_event = kept ∙ so.is_event;
-      has_agents = is-after ∙ ap (λ e. agents_after e agents (last_made (steps_of new))) so.is_event ∙ ap (λ those. agents_after event those (last_made (steps_of new))) so.has_agents
+      has_agents = is-after ∙ ap (λ e. agents_after e agents (last_call (steps_of new))) so.is_event ∙ ap (λ those. agents_after event those (last_call (steps_of new))) so.has_agents
           ∙ ap (λ (k : Known). k.agents) (sym (called differs));
-      written = wrote ∙ ap (λ x. after_append x told) so.written ∙ appended-append w (known_in event (steps_of now)).replies told
-          ∙ ap (λ x. after_append w ((known_in event (steps_of now)).replies ++ x)) (is-told ∙ ap (λ those. told_by those (last_made (steps_of new))) so.has_agents)
+      written = wrote ∙ ap (λ x. after_append x told) so.written ∙ appended-append w (known_after_steps event (steps_of now)).replies told
+          ∙ ap (λ x. after_append w ((known_after_steps event (steps_of now)).replies ++ x)) (is-told ∙ ap (λ those. texts_told those (last_call (steps_of new))) so.has_agents)
           ∙ ap (λ (k : Known). after_append w k.replies) (sym (called differs));
       same = quiet ∙ so.same;
     }
 
     -- a call was told in part
-    pub answering-cut : new.calls ≢ now.calls → (told : List ℕ) (u : Option (List ℕ)) → told ≡ told_by agents (last_made (steps_of new)) → AppendsPart v u told
+    pub answering-cut : new.calls ≢ now.calls → (told : List ℕ) (u : Option (List ℕ)) → told ≡ texts_told agents (last_call (steps_of new)) → AppendsPart v u told
         → AppendsCut w u (replies_in event (but_last (steps_of new))) (replies_in event (steps_of new))
     unfolding replies_in
     answering-cut differs told u is-told part =
         let least = ap (λ (k : Known). k.replies) (before differs) in
-        let longer : (known_in event (steps_of new)).replies ≡ (known_in event (steps_of now)).replies ++ told
+        let longer : (known_after_steps event (steps_of new)).replies ≡ (known_after_steps event (steps_of now)).replies ++ told
         = ap (λ (k : Known). k.replies) (called differs)
-        ∙ ap (λ x. (known_in event (steps_of now)).replies ++ x) (sym (is-told ∙ ap (λ those. told_by those (last_made (steps_of new))) so.has_agents)) in
-        subst (λ bytes. AppendsCut w u bytes (known_in event (steps_of new)).replies) (sym least)
-        (cut_on v u (known_in event (steps_of now)).replies told (known_in event (steps_of new)).replies longer part w so.written)
+        ∙ ap (λ x. (known_after_steps event (steps_of now)).replies ++ x) (sym (is-told ∙ ap (λ those. texts_told those (last_call (steps_of new))) so.has_agents)) in
+        subst (λ bytes. AppendsCut w u bytes (known_after_steps event (steps_of new)).replies) (sym least)
+        (cut_on v u (known_after_steps event (steps_of now)).replies told (known_after_steps event (steps_of new)).replies longer part w so.written)
 
 -- ---- a run of a script
 
 -- before the first step nothing is known
-no-steps : (event : Option ℕ) (setting : Setting ThreadBody) → known_in event (play setting [] 0).steps ≡ nothing_known
+no-steps : (event : Option ℕ) (setting : Setting ThreadBody) → known_after_steps event (play setting [] 0).steps ≡ nothing_known
 unfolding play
 no-steps event setting = refl
 
@@ -189,7 +189,7 @@ module _ (client : ℕ) (script : Script) (o : Played Script) (stock : Shelves) 
       (so : Answering (event_of script client) o now stock some known agents w v f g) where
     prefix-now : AppendsPrefix w v (replies_in (event_of script client) (plan_of script o.turns).session.steps)
     unfolding replies_in
-    prefix-now = prefix-by now some w v (first-of now some so.going) (prefix-all w v (known_in (event_of script client) (steps_of now)).replies so.written)
+    prefix-now = prefix-by now some w v (first-of now some so.going) (prefix-all w v (known_after_steps (event_of script client) (steps_of now)).replies so.written)
 
     module _ (new : Played Script) (left : Shelves) where
       -- memory was wanting
@@ -201,7 +201,7 @@ module _ (client : ℕ) (script : Script) (o : Played Script) (stock : Shelves) 
 
       -- a write failed
       pub cut-by : (x : Option Halt) → (p : Round now new some left (Ok x)) → plan_over (planned_by now) (plan_at now some) ≡ None → new.calls ≢ now.calls
-          → (told : List ℕ) (u : Option (List ℕ)) → told ≡ told_by agents (last_made (steps_of new)) → AppendsPart v u told → IsCutOff client o.turns script w u new.takes new.calls
+          → (told : List ℕ) (u : Option (List ℕ)) → told ≡ texts_told agents (last_call (steps_of new)) → AppendsPart v u told → IsCutOff client o.turns script w u new.takes new.calls
       cut-by x p none differs told u is-told part =
           let h = came-going now new some left x so.going p in
           let cut = answering-cut (event_of script client) o now new stock some left known agents w v f g so x p none differs told u is-told part in
@@ -223,18 +223,18 @@ module _ (client : ℕ) (script : Script) (o : Played Script) (stock : Shelves) 
           let eagerly : IsNew o → plan_at new left ≡ plan_whole (planned_by o) stock = λ fresh. going-finishes body_next bodies_of proc_names silence silence o now new stock some left halt x so.going p is
           ∙ new-whole body_next bodies_of proc_names o stock fresh in
           let done = finished script o.turns o new stock left halt (came-going now new some left x so.going p) opening stocked eagerly ends in
-          let last = end_text o.turns (left_from 0 script.clients left) halt in
+          let last = end_text o.turns (left_counts_from 0 script.clients left) halt in
           record {
             planned = whole-of script o.turns new left halt None None None last done posted refl refl refl;
-            written = so.written ∙ ap (λ (plan : Plan ThreadBody). after_append w (known_in (event_of script client) plan.session.steps).replies) (sym still ∙ sym done.whole);
+            written = so.written ∙ ap (λ (plan : Plan ThreadBody). after_append w (known_after_steps (event_of script client) plan.session.steps).replies) (sym still ∙ sym done.whole);
           }
 
   -- before the first round
   pub answering-opens : (known : Option ℕ) (agents : List ℕ) (w : Option (List ℕ)) (f : ℕ) → o.failed ≡ false → known ≡ event_of script client → agents ≡ []
       → Answering (event_of script client) o o stock stock known agents w w f f
   answering-opens known agents w f sound is none =
-      let fresh : (known_in (event_of script client) (steps_of o)) ≡ nothing_known
-      = ap (λ (r : Played Script). known_in (event_of script client) (steps_of r)) opening ∙ no-steps (event_of script client) (run.setting_of body_next bodies_of (opening_run script o.turns)) in
+      let fresh : (known_after_steps (event_of script client) (steps_of o)) ≡ nothing_known
+      = ap (λ (r : Played Script). known_after_steps (event_of script client) (steps_of r)) opening ∙ no-steps (event_of script client) (run.setting_of body_next bodies_of (opening_run script o.turns)) in
       record {
         going = record { same = goes-same body_next bodies_of proc_names o; sound = sound; told = ((λ base before. before), refl); ends = refl };
         is_event = is;

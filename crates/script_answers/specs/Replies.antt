@@ -2,7 +2,7 @@
 use Rattle.lwp_types.specs.declared.call.Call.{Call}
 use Rattle.lwp_types.specs.declared.call.Call.TheVariants as call
 use Rattle.lwp_types.specs.declared.call.Effect.{Effect}
-use Rattle.pod_runner.specs.Calls.{made_in}
+use Rattle.pod_runner.specs.Calls.{call_of_effects}
 use Rattle.pod_runner.specs.Session as Sessions
 use Rattle.pod_runner.specs.declared.session.Made.{Made}
 use Rattle.pod_runner.specs.declared.session.Took.{Took}
@@ -52,9 +52,9 @@ reply_line agents (call.Reply t text) = if is_among agents t then text ++ 10 ∷
 reply_line agents _ = []
 
 -- what is told of a call: a reply counts if it was accepted, which is to say answered 0
-abbrev pub told_by : List ℕ → Option Made → List ℕ
-told_by agents None = []
-told_by agents (Some made) = if made.zero then reply_line agents made.call else []
+abbrev pub texts_told : List ℕ → Option Made → List ℕ
+texts_told agents None = []
+texts_told agents (Some made) = if made.zero then reply_line agents made.call else []
 
 -- ---- behind some steps
 
@@ -67,25 +67,25 @@ abbrev pub nothing_known : Known
 nothing_known = record { agents = []; replies = [] }
 
 -- the same, behind one call more
-abbrev pub known_by : Option ℕ → Known → Option Made → Known
-known_by event known made = record { agents = agents_after event known.agents made; replies = known.replies ++ told_by known.agents made }
+abbrev pub known_after_call : Option ℕ → Known → Option Made → Known
+known_after_call event known made = record { agents = agents_after event known.agents made; replies = known.replies ++ texts_told known.agents made }
 
 -- the call of a step, if it is one: in a step in which a line was taken nobody calls. The result of an exit procedure is no call.
 abbrev pub call_in : Option Took → List Effect → Option Made
-call_in None effects = made_in effects
+call_in None effects = call_of_effects effects
 call_in (Some took) effects = None
 
 -- the same, behind one step more
-abbrev pub known_step : Option ℕ → Known → Sessions.Made → Known
-known_step event known step = known_by event known (call_in step.take step.effects)
+abbrev pub known_after_step : Option ℕ → Known → Sessions.Made → Known
+known_after_step event known step = known_after_call event known (call_in step.take step.effects)
 
 -- what is known behind these steps
-abbrev pub known_in : Option ℕ → List Sessions.Made → Known
-known_in event steps = fold (known_step event) nothing_known steps
+abbrev pub known_after_steps : Option ℕ → List Sessions.Made → Known
+known_after_steps event steps = fold (known_after_step event) nothing_known steps
 
 -- what the client of this event was told in these steps
 unfoldable pub replies_in : Option ℕ → List Sessions.Made → List ℕ
-replies_in event steps = (known_in event steps).replies
+replies_in event steps = (known_after_steps event steps).replies
 
 -- ---- of a script
 

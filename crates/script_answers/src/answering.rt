@@ -2,7 +2,7 @@
 ghost use Rattle.std.specs.Prelude.{◌≡◌, ◌≤◌, IfOk, IsErrOf, OnOk};
 ghost use Rattle.lwp_types.specs.Streams.{Rose, after_append};
 ghost use Rattle.script_answers.specs.Answers.{IsAnswered, IsAnswers, IsCutOff, IsStopped, IsTold};
-ghost use Rattle.script_answers.specs.Replies.{agents_after, event_of, told_by};
+ghost use Rattle.script_answers.specs.Replies.{agents_after, event_of, texts_told};
 ghost use Rattle.script_gate.specs.Posted.{IsPosted};
 ghost use Rattle.script_gate.specs.Stocked.{stock_of};
 ghost use Rattle.script_session.specs.SoFar.{opening_run};
@@ -42,18 +42,18 @@ fn tell<K: Sink>(
     sink: &mut K,
 ) -> Result<(), RunErr>
     ensures told { OnOk result
-        (K.written sink.new ≡ after_append (K.written sink.old) (told_by notes.old.agents made.now)) }
+        (K.written sink.new ≡ after_append (K.written sink.old) (texts_told notes.old.agents made.now)) }
     ensures agents { OnOk result
         (notes.new.agents ≡ agents_after notes.old.event notes.old.agents made.now) }
     ensures event { notes.new.event ≡ notes.old.event }
     ensures same { OnOk result (K.faults sink.new ≡ K.faults sink.old) }
     ensures cut { IsErrOf result RunErr.WriteFault →
-        AppendsPart (K.written sink.old) (K.written sink.new) (told_by notes.old.agents made.now) }
+        AppendsPart (K.written sink.old) (K.written sink.new) (texts_told notes.old.agents made.now) }
     ensures cause { IsErrOf result RunErr.WriteFault → Rose (K.faults sink.old) (K.faults sink.new) }
     ensures quiet { IsErrOf result RunErr.NoMemory →
         (K.written sink.new ≡ K.written sink.old) × (K.faults sink.new ≡ K.faults sink.old) }
 {
-    let line = notes.told_by(alloc, made)?;
+    let line = notes.texts_told(alloc, made)?;
     notes.pass(made)?;
     match write_all(sink, &line) {
         Ok(()) => Ok(()),

@@ -1,6 +1,6 @@
 // What is known of a client while its session is played.
 ghost use Rattle.std.specs.Prelude.{◌≡◌, ◌∷◌, ◌++◌, [], if◌then◌else◌, IfOk, OnOk};
-ghost use Rattle.script_answers.specs.Replies.{agent_born, agent_event, agents_after, is_among, is_event, reply_line, told_by, with_agent};
+ghost use Rattle.script_answers.specs.Replies.{agent_born, agent_event, agents_after, is_among, is_event, reply_line, texts_told, with_agent};
 
 use crate::event_agents::Agents;
 use lwp_types::{Call, NoMemory, Text, Tid};
@@ -91,8 +91,8 @@ impl Notes {
     }
 
     /// What is told of a call.
-    pub(crate) fn told_by(&self, alloc: Global, made: &Option<Made>) -> Result<Vec<u8>, NoMemory>
-        ensures { IfOk result (λ line. line.items ≡ told_by self.now.agents made.now) }
+    pub(crate) fn texts_told(&self, alloc: Global, made: &Option<Made>) -> Result<Vec<u8>, NoMemory>
+        ensures { IfOk result (λ line. line.items ≡ texts_told self.now.agents made.now) }
     {
         match made {
             Some(made) => {

@@ -2,13 +2,13 @@
 use Rattle.whole_streams.specs.Counting.{Counting}
 use Rattle.lwp_types.specs.Streams.{after_append}
 use Rattle.pod_runner.specs.declared.session.Took.{Took}
-use Rattle.script_batch.specs.Report.{counts_of, told_of}
+use Rattle.script_batch.specs.Report.{counts_of, counts_at_end}
 use Rattle.script_batch.specs.declared.report.Counts.{Counts}
 use Rattle.script_plan.proofs.MakeLaws.{counted, few_taken, uncounted}
 use Rattle.script_plan.specs.Make.{is_over, status_by}
 use Rattle.script_plan.specs.Plan.{IsPlayed, IsRun, IsWhole, RunSays}
 use Rattle.script_plan.specs.Planned.{calls_of, halt_of, takes_of, trace_of}
-use Rattle.script_session.specs.History.{taken_as}
+use Rattle.script_session.specs.History.{taken_of}
 use Rattle.script_session.specs.Outcome.{end_of, status_of}
 use Rattle.script_session.specs.Said.{Tells}
 use Rattle.script_session.specs.declared.session.Session.{Session}
@@ -48,8 +48,8 @@ ended-by : (turns : ℕ) (script : Script) (bytes : List ℕ) (session : Session
 ended-by turns script bytes session halt takes status ended tells w = record {
   status = status ∙ ap status_of ended ∙ sym (ap status_by w.halted);
   calls = w.made;
-  taken = ap length tells ∙ length-map takes taken_as ∙ ap length w.taken;
-  few = omega (arith, few_taken script takes w.left w.history, ap length tells, length-map takes taken_as);
+  taken = ap length tells ∙ length-map takes taken_of ∙ ap length w.taken;
+  few = omega (arith, few_taken script takes w.left w.history, ap length tells, length-map takes taken_of);
   trace = cc w.trace;
 }
 
@@ -60,10 +60,10 @@ ended-of turns script before after session fresh o played =
     ended-by turns script after.bytes session w.1.0 w.1.1 played.status w.1.2 w.1.3 w.1.4
 
 -- what is told of it is what there is to tell of the script
-pub told-is : (turns : ℕ) (script : Script) (bytes : List ℕ) (session : Session) (told : Counts) (n : ℕ) → told ≡ told_of script session n → n ≡ length bytes → Ended turns script bytes session
+pub told-is : (turns : ℕ) (script : Script) (bytes : List ℕ) (session : Session) (told : Counts) (n : ℕ) → told ≡ counts_at_end script session n → n ≡ length bytes → Ended turns script bytes session
     → told ≡ counts_of turns script
 told-is turns script bytes session told n is trace h =
     let taken : length session.taken ≡ length (takes_of script turns) = h.taken in
     let posted : length (lines_posted script) ≡ length script.posts = length-map script.posts (line_of script.texts) in
-    let same : told_of script session n ≡ counts_of turns script = rw (trace, h.calls, taken, ← posted, h.status, h.trace) refl in
+    let same : counts_at_end script session n ≡ counts_of turns script = rw (trace, h.calls, taken, ← posted, h.status, h.trace) refl in
     is ∙ same

@@ -1,5 +1,5 @@
 -- What is said of a part that was read, and of one that was not.
-use Rattle.script_batch.specs.Report.{bad_text, counts_of, counts_text, part_text, said_of}
+use Rattle.script_batch.specs.Report.{bad_text, counts_of, counts_text, part_text, read_part_text}
 use Rattle.script_batch.specs.declared.report.Counts.{Counts}
 use Rattle.script_text.specs.Spelling.{Gives, verdict}
 use Rattle.script_text.specs.declared.reason.ReadErr.{ReadErr}
@@ -13,8 +13,8 @@ bad-so bytes r line why is g = subst (λ (x : Result Script ReadErr). Gives (ver
 
 pub said-counts : (turns : ℕ) (bytes : List ℕ) (script : Script) (counts : Counts) → verdict bytes ≡ Ok script → counts ≡ counts_of turns script → part_text turns bytes ≡ counts_text counts
 unfolding part_text
-said-counts turns bytes script counts v c = ap (said_of turns) v ∙ ap counts_text (sym c)
+said-counts turns bytes script counts v c = ap (read_part_text turns) v ∙ ap counts_text (sym c)
 
 pub said-bad : (turns : ℕ) (bytes : List ℕ) (line : ℕ) (why : Reason) → verdict bytes ≡ Err (line, why) → part_text turns bytes ≡ bad_text line why
 unfolding part_text
-said-bad turns bytes line why v = ap (said_of turns) v
+said-bad turns bytes line why v = ap (read_part_text turns) v

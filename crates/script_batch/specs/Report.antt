@@ -32,8 +32,8 @@ counts_of turns script = record {
 }
 
 -- the numbers that a session to its end tells of itself; its trace has so many bytes
-abbrev pub told_of : Script → Session → ℕ → Counts
-told_of script session trace = record {
+abbrev pub counts_at_end : Script → Session → ℕ → Counts
+counts_at_end script session trace = record {
   status = session.status;
   calls = session.turns;
   taken = length session.taken;
@@ -46,13 +46,13 @@ unfoldable pub bad_text : ℕ → Reason → List ℕ
 bad_text line why = codes "status 103 line " ++ (decimal line ++ (codes " " ++ reason_text why))
 
 -- what is said of a part that was read
-abbrev pub said_of : ℕ → Result Script (ℕ × Reason) → List ℕ
-said_of turns (Ok script) = counts_text (counts_of turns script)
-said_of turns (Err (line, why)) = bad_text line why
+abbrev pub read_part_text : ℕ → Result Script (ℕ × Reason) → List ℕ
+read_part_text turns (Ok script) = counts_text (counts_of turns script)
+read_part_text turns (Err (line, why)) = bad_text line why
 
 -- what is said of a part, by its bytes
 unfoldable pub part_text : ℕ → List ℕ → List ℕ
-part_text turns bytes = said_of turns (verdict bytes)
+part_text turns bytes = read_part_text turns (verdict bytes)
 
 -- the lines of parts from this number on, by what is said of each
 abbrev pub lines_from : ℕ → List (List ℕ) → List ℕ

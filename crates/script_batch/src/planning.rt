@@ -1,6 +1,6 @@
 // One part is planned, and what comes of it is said.
 ghost use Rattle.std.specs.Prelude.{◌≡◌, ◌≤◌, IfOk, length};
-ghost use Rattle.script_batch.specs.Report.{counts_of, part_text, told_of};
+ghost use Rattle.script_batch.specs.Report.{counts_of, part_text, counts_at_end};
 ghost use Rattle.script_gate.specs.Posted.{IsPosted};
 ghost use Rattle.script_text.specs.Limits.{IsWithinLimits};
 
@@ -14,9 +14,9 @@ use std::alloc::Global;
 use whole_streams::CountSink;
 
 // The numbers that a session to its end tells of itself; its trace has so many bytes.
-fn told_of(script: &Script, session: &Session, trace: u64) -> Counts
+fn counts_at_end(script: &Script, session: &Session, trace: u64) -> Counts
     requires { length session.now.taken ≤ length script.now.posts }
-    ensures { result ≡ told_of script.now session.now trace }
+    ensures { result ≡ counts_at_end script.now session.now trace }
 {
     let taken = session.taken.len() as u64;
     Counts {
@@ -39,7 +39,7 @@ fn counts_of(alloc: Global, turns: u64, script: &Script) -> Result<Counts, NoMem
     if !is_over(session.end) {
         return Err(NoMemory);
     }
-    Ok(told_of(script, &session, counted.count()))
+    Ok(counts_at_end(script, &session, counted.count()))
 }
 
 // What is said of a part, by its bytes.

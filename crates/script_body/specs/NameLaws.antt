@@ -3,7 +3,7 @@ use Rattle.lwp_types.specs.Names.{KeepsLengths, Names}
 use Rattle.lwp_types.specs.declared.call.Answer.{Answer}
 use Rattle.lwp_types.specs.declared.call.Answer.TheVariants as answer
 use Rattle.script_body.specs.Naming.{after_name, after_name_by, with_condition_name_by, with_monitor_name_by, with_thread_name_by}
-use Rattle.script_body.specs.ScriptBody.{ScriptBody, after_take, polled_by, script_next}
+use Rattle.script_body.specs.ScriptBody.{ScriptBody, after_take, poll_of_answer, script_next}
 use Rattle.script_text.specs.declared.script.Stmt.{Stmt}
 use Rattle.script_text.specs.declared.script.Stmt.TheVariants as stmt
 use Rattle.std.proofs.Common.{None, Option, Some, refl, ℕ}
@@ -35,7 +35,7 @@ by_last : (a : Answer) (last : Option Stmt) (names : Names) → KeepsLengths nam
 by_last a None names = same names
 by_last a (Some s) names = by_stmt a s names
 
-by_taken : (body : ScriptBody) (names : Names) (a : Answer) (now : Option ScriptBody) → KeepsLengths names (polled_by body names a now).2
+by_taken : (body : ScriptBody) (names : Names) (a : Answer) (now : Option ScriptBody) → KeepsLengths names (poll_of_answer body names a now).2
 by_taken body names a None = same names
 by_taken body names a (Some now) = by_last a body.last names
 

@@ -113,14 +113,14 @@ abbrev pub behind : ScriptBody → At → ScriptBody
 behind body at = record body { top = record body.top { place = at.place }; last = Some at.stmt }
 
 -- the call of that statement; the thread goes on behind it
-abbrev pub polled_at : ScriptBody → Names → At → Polled ScriptBody
-polled_at body names at = (call_of body.script body.sender names at.stmt, behind body at, names)
+abbrev pub poll_of_call : ScriptBody → Names → At → Polled ScriptBody
+poll_of_call body names at = (call_of body.script body.sender names at.stmt, behind body at, names)
 
 -- to an answer that can't be taken it returns
-abbrev pub polled_by : ScriptBody → Names → Answer → Option ScriptBody → Polled ScriptBody
-polled_by body names a None = stop_poll body names
-polled_by body names a (Some now) = polled_at now (after_name a body.last names) (stmt_after a now)
+abbrev pub poll_of_answer : ScriptBody → Names → Answer → Option ScriptBody → Polled ScriptBody
+poll_of_answer body names a None = stop_poll body names
+poll_of_answer body names a (Some now) = poll_of_call now (after_name a body.last names) (stmt_after a now)
 
 -- a thread takes the answer, and goes on to the next statement that makes a call
 unfoldable pub script_next : Next ScriptBody
-script_next body names a = polled_by body names a (after_take body a)
+script_next body names a = poll_of_answer body names a (after_take body a)

@@ -13,9 +13,9 @@ use Rattle.whole_streams.specs.declared.reading.ReadFailure.{ReadFailure}
 use Rattle.whole_streams.specs.declared.reading.ReadFailure.TheVariants as read_failure
 
 -- the failure of a read that failed
-abbrev pub read_failed : ReadFailure → CopyFailure
-read_failed read_failure.Fault = failure.ReadFault
-read_failed read_failure.NoMemory = failure.NoMemory
+abbrev pub failure_of_read : ReadFailure → CopyFailure
+failure_of_read read_failure.Fault = failure.ReadFault
+failure_of_read read_failure.NoMemory = failure.NoMemory
 
 -- the failure where the bytes aren't read as a script
 abbrev pub copy_failure : ReadErr → CopyFailure

@@ -1,6 +1,6 @@
 // Why a script wasn't copied.
 ghost use Rattle.std.specs.Prelude.{◌≡◌};
-ghost use Rattle.script_copy.specs.Copying.{copy_failure, read_failed, status_of};
+ghost use Rattle.script_copy.specs.Copying.{copy_failure, failure_of_read, status_of};
 ghost use Rattle.script_copy.specs.declared.failure.CopyFailure.TheVariants as failure;
 
 use lwp_types::{Failed, NoMemory};
@@ -34,7 +34,7 @@ impl From<Failed> for CopyFailure {
 }
 
 impl From<ReadFailure> for CopyFailure {
-    ghost from_gives = { λ why e. e ≡ read_failed why };
+    ghost from_gives = { λ why e. e ≡ failure_of_read why };
 
     fn from(why: ReadFailure) -> CopyFailure {
         match why {

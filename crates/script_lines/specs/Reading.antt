@@ -189,9 +189,9 @@ abbrev pub first_word : List ℕ → List ℕ
 first_word line = take (reach 32 line) line
 
 -- what a line says, if its key is so long
-abbrev pub said_by : ℕ → List ℕ → Option Phrase
-said_by n line = option_and_then (λ o. fill (slots_of o) (blank o) (drop n line)) (op_at (take n line))
+abbrev pub phrase_by_key : ℕ → List ℕ → Option Phrase
+phrase_by_key n line = option_and_then (λ o. fill (slots_of o) (blank o) (drop n line)) (op_at (take n line))
 
 -- what a line says, if it is the text of a phrase
 unfoldable pub phrase_at : List ℕ → Option Phrase
-phrase_at line = said_by (key_length line) line
+phrase_at line = phrase_by_key (key_length line) line

@@ -12,7 +12,7 @@ use Rattle.lwp_types.specs.ListLaws.{All-push}
 use Rattle.lwp_types.specs.declared.call.Line.{Line}
 use Rattle.pod_runner.specs.Eager.{Plan, Planned, after_advance, boundary, has_choice, after_offer, after_offer_by, one_call, opening_plan, plan_over, plan_whole, pod_of, after_take, took_of, to_the_end}
 use Rattle.pod_runner.specs.Over.{events}
-use Rattle.pod_runner.specs.Trace.{left_from}
+use Rattle.pod_runner.specs.Trace.{left_counts_from}
 use Rattle.pod_runner.specs.declared.session.Took.{Took}
 use Rattle.pod_events.specs.Events.{is_takeable}
 use Rattle.script_text.specs.Script.{lines_posted}
@@ -228,9 +228,9 @@ count_left c (s ∷ ss) = omega (
   length-filter (is_of c) s.left,
 )
 
-pub counts_left : (c : ℕ) (clients : List ℕ) (shelves : Shelves) → left_from c clients shelves ≡ counts_from c clients (lines_left shelves)
+pub counts_left : (c : ℕ) (clients : List ℕ) (shelves : Shelves) → left_counts_from c clients shelves ≡ counts_from c clients (lines_left shelves)
 counts_left c [] shelves = refl
-counts_left c (e ∷ es) shelves = ap (λ n. n ∷ left_from (c + 1) es shelves) (count_left c shelves) ∙ ap (λ ns. length (of c (lines_left shelves)) ∷ ns) (counts_left (c + 1) es shelves)
+counts_left c (e ∷ es) shelves = ap (λ n. n ∷ left_counts_from (c + 1) es shelves) (count_left c shelves) ∙ ap (λ ns. length (of c (lines_left shelves)) ∷ ns) (counts_left (c + 1) es shelves)
 
 numbered_left : (n : ℕ) (xs ys : List Line) → IsNumbered n (xs ++ ys) → IsNumbered n xs
 numbered_left n [] ys h = tt

@@ -2,10 +2,10 @@
 use Rattle.event_gate.proofs.Lines.{cond_other, cond_same, same_or}
 use Rattle.event_gate.specs.History.{lines_of}
 use Rattle.event_gate.specs.Port.{of}
-use Rattle.script_session.specs.History.{pair_of, pairs_of, taken_as}
+use Rattle.script_session.specs.History.{pair_of, pairs_of, taken_of}
 use Rattle.whole_streams.specs.Counting.{Counting}
 use Rattle.script_session.proofs.SaidLaws.{says-all}
-use Rattle.script_plan.specs.Make.{IsMake, IsOver, IsSummedUp, MakeSays, TellsAll, TellsPart, is_over, make_turns, status_by, summary_by, summary_of, told_of}
+use Rattle.script_plan.specs.Make.{IsMake, IsOver, IsSummedUp, MakeSays, TellsAll, TellsPart, is_over, make_turns, status_by, summary_by, summary_of, summary_at_end}
 use Rattle.script_session.specs.Outcome.{end_of, status_of}
 use Rattle.script_plan.specs.Plan.{IsPart, IsRun, IsWhole, RunSays}
 use Rattle.script_session.specs.SoFar.{IsHistory}
@@ -115,13 +115,13 @@ ran-by script bytes session halt takes ended tells w = record {
   over = record { halt = halt; halted = w.halted; ended = ended; stuck = w.stuck };
   all = record {
     calls = w.made;
-    taken = tells ∙ ap (λ ts. map taken_as ts) w.taken;
+    taken = tells ∙ ap (λ ts. map taken_of ts) w.taken;
     due = rw (← w.taken, ← w.made) w.due;
     left = w.left;
     history = rw (← w.taken) w.history;
   };
   trace = cc w.trace;
-  few = omega (arith, few_taken script takes w.left w.history, ap length tells, length-map takes taken_as);
+  few = omega (arith, few_taken script takes w.left w.history, ap length tells, length-map takes taken_of);
 }
 
 run-of : (script : Script) (sink : Stream) (session : Session) (e : SessionEnd) → is_over e ≡ true → RunSays make_turns script sink session e → IsRun make_turns script sink session
@@ -238,13 +238,13 @@ says-whole summary told script bytes sink session is written faultless o r =
 
 -- ---- the summary
 
-pub told-is : (seed threads lines : ℕ) (script : Script) (bytes : List ℕ) (session : Session) (told : Summary) (n m : ℕ) → told ≡ told_of script n session m
+pub told-is : (seed threads lines : ℕ) (script : Script) (bytes : List ℕ) (session : Session) (told : Summary) (n m : ℕ) → told ≡ summary_at_end script n session m
     → n ≡ length (made_script seed threads lines) → m ≡ length bytes → session.status ≡ status_of session.end → Ran script bytes session → summary_text told ≡ summary_of seed threads lines script
 told-is seed threads lines script bytes session told n m is text trace status r =
-    let taken : length session.taken ≡ length (takes_of script make_turns) = ap length r.all.taken ∙ length-map (takes_of script make_turns) taken_as in
+    let taken : length session.taken ≡ length (takes_of script make_turns) = ap length r.all.taken ∙ length-map (takes_of script make_turns) taken_of in
     let posted : length (lines_posted script) ≡ length script.posts = length-map script.posts (line_of script.texts) in
     let ended : session.status ≡ status_by (halt_of script make_turns) = status ∙ ap status_of r.over.ended ∙ sym (ap status_by r.over.halted) in
-    let same : told_of script n session m ≡ summary_by (made_script seed threads lines) script = rw (text, trace, r.all.calls, taken, ← posted, ended, r.trace) refl in
+    let same : summary_at_end script n session m ≡ summary_by (made_script seed threads lines) script = rw (text, trace, r.all.calls, taken, ← posted, ended, r.trace) refl in
     ap summary_text (is ∙ same)
 
 -- ---- the script that is made

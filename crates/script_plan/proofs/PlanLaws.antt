@@ -27,7 +27,7 @@ use Rattle.pod_runner.specs.Over.{halt_if, is_wanted, over}
 use Rattle.pod_runner.specs.Run as run
 use Rattle.pod_runner.specs.Run.{AppendsCut, EndsAt, GoesOn, IsNew, Played}
 use Rattle.pod_runner.specs.Session.{Setting}
-use Rattle.pod_runner.specs.Trace.{left_from, lines, made_lines, tail, tail_by, trace}
+use Rattle.pod_runner.specs.Trace.{left_counts_from, lines, made_lines, tail, tail_by, trace}
 use Rattle.pod_runner.specs.declared.session.Took.{Took}
 use Rattle.trace_text.specs.Lines.{end_text}
 use Rattle.script_text.specs.Script.{lines_posted, proc_names}
@@ -158,15 +158,15 @@ over-is : (script : Script) (turns : ℕ) (r : Played Script) (stock : Shelves) 
 over-is script turns r stock halt h = ap (λ t. over t (run.session_of body_next bodies_of r).live.pod r.calls stock) (sym h.came_so.plays_it.turns_same) ∙ h.ends
 
 end-trace : (script : Script) (turns : ℕ) (r : Played Script) (stock : Shelves) (halt : Halt) → Finished script turns r stock halt
-    → trace_of script turns ≡ run.trace_of body_next bodies_of proc_names r ++ end_text turns (left_from 0 script.clients stock) halt
+    → trace_of script turns ≡ run.trace_of body_next bodies_of proc_names r ++ end_text turns (left_counts_from 0 script.clients stock) halt
 unfolding trace_of
 end-trace script turns r stock halt h =
     ap (trace (proc_names script) script.clients (planned_of script turns)) h.whole
     ∙ ap (λ o. lines (proc_names script) (run.session_of body_next bodies_of r).steps ++ tail_by turns script.clients stock o) (over-is script turns r stock halt h)
-    ∙ ap (λ p. lines (proc_names p) (run.session_of body_next bodies_of r).steps ++ end_text turns (left_from 0 script.clients stock) halt) (sym h.came_so.plays_it.program)
+    ∙ ap (λ p. lines (proc_names p) (run.session_of body_next bodies_of r).steps ++ end_text turns (left_counts_from 0 script.clients stock) halt) (sym h.came_so.plays_it.program)
 
 pub whole-of : (script : Script) (turns : ℕ) (r : Played Script) (stock : Shelves) (halt : Halt) (old mid new : Option (List ℕ)) (last : List ℕ) → Finished script turns r stock halt → IsPosted script
-    → mid ≡ after_append old (run.trace_of body_next bodies_of proc_names r) → last ≡ end_text turns (left_from 0 script.clients stock) halt → new ≡ after_append mid last
+    → mid ≡ after_append old (run.trace_of body_next bodies_of proc_names r) → last ≡ end_text turns (left_counts_from 0 script.clients stock) halt → new ≡ after_append mid last
     → IsWhole turns script old new r.takes r.calls halt
 unfolding halt_of calls_of takes_of
 whole-of script turns r stock halt old mid new last h posted g e n =
@@ -182,21 +182,21 @@ whole-of script turns r stock halt old mid new last h posted g e n =
       left = lines_left stock;
       history = subst (λ (p : Plan ThreadBody). IsClientHistory script.clients (lines_posted script) (pairs_of p.takes) (lines_left p.left)) h.whole (whole_history script turns posted);
       printed = end-trace script turns r stock halt h
-          ∙ ap (λ ls. ls ++ end_text turns (left_from 0 script.clients stock) halt) (lines-is script turns r h.came_so.plays_it)
+          ∙ ap (λ ls. ls ++ end_text turns (left_counts_from 0 script.clients stock) halt) (lines-is script turns r h.came_so.plays_it)
           ∙ ap (λ ns. lines_after script r.takes r.calls ++ end_text turns ns halt) (counts_left 0 script.clients stock);
       stuck = λ is. let plan = plan_of script turns in stuck-wants turns plan.session.live.pod plan.calls plan.left (halted ∙ ap Some is);
     }
 
 -- the last write failed
 pub part-last : (script : Script) (turns : ℕ) (r : Played Script) (stock : Shelves) (halt : Halt) (old mid new : Option (List ℕ)) (last : List ℕ) → Finished script turns r stock halt → IsPosted script
-    → mid ≡ after_append old (run.trace_of body_next bodies_of proc_names r) → last ≡ end_text turns (left_from 0 script.clients stock) halt → AppendsPart mid new last
+    → mid ≡ after_append old (run.trace_of body_next bodies_of proc_names r) → last ≡ end_text turns (left_counts_from 0 script.clients stock) halt → AppendsPart mid new last
     → IsPart turns script old new r.takes r.calls
 part-last script turns r stock halt old mid new last h posted g e p = let all = run.trace_of body_next bodies_of proc_names r in
     part-by script turns r stock old new h.came_so posted
     (prefix-then old mid new all last (trace_of script turns) (end-trace script turns r stock halt h ∙ ap (λ xs. all ++ xs) (sym e)) g (p.kept, p.told))
 
 pub broken-last : (script : Script) (turns : ℕ) (r : Played Script) (stock : Shelves) (halt : Halt) (old mid new : Option (List ℕ)) (last : List ℕ) → Finished script turns r stock halt
-    → mid ≡ after_append old (run.trace_of body_next bodies_of proc_names r) → last ≡ end_text turns (left_from 0 script.clients stock) halt → AppendsPart mid new last
+    → mid ≡ after_append old (run.trace_of body_next bodies_of proc_names r) → last ≡ end_text turns (left_counts_from 0 script.clients stock) halt → AppendsPart mid new last
     → IsBroken turns script old new r.takes r.calls
 unfolding calls_of takes_of
 broken-last script turns r stock halt old mid new last h g e p =

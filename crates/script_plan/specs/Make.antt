@@ -56,8 +56,8 @@ abbrev pub summary_of : ℕ → ℕ → ℕ → Script → List ℕ
 summary_of seed threads lines script = summary_text (summary_by (made_script seed threads lines) script)
 
 -- what is told of a session to its end, by what it says of itself; the script's text and the trace have these lengths
-abbrev pub told_of : Script → ℕ → Session → ℕ → Summary
-told_of script text session trace = record {
+abbrev pub summary_at_end : Script → ℕ → Session → ℕ → Summary
+summary_at_end script text session trace = record {
   script = text;
   calls = session.turns;
   taken = length session.taken;

@@ -1,5 +1,5 @@
 // The lines of a script's clients that are left behind a run.
-ghost use Rattle.pod_runner.specs.Trace.{left_from};
+ghost use Rattle.pod_runner.specs.Trace.{left_counts_from};
 ghost use Rattle.std.specs.Prelude.{◌≡◌, ◌≤◌, IfOk, length};
 
 use event_gate::Gate;
@@ -13,7 +13,7 @@ pub fn counts_left<'s, G: Gate<'s>>(
     gate: &G,
 ) -> Result<Vec<u32>, NoMemory>
     requires { length clients.now ≤ 256 }
-    ensures { IfOk result (λ counts. counts.items ≡ left_from 0 clients.now (G.stock gate.now)) }
+    ensures { IfOk result (λ counts. counts.items ≡ left_counts_from 0 clients.now (G.stock gate.now)) }
 {
     let mut counts = Vec::new(alloc);
     for client in 0..clients.len() {

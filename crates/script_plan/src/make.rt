@@ -1,7 +1,7 @@
 // A script is made and run, and its session is summed up.
 ghost use Rattle.std.specs.Prelude.{◌≡◌, ◌≤◌, [], IfOk, OnOk, IsErrOf, length};
 ghost use Rattle.lwp_types.specs.Streams.{Rose, after_append};
-ghost use Rattle.script_plan.specs.Make.{IsMake, is_over, told_of};
+ghost use Rattle.script_plan.specs.Make.{IsMake, is_over, summary_at_end};
 ghost use Rattle.script_maker.specs.Order.{IsAllowed};
 ghost use Rattle.script_maker.specs.Summary.{summary_text};
 ghost use Rattle.script_text.specs.Grammar.{Spells};
@@ -48,7 +48,7 @@ pub fn is_over(end: SessionEnd) -> bool
 // What is told of a script's session, where its text and its trace have these lengths.
 fn summary_of(script: &Script, text: u64, session: &Session, trace: u64) -> Summary
     requires { length session.now.taken ≤ length script.now.posts }
-    ensures { result ≡ told_of script.now text session.now trace }
+    ensures { result ≡ summary_at_end script.now text session.now trace }
 {
     let taken = session.taken.len() as u64;
     Summary {

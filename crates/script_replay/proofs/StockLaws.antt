@@ -8,7 +8,7 @@ use Rattle.replay.specs.Next.{next_in, without_next}
 use Rattle.replay.specs.Walk.{AreLeft, ClientsLeft, IsFit}
 use Rattle.script_gate.specs.Places.{line_at, no_line}
 use Rattle.script_gate.specs.Posted.{IsPosted}
-use Rattle.script_replay.specs.Stock.{AreFrom, left_by, with_place, without_first}
+use Rattle.script_replay.specs.Stock.{AreFrom, lines_by_places, with_place, without_first}
 use Rattle.script_text.specs.Script.{line_of, lines_posted}
 use Rattle.script_text.specs.declared.script.Post.{Post}
 use Rattle.script_text.specs.declared.script.Script.{Script}
@@ -52,27 +52,27 @@ from-before posts all k c low own was d there = ⊎_elim
     front = drop_more posts k no_line low
 
 module _ (posts : List Line) where
-  left-at : (all : List (List ℕ)) (c : ℕ) → c < length all → slice_index_or (left_by posts all) c [] ≡ map (line_at posts) (slice_index_or all c [])
+  left-at : (all : List (List ℕ)) (c : ℕ) → c < length all → slice_index_or (lines_by_places posts all) c [] ≡ map (line_at posts) (slice_index_or all c [])
   left-at all c low = get_or-map (λ places. map (line_at posts) places) all c [] [] low
 
-  pub are-left : (clients : List ℕ) (all : List (List ℕ)) → length all ≡ length clients → AreFrom posts 0 all → AreLeft (record { clients = clients; left = left_by posts all }) posts
+  pub are-left : (clients : List ℕ) (all : List (List ℕ)) → length all ≡ length clients → AreFrom posts 0 all → AreLeft (record { clients = clients; left = lines_by_places posts all }) posts
   are-left clients all long from = record {
     long = length-map all (λ places. map (line_at posts) places) ∙ long;
     each = λ c low. left-at all c (omega (arith, low, long)) ∙ from c (omega (arith, low, long));
   }
 
-  pub next-at : (clients : List ℕ) (all : List (List ℕ)) (c : ℕ) → c < length all → next_in (record { clients = clients; left = left_by posts all }) c ≡ option_map (line_at posts) (slice_get (slice_index_or all c []) 0)
+  pub next-at : (clients : List ℕ) (all : List (List ℕ)) (c : ℕ) → c < length all → next_in (record { clients = clients; left = lines_by_places posts all }) c ≡ option_map (line_at posts) (slice_get (slice_index_or all c []) 0)
   next-at clients all c low = ap (λ l. slice_get l 0) (left-at all c low) ∙ slice_get-map (line_at posts) (slice_index_or all c []) 0
 
   pub left-without : (clients : List ℕ) (all : List (List ℕ)) (c : ℕ) → c < length all
-      → ◌≡◌ {A = ClientsLeft} (record { clients = clients; left = left_by posts (without_first c all) }) (without_next (record { clients = clients; left = left_by posts all }) c)
+      → ◌≡◌ {A = ClientsLeft} (record { clients = clients; left = lines_by_places posts (without_first c all) }) (without_next (record { clients = clients; left = lines_by_places posts all }) c)
   left-without clients all c low = ap (λ (l : List (List Line)). record { clients = clients; left = l })
       (map-set (λ places. map (line_at posts) places) all c (drop 1 (slice_index_or all c []))
-      ∙ ap (set (left_by posts all) c) (sym (drop-map (line_at posts) 1 (slice_index_or all c [])) ∙ ap (drop 1) (sym (left-at all c low))))
+      ∙ ap (set (lines_by_places posts all) c) (sym (drop-map (line_at posts) 1 (slice_index_or all c [])) ∙ ap (drop 1) (sym (left-at all c low))))
 
-  pub counts-are : (all : List (List ℕ)) → map (λ (l : List Line). length l) (left_by posts all) ≡ map (λ (l : List ℕ). length l) all
+  pub counts-are : (all : List (List ℕ)) → map (λ (l : List Line). length l) (lines_by_places posts all) ≡ map (λ (l : List ℕ). length l) all
   counts-are [] = refl
-  counts-are (places ∷ all) = ap (λ n. n ∷ map (λ (l : List Line). length l) (left_by posts all)) (length-map places (line_at posts)) ∙ ap (λ ns. length places ∷ ns) (counts-are all)
+  counts-are (places ∷ all) = ap (λ n. n ∷ map (λ (l : List Line). length l) (lines_by_places posts all)) (length-map places (line_at posts)) ∙ ap (λ ns. length places ∷ ns) (counts-are all)
 
 -- ---- the posts of a script
 

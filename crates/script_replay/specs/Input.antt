@@ -10,12 +10,12 @@ size_by None = None
 size_by (Some n) = if nat_le n 16777216 then Some n else None
 
 -- how many bytes a line says that the script behind it has: `replay N`
-abbrev pub said_by : List ℕ → Option ℕ
-said_by line = if bytes_eq (take 7 line) (codes "replay ") then size_by (number_at (drop 7 line)) else None
+abbrev pub length_told : List ℕ → Option ℕ
+length_told line = if bytes_eq (take 7 line) (codes "replay ") then size_by (number_at (drop 7 line)) else None
 
 -- where the script lies, if the first line says so, ends, and has so many bytes behind it
 abbrev pub script_behind : List ℕ → Option Part
-script_behind text = part_behind 0 (line_length text) (said_by (take (line_length text) text)) (length text)
+script_behind text = part_behind 0 (line_length text) (length_told (take (line_length text) text)) (length text)
 
 -- the same of an input, which may have 268,435,456 bytes
 abbrev pub script_in : List ℕ → Option Part

@@ -11,8 +11,8 @@ pub record Stock : Type 0 where
   pub lines : ClientsLeft
 
 -- the lines of each client, by the places of their posts
-abbrev pub left_by : List Line → List (List ℕ) → List (List Line)
-left_by posts all = map (λ places. map (line_at posts) places) all
+abbrev pub lines_by_places : List Line → List (List ℕ) → List (List Line)
+lines_by_places posts all = map (λ places. map (line_at posts) places) all
 
 -- one place more of a client, before those that it has
 abbrev pub with_place : ℕ → ℕ → List (List ℕ) → List (List ℕ)

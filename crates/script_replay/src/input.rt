@@ -1,7 +1,7 @@
 // The input of a replay is read, and its script found in it.
 ghost use Rattle.batch.specs.Parts.{LiesIn, line_length};
 ghost use Rattle.script_replay.specs.Found.{IsInput, IsNoInput};
-ghost use Rattle.script_replay.specs.Input.{said_by, script_behind, script_in, size_by};
+ghost use Rattle.script_replay.specs.Input.{length_told, script_behind, script_in, size_by};
 ghost use Rattle.std.specs.Prelude.{IfErr, IfOk, IfSome, OnOk, length, ◌≡◌, ◌≤◌};
 ghost use Rattle.whole_streams.specs.Limited.{IsReadUp};
 ghost use Rattle.whole_streams.specs.Streams.{sides};
@@ -48,8 +48,8 @@ fn size_by(number: Option<u32>) -> Option<usize>
 }
 
 // How many bytes a line says that the script behind it has.
-fn said_by(line: &[u8]) -> Option<usize>
-    ensures value { result ≡ said_by line.now }
+fn length_told(line: &[u8]) -> Option<usize>
+    ensures value { result ≡ length_told line.now }
     ensures most { IfSome result (λ size. size ≤ 16777216) }
 {
     match line {
@@ -64,7 +64,7 @@ fn script_behind(text: &[u8]) -> Option<Part>
     ensures lies { IfSome result (LiesIn text.now) }
 {
     let line = line_length(text);
-    let size = said_by(&text[..line])?;
+    let size = length_told(&text[..line])?;
     if text.len() - line <= size {
         return None;
     }

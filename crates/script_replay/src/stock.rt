@@ -22,7 +22,7 @@ pub(crate) struct ScriptLines<'s> {
 }
 
 impl<'s> Model for ScriptLines<'s> {
-    ghost use Rattle.script_replay.specs.Stock.{Stock, left_by};
+    ghost use Rattle.script_replay.specs.Stock.{Stock, lines_by_places};
     ghost use Rattle.script_text.specs.Script.{lines_posted};
     ghost use Rattle.std.specs.Prelude.{length, ◌≡◌};
 
@@ -30,7 +30,7 @@ impl<'s> Model for ScriptLines<'s> {
 
     ghost view = { λ s. record {
       posts = lines_posted s.script.now;
-      lines = record { clients = s.script.now.clients; left = left_by (lines_posted s.script.now) s.places.items };
+      lines = record { clients = s.script.now.clients; left = lines_by_places (lines_posted s.script.now) s.places.items };
     } };
 
     ghost invariant = { λ s. length s.places.items ≡ length s.script.now.clients };

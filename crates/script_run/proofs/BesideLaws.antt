@@ -1,6 +1,6 @@
 -- How a run goes on beside the threads that post to it, part by part.
 use Rattle.event_gate.specs.Inlet.{AllTold, EachInlet, HasEvent, Intake, IsInletTold}
-use Rattle.event_gate.specs.Port.{told_of}
+use Rattle.event_gate.specs.Port.{lines_in_pass}
 use Rattle.event_gate.specs.Texts.{lines_from}
 use Rattle.live_clients.specs.Inlets.{fresh}
 use Rattle.live_clients.specs.Served.{AreServed, Gave, Hears}
@@ -8,7 +8,7 @@ use Rattle.script_run.proofs.LeftLaws.{taken-append}
 use Rattle.script_run.specs.Beside.{GoesBeside, IsFed, KnowAll}
 use Rattle.script_program.specs.Bodies.{bodies_of, body_next}
 use Rattle.pod_runner.proofs.Rounds.{goes-same, ran-answer, ran-behind, ran-other, stream, tells-broke, tells-wrote}
-use Rattle.pod_runner.specs.Live.{Answers, Draws, Gives, LivesOn, lines_taken, may_lose}
+use Rattle.pod_runner.specs.Live.{Answers, Draws, Gives, LivesOn, lines_of_takes, may_lose}
 use Rattle.pod_runner.specs.Run.{Broke, GoesOn, Played, Wrote, trace_before, trace_of}
 use Rattle.whole_streams.specs.Streams.{Stream}
 use Rattle.pod_runner.specs.declared.live.Live.{Live}
@@ -50,7 +50,7 @@ fed-heard takes a b most h f = record {
   few = f.few;
   given = λ k d low.
       let under : k < length a = subst (λ n. k < n) h.0 low in
-      ap (λ (w : Intake). w.taken) (h.1 k d under) ∙ f.given k d under ∙ ap (λ e. lines_taken e (takes ++ f.lost)) (sym (hears-event (slice_index_or a k d) (slice_index_or b k d) (h.1 k d under)));
+      ap (λ (w : Intake). w.taken) (h.1 k d under) ∙ f.given k d under ∙ ap (λ e. lines_of_takes e (takes ++ f.lost)) (sym (hears-event (slice_index_or a k d) (slice_index_or b k d) (h.1 k d under)));
   known = λ k d low. has-after Hears a b (slice_index_or takes k d).event hears-event h (f.known k d low);
 }
 
@@ -67,10 +67,10 @@ fed-drawn old new a b most p f = record {
       let u = slice_index_or b k d in
       let g : Gives (p.later ++ p.lost) t u = p.given.1 k d under in
       ap (λ (w : Intake). w.taken) g.after
-      ∙ ap (λ ls. ls ++ lines_taken t.event (p.later ++ p.lost)) (f.given k d under ∙ ap (λ xs. lines_taken t.event xs) (ap (λ xs. old.takes ++ xs) (empty f.lost f.few) ∙ append-nil old.takes))
+      ∙ ap (λ ls. ls ++ lines_of_takes t.event (p.later ++ p.lost)) (f.given k d under ∙ ap (λ xs. lines_of_takes t.event xs) (ap (λ xs. old.takes ++ xs) (empty f.lost f.few) ∙ append-nil old.takes))
       ∙ sym (taken-append t.event old.takes (p.later ++ p.lost))
-      ∙ ap (lines_taken t.event) (sym (append_assoc old.takes p.later p.lost) ∙ ap (λ xs. xs ++ p.lost) (sym p.extends.takes))
-      ∙ ap (λ e. lines_taken e (new.takes ++ p.lost)) (sym (gives-same (p.later ++ p.lost) t u g));
+      ∙ ap (lines_of_takes t.event) (sym (append_assoc old.takes p.later p.lost) ∙ ap (λ xs. xs ++ p.lost) (sym p.extends.takes))
+      ∙ ap (λ e. lines_of_takes e (new.takes ++ p.lost)) (sym (gives-same (p.later ++ p.lost) t u g));
   known = subst (All (λ (took : Took). HasEvent b took.event)) (sym p.extends.takes)
       (All-append (λ (took : Took). HasEvent b took.event) old.takes p.later
       (λ k d low. has-after (Gives (p.later ++ p.lost)) a b (slice_index_or old.takes k d).event (gives-same (p.later ++ p.lost)) p.given (f.known k d low))
@@ -98,7 +98,7 @@ fed-fresh inlets h = record {
 pub gave-drawn : (old new : Played Script) (a b : List Intake) (most : ℕ) → Draws body_next bodies_of old new a b most → EachInlet Gave a b
 gave-drawn old new a b most p = (
   p.given.0,
-  λ k d low. let g = p.given.1 k d low in record { lines = lines_taken (slice_index_or a k d).event (p.later ++ p.lost); nothing = g.nothing; after = g.after },
+  λ k d low. let g = p.given.1 k d low in record { lines = lines_of_takes (slice_index_or a k d).event (p.later ++ p.lost); nothing = g.nothing; after = g.after },
 )
 
 -- ---- one after the other
@@ -171,7 +171,7 @@ know-all events texts all a b is s gave = λ k d low c under_c at.
     let under : k < length a = subst (λ n. k < n) gave.0 low in
     let g = gave.1 k d under in
     let h = (s.served k d under).lines c under_c (at ∙ ap (λ (t : Intake). t.event) g.after) in
-    ap (λ (t : Intake). told_of c t.known) g.after ∙ h.posted ∙ ap (lines_from c 0) (h.whole is)
+    ap (λ (t : Intake). lines_in_pass c t.known) g.after ∙ h.posted ∙ ap (lines_from c 0) (h.whole is)
 
 -- where all passes came back, a run isn't quiet
 pub never-quiet : (r : Played Script) (before after : List Intake) (answer : Live) → answer ≡ live.Quiet → Answers body_next bodies_of r before after answer → AllTold after → ⊥

@@ -9,7 +9,7 @@ use Rattle.lwp_types.specs.Choice.{choice}
 use Rattle.lwp_types.specs.declared.call.Line.{Line}
 use Rattle.script_run.specs.Clients.{texts_for}
 use Rattle.script_session.specs.History.{counts_from, pairs_of}
-use Rattle.pod_runner.specs.Live.{is_take_of, lines_taken}
+use Rattle.pod_runner.specs.Live.{is_take_of, lines_of_takes}
 use Rattle.pod_runner.specs.Over.{can_take, events, halt_if, is_wanted, over}
 use Rattle.pod_runner.specs.declared.session.Took.{Took}
 use Rattle.trace_text.specs.declared.ends.Halt.{Halt}
@@ -104,9 +104,9 @@ IsAway clients e c = (event_of clients c ≢ e) ⊎ (length clients ≤ c)
 -- the lines taken of each client, which all are of its event, are its first
 pub record IsGiven (has : ℕ → Type 0) (clients : List ℕ) (posts : List Line) (takes lost : List Took) : Type 0 where
   -- no line of an event is that of another's client, or of nobody's
-  pub stray : (e c : ℕ) → has e → IsAway clients e c → of c (lines_taken e (takes ++ lost)) ≡ []
+  pub stray : (e c : ℕ) → has e → IsAway clients e c → of c (lines_of_takes e (takes ++ lost)) ≡ []
   -- those of a client's event are its first
-  pub first : (c : ℕ) → c < length clients → (rest : List Line) × (of c (lines_taken (event_of clients c) (takes ++ lost)) ++ rest ≡ of c posts)
+  pub first : (c : ℕ) → c < length clients → (rest : List Line) × (of c (lines_of_takes (event_of clients c) (takes ++ lost)) ++ rest ≡ of c posts)
   pub known : AllByRecursion (λ (took : Took). has took.event) takes
 
 -- what a script posts, and to which events
@@ -114,13 +114,13 @@ pub record ArePosts (clients : List ℕ) (posts : List Line) : Type 0 where
   pub clients_are : All (λ (line : Line). line.client < length clients) posts
   pub numbered : (c : ℕ) → IsNumbered 0 (of c posts)
 
-pub taken-append : (e : ℕ) (a b : List Took) → lines_taken e (a ++ b) ≡ lines_taken e a ++ lines_taken e b
+pub taken-append : (e : ℕ) (a b : List Took) → lines_of_takes e (a ++ b) ≡ lines_of_takes e a ++ lines_of_takes e b
 taken-append e a b = ap (map (λ (took : Took). took.line)) (filter-append (is_take_of e) a b) ∙ map-append (λ (took : Took). took.line) (filter (is_take_of e) a) (filter (is_take_of e) b)
 
-taken-push : (e : ℕ) (t : Took) (ts : List Took) → t.event ≡ e → lines_taken e (t ∷ ts) ≡ t.line ∷ lines_taken e ts
+taken-push : (e : ℕ) (t : Took) (ts : List Took) → t.event ≡ e → lines_of_takes e (t ∷ ts) ≡ t.line ∷ lines_of_takes e ts
 taken-push e t ts same = ap (map (λ (took : Took). took.line)) (cond_same t.event e (t ∷ filter (is_take_of e) ts) (filter (is_take_of e) ts) same)
 
-taken-pass : (e : ℕ) (t : Took) (ts : List Took) → t.event ≢ e → lines_taken e (t ∷ ts) ≡ lines_taken e ts
+taken-pass : (e : ℕ) (t : Took) (ts : List Took) → t.event ≢ e → lines_of_takes e (t ∷ ts) ≡ lines_of_takes e ts
 taken-pass e t ts other = ap (map (λ (took : Took). took.line)) (cond_other t.event e (t ∷ filter (is_take_of e) ts) (filter (is_take_of e) ts) other)
 
 none-left : (xs ys : List Line) → xs ++ ys ≡ [] → ys ≡ []
@@ -132,37 +132,37 @@ abbrev IsAtEvent : List ℕ → Took → Type 0
 IsAtEvent clients t = (event_of clients t.line.client ≡ t.event) × (t.line.client < length clients)
 
 at-events : (has : ℕ → Type 0) (clients : List ℕ) (before rest : List Took)
-    → ((e c : ℕ) → has e → IsAway clients e c → of c (lines_taken e (before ++ rest)) ≡ []) → AllByRecursion (λ (took : Took). has took.event) rest → AllByRecursion (IsAtEvent clients) rest
+    → ((e c : ℕ) → has e → IsAway clients e c → of c (lines_of_takes e (before ++ rest)) ≡ []) → AllByRecursion (λ (took : Took). has took.event) rest → AllByRecursion (IsAtEvent clients) rest
 at-events has clients before [] stray known = tt
 at-events has clients before (t ∷ ts) stray known = (
   (let c = t.line.client in
       let nowhere : IsAway clients t.event c → ⊥ = (λ away.
-      let nothing : of c (lines_taken t.event before) ++ of c (lines_taken t.event (t ∷ ts)) ≡ []
-      = sym (of-append c (lines_taken t.event before) (lines_taken t.event (t ∷ ts))) ∙ ap (of c) (sym (taken-append t.event before (t ∷ ts))) ∙ stray t.event c known.0 away in
-      let some : of c (lines_taken t.event (t ∷ ts)) ≡ t.line ∷ of c (lines_taken t.event ts)
-      = ap (of c) (taken-push t.event t ts refl) ∙ cond_same c c (t.line ∷ of c (lines_taken t.event ts)) (of c (lines_taken t.event ts)) refl in
-      let no : t.line ∷ of c (lines_taken t.event ts) ≡ [] = sym some ∙ none-left (of c (lines_taken t.event before)) (of c (lines_taken t.event (t ∷ ts))) nothing in
+      let nothing : of c (lines_of_takes t.event before) ++ of c (lines_of_takes t.event (t ∷ ts)) ≡ []
+      = sym (of-append c (lines_of_takes t.event before) (lines_of_takes t.event (t ∷ ts))) ∙ ap (of c) (sym (taken-append t.event before (t ∷ ts))) ∙ stray t.event c known.0 away in
+      let some : of c (lines_of_takes t.event (t ∷ ts)) ≡ t.line ∷ of c (lines_of_takes t.event ts)
+      = ap (of c) (taken-push t.event t ts refl) ∙ cond_same c c (t.line ∷ of c (lines_of_takes t.event ts)) (of c (lines_of_takes t.event ts)) refl in
+      let no : t.line ∷ of c (lines_of_takes t.event ts) ≡ [] = sym some ∙ none-left (of c (lines_of_takes t.event before)) (of c (lines_of_takes t.event (t ∷ ts))) nothing in
       cc no) in (
         ⊎_elim (λ (same : event_of clients c ≡ t.event). same) (λ (other : event_of clients c ≢ t.event). absurd (nowhere (inl other))) (same_or (event_of clients c) t.event),
         ⊎_elim (λ (under : c < length clients). under) (λ (past : length clients ≤ c). absurd (nowhere (inr past))) (cases_lt c (length clients)),
       )),
-  at-events has clients (before ++ t ∷ []) ts (λ e c h other. ap (λ xs. of c (lines_taken e xs)) (append_assoc before (t ∷ []) ts) ∙ stray e c h other) known.1,
+  at-events has clients (before ++ t ∷ []) ts (λ e c h other. ap (λ xs. of c (lines_of_takes e xs)) (append_assoc before (t ∷ []) ts) ∙ stray e c h other) known.1,
 )
 
 -- the takes of a client are among those of its event
-own : (clients : List ℕ) (c : ℕ) (takes : List Took) → AllByRecursion (IsAtEvent clients) takes → of c (lines_of (pairs_of takes)) ≡ of c (lines_taken (event_of clients c) takes)
+own : (clients : List ℕ) (c : ℕ) (takes : List Took) → AllByRecursion (IsAtEvent clients) takes → of c (lines_of (pairs_of takes)) ≡ of c (lines_of_takes (event_of clients c) takes)
 own clients c [] all = refl
 own clients c (t ∷ ts) all = let e = event_of clients c in ⊎_elim
     (λ (same : t.line.client ≡ c).
     cond_same t.line.client c (t.line ∷ of c (lines_of (pairs_of ts))) (of c (lines_of (pairs_of ts))) same
     ∙ ap (λ ls. t.line ∷ ls) (own clients c ts all.1)
-    ∙ sym (cond_same t.line.client c (t.line ∷ of c (lines_taken e ts)) (of c (lines_taken e ts)) same)
+    ∙ sym (cond_same t.line.client c (t.line ∷ of c (lines_of_takes e ts)) (of c (lines_of_takes e ts)) same)
     ∙ ap (of c) (sym (taken-push e t ts (sym all.0.0 ∙ ap (event_of clients) same))))
     (λ (other : t.line.client ≢ c).
     cond_other t.line.client c (t.line ∷ of c (lines_of (pairs_of ts))) (of c (lines_of (pairs_of ts))) other
     ∙ own clients c ts all.1
     ∙ ⊎_elim
-    (λ (here : t.event ≡ e). sym (cond_other t.line.client c (t.line ∷ of c (lines_taken e ts)) (of c (lines_taken e ts)) other) ∙ ap (of c) (sym (taken-push e t ts here)))
+    (λ (here : t.event ≡ e). sym (cond_other t.line.client c (t.line ∷ of c (lines_of_takes e ts)) (of c (lines_of_takes e ts)) other) ∙ ap (of c) (sym (taken-push e t ts here)))
     (λ (there : t.event ≢ e). ap (of c) (sym (taken-pass e t ts there)))
     (same_or t.event e))
     (same_or t.line.client c)
@@ -201,8 +201,8 @@ module _ (has : ℕ → Type 0) (clients : List ℕ) (posts : List Line) (takes 
       none-right [] ys h = refl
       none-right (x ∷ xs) ys h = absurd (cc h)
 
-      by : (e c : ℕ) → of c (lines_taken e (takes ++ lost)) ≡ [] → of c (lines_taken e takes) ≡ []
-      by e c none = none-right (of c (lines_taken e takes)) (of c (lines_taken e lost)) (sym (of-append c (lines_taken e takes) (lines_taken e lost)) ∙ ap (of c) (sym (taken-append e takes lost)) ∙ none)
+      by : (e c : ℕ) → of c (lines_of_takes e (takes ++ lost)) ≡ [] → of c (lines_of_takes e takes) ≡ []
+      by e c none = none-right (of c (lines_of_takes e takes)) (of c (lines_of_takes e lost)) (sym (of-append c (lines_of_takes e takes) (lines_of_takes e lost)) ∙ ap (of c) (sym (taken-append e takes lost)) ∙ none)
 
   -- the lines taken of a client are its first
   first-of : (c : ℕ) → (rest : List Line) × (of c (lines_of (pairs_of takes)) ++ rest ≡ of c posts)
@@ -212,10 +212,10 @@ module _ (has : ℕ → Type 0) (clients : List ℕ) (posts : List Line) (takes 
       by (inl under) =
           let e = event_of clients c in
           let found = h.first c under in (
-            of c (lines_taken e lost) ++ found.0,
-            ap (λ xs. xs ++ (of c (lines_taken e lost) ++ found.0)) (own clients c takes are-at)
-                ∙ sym (append_assoc (of c (lines_taken e takes)) (of c (lines_taken e lost)) found.0)
-                ∙ ap (λ xs. xs ++ found.0) (sym (of-append c (lines_taken e takes) (lines_taken e lost)) ∙ ap (of c) (sym (taken-append e takes lost)))
+            of c (lines_of_takes e lost) ++ found.0,
+            ap (λ xs. xs ++ (of c (lines_of_takes e lost) ++ found.0)) (own clients c takes are-at)
+                ∙ sym (append_assoc (of c (lines_of_takes e takes)) (of c (lines_of_takes e lost)) found.0)
+                ∙ ap (λ xs. xs ++ found.0) (sym (of-append c (lines_of_takes e takes) (lines_of_takes e lost)) ∙ ap (of c) (sym (taken-append e takes lost)))
                 ∙ found.1,
           )
       by (inr past) = (
@@ -247,7 +247,7 @@ module _ (has : ℕ → Type 0) (clients : List ℕ) (posts : List Line) (takes 
   }
 
   -- of a client whose event gave all its lines, none is left
-  pub none-left-of : (c : ℕ) → of c (lines_taken (event_of clients c) takes) ≡ of c posts → of c (left_lines clients posts takes) ≡ []
+  pub none-left-of : (c : ℕ) → of c (lines_of_takes (event_of clients c) takes) ≡ of c posts → of c (left_lines clients posts takes) ≡ []
   none-left-of c all =
       let same : of c (lines_of (pairs_of takes)) ≡ of c posts = own clients c takes are-at ∙ all in
       left-is c ∙ by (of c (lines_of (pairs_of takes))) (of c posts) (first-of c).0 same (first-of c).1

@@ -31,7 +31,7 @@ use Rattle.lwp_types.specs.Streams.{after_append}
 use Rattle.lwp_types.specs.declared.call.Line.{Line}
 use Rattle.lwp_types.specs.declared.text.Text.{Text}
 use Rattle.pod_runner.specs.Due.{IsDefined}
-use Rattle.pod_runner.specs.Live.{Halts, NoneComes, lines_taken, may_lose}
+use Rattle.pod_runner.specs.Live.{Halts, NoneComes, lines_of_takes, may_lose}
 use Rattle.pod_runner.specs.Over.{is_wanted, over}
 use Rattle.pod_runner.specs.Run as run
 use Rattle.pod_runner.specs.Run.{AppendsCut, Played}
@@ -89,7 +89,7 @@ module _ (clients : List ℕ) (posts : List Line) (texts : List (List (List ℕ)
         let t = slice_index_or inlets has.0 blank in
         let s : IsServed clients texts back.0 t = back.1.served has.0 blank has.1 in
         let at : t.event ≡ e = has.2 blank in
-        ap (λ k. of c (lines_taken k (takes ++ f.lost))) (sym at) ∙ ap (of c) (sym (f.given has.0 blank has.1))
+        ap (λ k. of c (lines_of_takes k (takes ++ f.lost))) (sym at) ∙ ap (of c) (sym (f.given has.0 blank has.1))
         ∙ none-of-another clients t.event c t.taken (recursion_from_All (λ (line : Line). (line.client < length clients) × (event_of clients line.client ≡ t.event)) t.taken s.mine) (subst (λ (k : ℕ). IsAway clients k c) (sym at) away);
     first = λ c low.
         let has : HasEvent inlets (event_of clients c) = back.1.are_for.found c 0 low in
@@ -99,7 +99,7 @@ module _ (clients : List ℕ) (posts : List Line) (texts : List (List (List ℕ)
         let h : HasLines c (texts_of texts c) back.0 t = s.lines c low (sym at) in
         let more = first-lines c 0 h.count (texts_of texts c) in (
           h.rest ++ more.0,
-          ap (λ ls. of c ls ++ (h.rest ++ more.0)) (ap (λ k. lines_taken k (takes ++ f.lost)) (sym at) ∙ sym (f.given has.0 blank has.1))
+          ap (λ ls. of c ls ++ (h.rest ++ more.0)) (ap (λ k. lines_of_takes k (takes ++ f.lost)) (sym at) ∙ sym (f.given has.0 blank has.1))
               ∙ sym (append_assoc (of c t.taken) h.rest more.0)
               ∙ ap (λ ls. ls ++ more.0) h.lines
               ∙ more.1
@@ -239,7 +239,7 @@ pub record Over (script : Script) (turns : ℕ) (r : Played Script) (inlets : Li
   pub ran : Ran script turns r inlets
   pub halted : Halts body_next bodies_of r inlets halt
   pub none_lost : (c : ℕ) → c < length script.clients → is_takeable (run.session_of body_next bodies_of r).live.pod (event_of script.clients c) ≡ true → NoneComes body_next bodies_of r inlets
-      → of c (lines_taken (event_of script.clients c) r.takes) ≡ of c (lines_posted script)
+      → of c (lines_of_takes (event_of script.clients c) r.takes) ≡ of c (lines_posted script)
 
 pub over-of : {T : Type 0} (script : Script) (turns : ℕ) (s : Stream) (o r : Played Script) (before after : List Intake) (texts : List (List (List ℕ))) (x : T) (halt : Halt) → GoesBeside s o r before after (Ok x)
     → o ≡ opening_run script turns → All (λ t. t ≡ fresh t.place t.event t.noted) before → texts ≡ texts_from 0 script.clients (lines_posted script) → IsPosted script → AreBack script.clients texts after
@@ -256,8 +256,8 @@ over-of script turns s o r before after texts x halt h opening new is posted bac
       let l : HasLines c (texts_of texts c) back.0 t = served.lines c low (sym at) in
       let taken : IsInletTaken t = none.1 has.0 blank has.1 (ap (is_takeable (run.session_of body_next bodies_of r).live.pod) at ∙ wanted) in
       let fed = h.fed (subst (λ (takes : List Took). IsFed takes before 0) (sym (ap (λ (x : Played Script). x.takes) opening)) (fed-fresh before new)) in
-      ap (λ k. of c (lines_taken k r.takes)) (sym at)
-      ∙ ap (λ xs. of c (lines_taken t.event xs)) (sym (append-nil r.takes) ∙ ap (λ xs. r.takes ++ xs) (sym (none-of fed.lost fed.few)))
+      ap (λ k. of c (lines_of_takes k r.takes)) (sym at)
+      ∙ ap (λ xs. of c (lines_of_takes t.event xs)) (sym (append-nil r.takes) ∙ ap (λ xs. r.takes ++ xs) (sym (none-of fed.lost fed.few)))
       ∙ ap (of c) (sym (fed.given has.0 blank has.1))
       ∙ sym (append-nil (of c t.taken)) ∙ ap (λ xs. of c t.taken ++ xs) (sym (l.done taken)) ∙ l.lines ∙ sym l.posted
       ∙ know has.0 blank has.1 c low (sym at)

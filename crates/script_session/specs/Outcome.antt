@@ -1,5 +1,5 @@
 -- What the program's calls say of a session.
-use Rattle.script_session.specs.History.{taken_as}
+use Rattle.script_session.specs.History.{taken_of}
 use Rattle.script_session.specs.declared.session.Session.{Session}
 use Rattle.script_session.specs.declared.session.SessionEnd.{SessionEnd}
 use Rattle.script_session.specs.declared.session.SessionEnd.TheVariants as end
@@ -25,7 +25,7 @@ status_of (end.Differs line) = 107
 
 -- a session of this end, with these lines taken and so many calls made
 abbrev pub outcome_of : SessionEnd → List Took → ℕ → Session
-outcome_of e takes turns = record { status = status_of e; end = e; taken = map taken_as takes; turns = turns }
+outcome_of e takes turns = record { status = status_of e; end = e; taken = map taken_of takes; turns = turns }
 
 -- the end of a session that has come to its end
 abbrev pub end_of : Halt → SessionEnd

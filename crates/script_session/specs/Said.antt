@@ -1,6 +1,6 @@
 -- What a session says of the source that it read, of the sink that it wrote to, and of the script.
 use Rattle.script_session.specs.Outcome.{status_of}
-use Rattle.script_session.specs.History.{taken_as}
+use Rattle.script_session.specs.History.{taken_of}
 use Rattle.script_gate.specs.Posted.{IsPosted}
 use Rattle.script_session.specs.Reading.{IsReadOut, IsReadPart, IsReadUp}
 use Rattle.script_session.specs.declared.session.Session.{Session}
@@ -26,7 +26,7 @@ Refuses (Some told) line why = verdict told ≡ Err (line, why)
 
 -- a session tells of these lines that they were taken
 abbrev pub Tells : Session → List Took → Type 0
-Tells session takes = session.taken ≡ map taken_as takes
+Tells session takes = session.taken ≡ map taken_of takes
 
 -- it ended before a script was read
 pub record IsUnread (sink : Stream) (session : Session) : Type 0 where

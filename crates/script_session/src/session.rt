@@ -27,21 +27,21 @@ pub struct TakenLines {
 
 impl Model for TakenLines {
     ghost use Rattle.std.specs.Prelude.{List, map};
-    ghost use Rattle.script_session.specs.History.{taken_as};
+    ghost use Rattle.script_session.specs.History.{taken_of};
     ghost use Rattle.script_session.specs.declared.session.Taken.{Taken as OneTaken};
 
     ghost Value = { List OneTaken };
 
-    ghost view = { λ lines. map taken_as lines.takes };
+    ghost view = { λ lines. map taken_of lines.takes };
 }
 
 impl TakenLines {
     ghost use Rattle.std.specs.Prelude.{◌≡◌, ◌<◌, length, map, slice_index_or};
-    ghost use Rattle.script_session.specs.History.{taken_as};
+    ghost use Rattle.script_session.specs.History.{taken_of};
 
     /// The lines of these takes.
     pub fn new(takes: TakeList) -> TakenLines
-        ensures { result ≡ map taken_as takes }
+        ensures { result ≡ map taken_of takes }
     {
         TakenLines { takes }
     }

@@ -14,7 +14,7 @@ use Rattle.script_lines.specs.Reading.{phrase_at}
 use Rattle.script_text.specs.Meaning.{script_of}
 use Rattle.script_lines.specs.Line.{phrase_text, IsLine}
 use Rattle.script_text.specs.Grammar.{may_stand, is_declared, AllStand}
-use Rattle.script_text.specs.Spelling.{line_cut, reason_at, judge_said, judge, at_line, read_on, declared_in, finish, verdict}
+use Rattle.script_text.specs.Spelling.{line_cut, reason_at, judge_phrase, judge, at_line, read_on, declared_in, finish, verdict}
 use Rattle.script_text.specs.Laws.{AreGood, IsBadLine, IsFirstBad, IsBlamed}
 use Rattle.script_text.proofs.ScriptLaws.{judge_again, judge_found, read_found, verdict_long, verdict_short}
 
@@ -30,9 +30,9 @@ pair_of r k n why by e f =
 
 -- the reason of a line that is bad
 judge_bad : (d : Declared) (before : List Phrase) (line : List ℕ) (why : Reason) → judge d before line ≡ Err why → why ≡ cond (is_printable line) (reason_at before line) reason.Bytes
-judge_bad d before line why e = elim (is_printable line) as (λ v. cond v (judge_said d before line (phrase_at line)) (Err reason.Bytes) ≡ Err why → why ≡ cond v (reason_at before line) reason.Bytes) [
+judge_bad d before line why e = elim (is_printable line) as (λ v. cond v (judge_phrase d before line (phrase_at line)) (Err reason.Bytes) ≡ Err why → why ≡ cond v (reason_at before line) reason.Bytes) [
   | false ↦ λ f. let same : reason.Bytes ≡ why = cc in sym same
-  | true ↦ λ f. elim (phrase_at line) as (λ o. judge_said d before line o ≡ Err why → why ≡ reason_at before line) [
+  | true ↦ λ f. elim (phrase_at line) as (λ o. judge_phrase d before line o ≡ Err why → why ≡ reason_at before line) [
     | None ↦ λ g. let same : reason_at before line ≡ why = cc in sym same
     | Some q ↦ λ g. elim (may_stand before q && is_declared d q) as (λ v. cond v (Ok q) (Err (reason_at before line)) ≡ Err why → why ≡ reason_at before line) [
       | true ↦ λ h. absurd cc

@@ -17,8 +17,8 @@ use Rattle.script_lines.specs.Table.{role_of, starts, starts_any}
 use Rattle.script_lines.specs.Reading.{phrase_at}
 use Rattle.script_text.specs.Grammar.{follows, keeps_rule, declared_of, posted_of, nothing, has, stage_after, stage_of, may_stand, is_declared}
 use Rattle.script_text.specs.Meaning.{after_add}
-use Rattle.script_text.specs.Spelling.{reason_behind, reason_at, judge_said, judge, at_line, read_on, after_note, declared_in, finish, verdict_by}
-use Rattle.script_text.specs.Track.{judge_told, judge_alone, mention_of, after_verdict, after_judge, knows, step, start, first_missing, answer_by, answer_at}
+use Rattle.script_text.specs.Spelling.{reason_behind, reason_at, judge_phrase, judge, at_line, read_on, after_note, declared_in, finish, verdict_by}
+use Rattle.script_text.specs.Track.{judge_phrase_at, judge_alone, mention_of, after_verdict, after_judge, knows, step, start, first_missing, answer_by, answer_at}
 use Rattle.script_lines.proofs.WordLemmas.{both}
 use Rattle.script_lines.proofs.PhraseLaws.{phrase_found, start_is_statement}
 use Rattle.script_text.proofs.SaidLaws.{said_declares, starting_word}
@@ -36,9 +36,9 @@ abbrev alone : List Phrase → List ℕ → Result Phrase Reason
 alone before line = judge_alone (stage_of before) (declared_of before) (posted_of before) line
 
 alone_ok : (before : List Phrase) (line : List ℕ) (p : Phrase) → alone before line ≡ Ok p → Alone before line p
-alone_ok before line p e = elim (is_printable line) as (λ v. is_printable line ≡ v → cond v (judge_told (stage_of before) (declared_of before) (posted_of before) line (phrase_at line)) (Err reason.Bytes) ≡ Ok p → Alone before line p) [
+alone_ok before line p e = elim (is_printable line) as (λ v. is_printable line ≡ v → cond v (judge_phrase_at (stage_of before) (declared_of before) (posted_of before) line (phrase_at line)) (Err reason.Bytes) ≡ Ok p → Alone before line p) [
   | false ↦ λ i f. absurd cc
-  | true ↦ λ i f. elim (phrase_at line) as (λ o. phrase_at line ≡ o → judge_told (stage_of before) (declared_of before) (posted_of before) line o ≡ Ok p → Alone before line p) [
+  | true ↦ λ i f. elim (phrase_at line) as (λ o. phrase_at line ≡ o → judge_phrase_at (stage_of before) (declared_of before) (posted_of before) line o ≡ Ok p → Alone before line p) [
     | None ↦ λ j g. absurd cc
     | Some q ↦ λ j g. elim (may_stand before q) as (λ v. may_stand before q ≡ v → cond v (Ok q) (Err (reason_at before line)) ≡ Ok p → Alone before line p) [
       | false ↦ λ k h. absurd cc
@@ -49,9 +49,9 @@ alone_ok before line p e = elim (is_printable line) as (λ v. is_printable line 
 
 -- what is bad by itself is bad in every text
 alone_err : (d : Declared) (before : List Phrase) (line : List ℕ) (why : Reason) → alone before line ≡ Err why → judge d before line ≡ Err why
-alone_err d before line why e = elim (is_printable line) as (λ v. cond v (judge_told (stage_of before) (declared_of before) (posted_of before) line (phrase_at line)) (Err reason.Bytes) ≡ Err why → cond v (judge_said d before line (phrase_at line)) (Err reason.Bytes) ≡ Err why) [
+alone_err d before line why e = elim (is_printable line) as (λ v. cond v (judge_phrase_at (stage_of before) (declared_of before) (posted_of before) line (phrase_at line)) (Err reason.Bytes) ≡ Err why → cond v (judge_phrase d before line (phrase_at line)) (Err reason.Bytes) ≡ Err why) [
   | false ↦ λ f. f
-  | true ↦ λ f. elim (phrase_at line) as (λ o. judge_told (stage_of before) (declared_of before) (posted_of before) line o ≡ Err why → judge_said d before line o ≡ Err why) [
+  | true ↦ λ f. elim (phrase_at line) as (λ o. judge_phrase_at (stage_of before) (declared_of before) (posted_of before) line o ≡ Err why → judge_phrase d before line o ≡ Err why) [
     | None ↦ λ g. g
     | Some q ↦ λ g. elim (may_stand before q) as (λ v. cond v (Ok q) (Err (reason_at before line)) ≡ Err why → cond (v && is_declared d q) (Ok q) (Err (reason_at before line)) ≡ Err why) [
       | false ↦ λ h. h

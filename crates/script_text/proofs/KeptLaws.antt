@@ -24,7 +24,7 @@ use Rattle.script_text.specs.Kept.{bad_mark, kept_bytes}
 use Rattle.script_text.specs.Meaning.{enter}
 use Rattle.script_text.specs.Pieces.{IsTail}
 use Rattle.script_text.specs.Spelling.{line_cut, word_reason, reason_behind, reason_of, after_note}
-use Rattle.script_text.specs.Track.{judge_told, judge_alone, after_verdict, after_judge, knows, step, first_missing, answer_by, answer, answer_at}
+use Rattle.script_text.specs.Track.{judge_phrase_at, judge_alone, after_verdict, after_judge, knows, step, first_missing, answer_by, answer, answer_at}
 use Rattle.script_text.proofs.CutLaws.{tail_inv, cut_push_line, cut_push_rest}
 
 -- ---- Words of two lines that begin alike.
@@ -213,14 +213,14 @@ kept_parts tail part t new room end clear r e n c k =
 reason_alike : (a b : List ℕ) → Alike a b → (s : Stage) → reason_of s a ≡ reason_of s b
 reason_alike a b k s = λ i. reason_behind s (k.word i) (option_map (λ (p : Phrase). role_of p.op) (k.said i))
 
-told_alike : (a b : List ℕ) → Alike a b → (s : Stage) (known : Declared) (posted : List ℕ) (o : Option Phrase) → judge_told s known posted a o ≡ judge_told s known posted b o
+told_alike : (a b : List ℕ) → Alike a b → (s : Stage) (known : Declared) (posted : List ℕ) (o : Option Phrase) → judge_phrase_at s known posted a o ≡ judge_phrase_at s known posted b o
 told_alike a b k s known posted None = ap (λ (why : Reason). Err why) (reason_alike a b k s)
 told_alike a b k s known posted (Some p) = ap (λ (why : Reason). cond (may_stand_at s known posted p) (Ok p) (Err why)) (reason_alike a b k s)
 
 judge_alike : (a b : List ℕ) → Alike a b → (s : Stage) (known : Declared) (posted : List ℕ) → judge_alone s known posted a ≡ judge_alone s known posted b
 judge_alike a b k s known posted =
-    ap (λ v. cond v (judge_told s known posted a (phrase_at a)) (Err reason.Bytes)) k.printable
-    ∙ ap (λ o. cond (is_printable b) (judge_told s known posted a o) (Err reason.Bytes)) k.said
+    ap (λ v. cond v (judge_phrase_at s known posted a (phrase_at a)) (Err reason.Bytes)) k.printable
+    ∙ ap (λ o. cond (is_printable b) (judge_phrase_at s known posted a o) (Err reason.Bytes)) k.said
     ∙ ap (λ t. cond (is_printable b) t (Err reason.Bytes)) (told_alike a b k s known posted (phrase_at b))
 
 judged_alike : (a b : List ℕ) → Alike a b → (bad : Option Reason) (r : Reader) → after_judge bad r a ≡ after_judge bad r b

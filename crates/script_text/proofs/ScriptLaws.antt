@@ -17,7 +17,7 @@ use Rattle.script_lines.specs.Reading.{phrase_at}
 use Rattle.script_text.specs.Meaning.{script_of}
 use Rattle.script_lines.specs.Line.{phrase_text, IsLine, with_newline}
 use Rattle.script_text.specs.Grammar.{declares, declared_of, nothing, may_stand, is_declared, AllStand, spelling, SpelledBy, Spells}
-use Rattle.script_text.specs.Spelling.{onto_first, line_cut, reason_at, judge_said, judge, at_line, read_on, after_note, declared_in, finish, verdict_by, verdict, Gives, IsReadAs}
+use Rattle.script_text.specs.Spelling.{onto_first, line_cut, reason_at, judge_phrase, judge, at_line, read_on, after_note, declared_in, finish, verdict_by, verdict, Gives, IsReadAs}
 use Rattle.script_lines.proofs.WordLemmas.{both}
 use Rattle.script_lines.proofs.PhraseLaws.{phrase_found, phrase_again, phrase_needed}
 use Rattle.script_lines.proofs.PrintableLaws.{phrase_is_printable}
@@ -97,9 +97,9 @@ pub record Judged (d : Declared) (before : List Phrase) (line : List ℕ) (p : P
   pub declares : is_declared d p ≡ true
 
 pub judge_found : (d : Declared) (before : List Phrase) (line : List ℕ) (p : Phrase) → judge d before line ≡ Ok p → Judged d before line p
-judge_found d before line p e = elim (is_printable line) as (λ v. is_printable line ≡ v → cond v (judge_said d before line (phrase_at line)) (Err reason.Bytes) ≡ Ok p → Judged d before line p) [
+judge_found d before line p e = elim (is_printable line) as (λ v. is_printable line ≡ v → cond v (judge_phrase d before line (phrase_at line)) (Err reason.Bytes) ≡ Ok p → Judged d before line p) [
   | false ↦ λ i f. absurd cc
-  | true ↦ λ i f. elim (phrase_at line) as (λ o. phrase_at line ≡ o → judge_said d before line o ≡ Ok p → Judged d before line p) [
+  | true ↦ λ i f. elim (phrase_at line) as (λ o. phrase_at line ≡ o → judge_phrase d before line o ≡ Ok p → Judged d before line p) [
     | None ↦ λ j g. absurd cc
     | Some q ↦ λ j g. elim (may_stand before q && is_declared d q) as (λ v. (may_stand before q && is_declared d q) ≡ v → cond v (Ok q) (Err (reason_at before line)) ≡ Ok p → Judged d before line p) [
       | false ↦ λ k h. absurd cc

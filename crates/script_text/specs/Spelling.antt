@@ -82,13 +82,13 @@ reason_at before line = reason_of (stage_of before) line
 -- ---- The lines one by one.
 
 -- a line by what it says, if it says anything
-abbrev pub judge_said : Declared → List Phrase → List ℕ → Option Phrase → Result Phrase Reason
-judge_said declared before line None = Err (reason_at before line)
-judge_said declared before line (Some p) = if may_stand before p && is_declared declared p then Ok p else Err (reason_at before line)
+abbrev pub judge_phrase : Declared → List Phrase → List ℕ → Option Phrase → Result Phrase Reason
+judge_phrase declared before line None = Err (reason_at before line)
+judge_phrase declared before line (Some p) = if may_stand before p && is_declared declared p then Ok p else Err (reason_at before line)
 
 -- what a line says behind these lines, in a text that declares these procedures, or why it is bad
 abbrev pub judge : Declared → List Phrase → List ℕ → Result Phrase Reason
-judge declared before line = if is_printable line then judge_said declared before line (phrase_at line) else Err reason.Bytes
+judge declared before line = if is_printable line then judge_phrase declared before line (phrase_at line) else Err reason.Bytes
 
 -- goes on behind a good line, and stops at a bad one with its number
 abbrev pub at_line : ℕ → Result Phrase Reason → (Phrase → Result (List Phrase) (ℕ × Reason)) → Result (List Phrase) (ℕ × Reason)

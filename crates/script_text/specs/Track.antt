@@ -19,13 +19,13 @@ use Rattle.script_text.specs.Spelling.{reason_of, after_note, whole}
 -- ---- One line.
 
 -- a line by what it says, if it says anything
-abbrev pub judge_told : Stage → Declared → List ℕ → List ℕ → Option Phrase → Result Phrase Reason
-judge_told s known posted line None = Err (reason_of s line)
-judge_told s known posted line (Some p) = if may_stand_at s known posted p then Ok p else Err (reason_of s line)
+abbrev pub judge_phrase_at : Stage → Declared → List ℕ → List ℕ → Option Phrase → Result Phrase Reason
+judge_phrase_at s known posted line None = Err (reason_of s line)
+judge_phrase_at s known posted line (Some p) = if may_stand_at s known posted p then Ok p else Err (reason_of s line)
 
 -- what a line says, or why it is bad whatever the lines behind it declare
 abbrev pub judge_alone : Stage → Declared → List ℕ → List ℕ → Result Phrase Reason
-judge_alone s known posted line = if is_printable line then judge_told s known posted line (phrase_at line) else Err reason.Bytes
+judge_alone s known posted line = if is_printable line then judge_phrase_at s known posted line (phrase_at line) else Err reason.Bytes
 
 -- the mention of a procedure that a line starts
 abbrev pub mention_of : ℕ → List (List ℕ) → Phrase → List Mention

@@ -16,8 +16,8 @@ use Rattle.script_lines.specs.Words.{number_at}
 use Rattle.std.specs.Prelude.{Bool, List, None, Option, Some, [], bytes_eq, codes, if◌then◌else◌, nat_le, option_map, ℕ, ◌&&◌, ◌∷◌, ◌≡◌, ◌≤◌}
 
 -- how many calls a plan, a run or a replay allows, where nobody says so
-abbrev pub turns_unsaid : ℕ
-turns_unsaid = 100000
+abbrev pub default_turns : ℕ
+default_turns = 100000
 
 -- a number of calls that a plan, a run or a replay may allow
 abbrev pub is_allowed : ℕ → Bool
@@ -103,9 +103,9 @@ command_if word (Some turns) = command_by word turns
 -- perhaps how many calls
 abbrev pub command_of : List (List ℕ) → Option Command
 command_of [] = None
-command_of (word ∷ []) = command_by word turns_unsaid
-command_of (word ∷ number ∷ []) = if is_batch word then batch_by (threads_of number) (Some turns_unsaid)
-    else if is_answers word then answers_by (client_of number) (Some turns_unsaid)
+command_of (word ∷ []) = command_by word default_turns
+command_of (word ∷ number ∷ []) = if is_batch word then batch_by (threads_of number) (Some default_turns)
+    else if is_answers word then answers_by (client_of number) (Some default_turns)
     else command_if word (turns_of number)
 command_of (word ∷ threads ∷ turns ∷ []) = if is_batch word then batch_by (threads_of threads) (turns_of turns)
     else if is_answers word then answers_by (client_of threads) (turns_of turns)

@@ -3,7 +3,7 @@ use Rattle.lwp_types.specs.State.{opening}
 use Rattle.pod_events.proofs.ReportLaws.{every_death_is_reported}
 use Rattle.pod_events.proofs.TrapLaws.{traps_are_raised_once}
 use Rattle.pod_events.specs.Events.{EventState, quiet_events}
-use Rattle.pod_events.specs.Laws.{is_raised, pends, told_in}
+use Rattle.pod_events.specs.Laws.{is_raised, pends, reports_of_moves}
 use Rattle.pod_events.specs.Moves.{EventMove, after_moves, event_move}
 use Rattle.pod_runner.proofs.Moving.{sessions_are_moves}
 use Rattle.session_laws.specs.Events.{PodEventsAreExact}
@@ -24,7 +24,7 @@ pod_events_are_exact B setting low high takes n h =
       effects_are = moved.effects_are;
       reports = λ before later is heard.
           every_death_is_reported later (after_moves before start) heard
-          ∙ ap (λ (es : EventState). told_in later (after_moves before start) ++ es.reports) (sym (moved.pod_is ∙ ap (λ moves. after_moves moves start) is ∙ moved-append before later start));
+          ∙ ap (λ (es : EventState). reports_of_moves later (after_moves before start) ++ es.reports) (sym (moved.pod_is ∙ ap (λ moves. after_moves moves start) is ∙ moved-append before later start));
       traps = λ e.
           let none : pends e start ≡ 0 = refl in
           omega (arith, traps_are_raised_once e moved.moves start moved.can, ap (count_by (is_raised e)) moved.effects_are, ap (pends e) moved.pod_is, none);

@@ -8,7 +8,7 @@ use Rattle.pod_laws.specs.Once.{ExitTest, exits_passing, marks_passing}
 use Rattle.pod_runner.specs.Session.{Made, Session}
 use Rattle.session_laws.proofs.Pods.{none_left}
 use Rattle.session_laws.proofs.Steps.{Lasts, play_lasts}
-use Rattle.session_laws.specs.Exits.{EachExitHasItsFate, EachExitOnce, EachNumberIsGivenOnce, EachSetExitOnce, Fate, Fate.HasRun, Fate.IsNotGiven, Fate.IsWaiting, TheDeadHaveRunTheirExits, exits_run, exits_set, exits_set_in, has_number, set_by_thread}
+use Rattle.session_laws.specs.Exits.{EachExitHasItsFate, EachExitOnce, EachNumberIsGivenOnce, EachSetExitOnce, Fate, Fate.HasRun, Fate.IsNotGiven, Fate.IsWaiting, TheDeadHaveRunTheirExits, exits_run, exits_set, exits_set_in, has_number, is_set_by}
 use Rattle.session_laws.specs.Sessions.{InEverySession}
 use Rattle.std.proofs.Common.{Bool, List, None, [], ap, arith, cond, false, refl, suc, true, zero, ℕ, ◌++◌, ◌+◌, ◌<◌, ◌∷◌, ◌≡◌, ◌≤◌}
 use Rattle.std.proofs.lemmas.Bool.{ltb-false, ltb-true}
@@ -78,4 +78,4 @@ pub each_exit_has_its_fate : (B : Type 0) → InEverySession B (EachExitHasItsFa
 each_exit_has_its_fate B setting low high takes n h k = fate_of _ k _ refl (each_exit_once B setting low high takes n h k)
 
 pub the_dead_have_run_their_exits : (B : Type 0) → InEverySession B (TheDeadHaveRunTheirExits {B = B})
-the_dead_have_run_their_exits B setting low high takes n h u gone p = omega (arith, each_set_exit_once B setting low high takes n h (set_by_thread u p), none_left u p _ gone)
+the_dead_have_run_their_exits B setting low high takes n h u gone p = omega (arith, each_set_exit_once B setting low high takes n h (is_set_by u p), none_left u p _ gone)

@@ -6,7 +6,7 @@ use Rattle.lwp_types.specs.Choice.{choice}
 use Rattle.lwp_types.specs.Conditions.{after_wait, after_wake, after_wake_all, condition_of}
 use Rattle.lwp_types.specs.Death.{answer_joiners, bury, death, destroy_case, end_agents, refuse_receivers, refuse_sender, refuse_senders, release_all, run_all_exits, withdraw}
 use Rattle.lwp_types.specs.Exceptions.{caught_marks, exits_of, first_frames, frames, handler_of, later_frames, on_exit, with_match}
-use Rattle.lwp_types.specs.Exits.{catch_case, exit_case, leave_frame, notified_by, run_exit, unwind}
+use Rattle.lwp_types.specs.Exits.{catch_case, exit_case, leave_frame, excnotify_case_by, run_exit, unwind}
 use Rattle.lwp_types.specs.Messages.{after_reply, as_answer, as_received, next_letter, post, receive_by, receivers_of, takes_from, with_holding, without_letter}
 use Rattle.lwp_types.specs.MonitorRelease.{grant, last_lock, next_owner, release, without_lock}
 use Rattle.lwp_types.specs.Monitors.{after_exit, after_request, depth_in, enter_case, is_owned_by_other, with_depth}
@@ -26,7 +26,7 @@ use Rattle.lwp_types.specs.declared.rows.Mark.{Mark}
 use Rattle.lwp_types.specs.declared.rows.Request.{Request}
 use Rattle.lwp_types.specs.declared.rows.WaitRow.{WaitRow}
 use Rattle.pod_laws.proofs.Checks.{unless_keeps}
-use Rattle.pod_laws.specs.Once.{set_by, set_now}
+use Rattle.pod_laws.specs.Once.{sets_of_call, sets_of_step}
 use Rattle.session_laws.specs.Numbers.{DeliveriesBearNone, DeliveriesKeepProcs, DeliveriesNumberNone, DeliveriesTick, StepsBearNone, StepsKeepProcs, StepsKeepTheClock, StepsNumberExits, any_exit, bears}
 use Rattle.std.proofs.Common.{Bool, List, None, Option, Some, [], ap, arith, cond, eqb, false, length, refl, sym, true, ℕ, ◌++◌, ◌+◌, ◌-◌, ◌∙◌, ◌∷◌, ◌≡◌, ◌||◌}
 use Rattle.std.specs.List.{fold}
@@ -158,7 +158,7 @@ none_matched s on_match (Some f) fine = fine f
 none_caught : (s : State) (t p : ℕ) (f : Found) → NoneGiven s (catch_case s t p f).after
 none_caught s t p f = none_unwound t (caught_marks f (marks_in s t)) (later_frames f.depth (marks_in s t)) s
 
-none_notified : (s : State) (t p : ℕ) (f : Found) (h : Func) → NoneGiven s (notified_by s t p f h).after
+none_notified : (s : State) (t p : ℕ) (f : Found) (h : Func) → NoneGiven s (excnotify_case_by s t p f h).after
 none_notified s t p f func.Give = refl
 none_notified s t p f func.Sum = refl
 none_notified s t p f func.Nothing = none_caught s t p f
@@ -168,7 +168,7 @@ none_destroyed s t u = none_cond s (is_agent s u) (with_zero (end_agent u s)) _ 
     (none_cond s (eqb t u) (silent_case (death u s)) (with_zero (death u s)) (none_died u s) (none_died u s))
 
 -- the one call that gives a number, unless it is refused
-exit_numbered : (s : State) (t : ℕ) (x : ExitCall) → (on_exit s t x).after.next_registration ≡ s.next_registration + set_by any_exit s t (call.OnExit x)
+exit_numbered : (s : State) (t : ℕ) (x : ExitCall) → (on_exit s t x).after.next_registration ≡ s.next_registration + sets_of_call any_exit s t (call.OnExit x)
 unfolding unless
 exit_numbered s t x = by_tests (nat_le 256 (length (marks_in s t))) (nat_le 4294967295 s.next_registration)
   where
@@ -181,13 +181,13 @@ exit_numbered s t x = by_tests (nat_le 256 (length (marks_in s t))) (nat_le 4294
 
 -- as many numbers were given as this call of t sets, and the clock didn't tick
 record Numbers (s : State) (t : ℕ) (c : Call) (made : Case) : Type 0 where
-  next : made.after.next_registration ≡ s.next_registration + set_by any_exit s t c
+  next : made.after.next_registration ≡ s.next_registration + sets_of_call any_exit s t c
   still : made.after.now ≡ s.now
   procs : made.after.procs ≡ s.procs
   born : bears c ≡ false → made.after.births ≡ s.births
 
 -- a call that sets none
-plain : (s : State) (t : ℕ) (c : Call) (made : Case) → set_by any_exit s t c ≡ 0 → NoneGiven s made.after → Numbers s t c made
+plain : (s : State) (t : ℕ) (c : Call) (made : Case) → sets_of_call any_exit s t c ≡ 0 → NoneGiven s made.after → Numbers s t c made
 plain s t c made never none = record {
   next = omega (arith, never, ap (λ (k : ℕ × ℕ × ℕ × ℕ). k.0) none);
   still = ap (λ (k : ℕ × ℕ × ℕ × ℕ). k.1) none;
@@ -196,7 +196,7 @@ plain s t c made never none = record {
 }
 
 -- one that may bear a thread or an agent
-bearing : (s : State) (t : ℕ) (c : Call) (checks : List Check) (otherwise : Case) → set_by any_exit s t c ≡ 0 → bears c ≡ true → otherwise.after.next_registration ≡ s.next_registration → otherwise.after.now ≡ s.now → otherwise.after.procs ≡ s.procs
+bearing : (s : State) (t : ℕ) (c : Call) (checks : List Check) (otherwise : Case) → sets_of_call any_exit s t c ≡ 0 → bears c ≡ true → otherwise.after.next_registration ≡ s.next_registration → otherwise.after.now ≡ s.now → otherwise.after.procs ≡ s.procs
     → Numbers s t c (unless s checks otherwise)
 bearing s t c checks otherwise never is number clock count = record {
   next = omega (arith, never, unless_keeps (λ (after : State). after.next_registration ≡ s.next_registration) s checks otherwise refl (λ passed. number));
@@ -235,7 +235,7 @@ case_numbers s t (call.OnExit x) = record {
   born = λ is. unless_keeps (λ (after : State). after.births ≡ s.births) s _ _ refl (λ passed. refl);
 }
 case_numbers s t (call.Raise q) = plain s t _ _ refl (none_unless s _ _ (none_matched s (catch_case s t q) (handler_of s t q) (λ f. none_caught s t q f)))
-case_numbers s t (call.ExcNotify q) = plain s t _ _ refl (none_unless s _ _ (none_matched s (λ f. notified_by s t q f f.func) (handler_of s t q) (λ f. none_notified s t q f f.func)))
+case_numbers s t (call.ExcNotify q) = plain s t _ _ refl (none_unless s _ _ (none_matched s (λ f. excnotify_case_by s t q f f.func) (handler_of s t q) (λ f. none_notified s t q f f.func)))
 case_numbers s t (call.Bound q) = plain s t _ _ refl (none_unless s _ _ (none_matched s _ (handler_of s t q) (λ f. refl)))
 case_numbers s t (call.Agent e) = bearing s t _ _ _ refl refl refl refl refl
 case_numbers s t call.Agents = plain s t _ _ refl refl
@@ -247,7 +247,7 @@ pub steps_number_exits : StepsNumberExits
 unfolding step step_by
 steps_number_exits s c = by_choice (choice s)
   where
-    by_choice : (o : Option ℕ) → (step_if s c o).after.next_registration ≡ s.next_registration + set_now any_exit s o c
+    by_choice : (o : Option ℕ) → (step_if s c o).after.next_registration ≡ s.next_registration + sets_of_step any_exit s o c
     by_choice None = omega arith
     by_choice (Some t) = (case_numbers s t c).next
 

@@ -19,9 +19,9 @@ use Rattle.pod_events.proofs.Mild.{mild_deliver}
 use Rattle.pod_events.proofs.MildCalls.{case_toll, is_tame, mild_tame}
 use Rattle.pod_events.specs.Events.{EventState, after_pass_on, after_take_trap, is_takeable, is_trapped, may_trap, rites_event, take_event}
 use Rattle.pod_events.specs.Laws.{AsksForFates}
-use Rattle.pod_events.specs.Rites.{after_first_report, as_rites, report_text, rites_said}
+use Rattle.pod_events.specs.Rites.{after_first_report, as_rites, report_text, after_rites}
 use Rattle.pod_events.specs.Step.{event_step, event_step_by, event_step_if}
-use Rattle.pod_events.specs.Traps.{after_call, after_call_as, after_machine_step, after_trap, after_trap_and_call, agent_event_of, but_call, is_catch, is_given, notice, refused_by, trap_of, trap_refusal}
+use Rattle.pod_events.specs.Traps.{after_call, after_call_as, after_machine_step, after_trap, after_trap_and_call, agent_event_of, but_call, is_catch, is_given, notice, after_refusal, trap_of, trap_refusal}
 use Rattle.pod_laws.proofs.Absent.{deliveries_are_quiet}
 use Rattle.pod_laws.proofs.Chosen.{chosen}
 use Rattle.pod_laws.proofs.Died.{case_died, death_died, finished_died, the_dead_are_forgotten}
@@ -29,10 +29,10 @@ use Rattle.pod_laws.proofs.EveryStep.{Lawful-deliver, Lawful-step}
 use Rattle.pod_laws.proofs.Fading.{deliver_fades, gone_stays, step_fades}
 use Rattle.pod_laws.proofs.OnceCalls.{exits_run_once}
 use Rattle.pod_laws.specs.Forgotten.{IsGone, is_died}
-use Rattle.pod_laws.specs.Once.{ExitTest, exited_passes, exits_passing, mark_passes, marks_passing, row_passing, set_by, set_now}
+use Rattle.pod_laws.specs.Once.{ExitTest, is_exit_passing, exits_passing, mark_passes, marks_passing, row_passing, sets_of_call, sets_of_step}
 use Rattle.session_laws.proofs.Numbering.{deliveries_number_none, steps_number_exits}
 use Rattle.session_laws.proofs.Told.{Sets, Sets.Exit, Sets.Nothing, step_told_before, what_it_sets}
-use Rattle.session_laws.specs.Exits.{exits_set_in, has_number, set_by_call, set_by_thread}
+use Rattle.session_laws.specs.Exits.{exits_set_in, has_number, sets_by_effects, is_set_by}
 use Rattle.session_laws.specs.Numbers.{any_exit}
 use Rattle.std.proofs.Common.{Bool, List, None, Option, Some, [], ap, append-nil, arith, cond, count_by, drop, eqb, false, length, map, refl, subst, suc, sum_by, sym, true, zero, ℕ, ◌++◌, ◌+◌, ◌∙◌, ◌∷◌, ◌≡◌, ◌≤◌, ◌||◌}
 use Rattle.std.proofs.lemmas.Bool.{and_from, and_parts, eqb-true}
@@ -56,7 +56,7 @@ below_next : (k n : ℕ) → cond (eqb n k) 1 0 + one (nat_lt k n) ≡ one (nat_
 below_next k n = grind (arith, nat_tests)
 
 -- a call sets one of the number k exactly if k is given by it
-number_set : (s : State) (k t : ℕ) (c : Call) → Sets c → set_by (has_number k) s t c + one (nat_lt k s.next_registration) ≡ one (nat_lt k (s.next_registration + set_by any_exit s t c))
+number_set : (s : State) (k t : ℕ) (c : Call) → Sets c → sets_of_call (has_number k) s t c + one (nat_lt k s.next_registration) ≡ one (nat_lt k (s.next_registration + sets_of_call any_exit s t c))
 number_set s k t c (Nothing none untold) = omega (arith, none (has_number k) s t, ap (λ n. one (nat_lt k (s.next_registration + n))) (none any_exit s t), below_same k s.next_registration)
 number_set s k t c (Exit x e) = rw e (by_room (nat_le 256 (length (marks_in s t)) || nat_le 4294967295 s.next_registration))
   where
@@ -64,7 +64,7 @@ number_set s k t c (Exit x e) = rw e (by_room (nat_le 256 (length (marks_in s t)
     by_room true = below_same k s.next_registration
     by_room false = below_next k s.next_registration
 
-number_now : (s : State) (k : ℕ) (o : Option ℕ) (c : Call) → set_now (has_number k) s o c + one (nat_lt k s.next_registration) ≡ one (nat_lt k (s.next_registration + set_now any_exit s o c))
+number_now : (s : State) (k : ℕ) (o : Option ℕ) (c : Call) → sets_of_step (has_number k) s o c + one (nat_lt k s.next_registration) ≡ one (nat_lt k (s.next_registration + sets_of_step any_exit s o c))
 number_now s k None c = below_same k s.next_registration
 number_now s k (Some t) c = number_set s k t c (what_it_sets c)
 
@@ -98,30 +98,30 @@ dies_in_step s was c n = by_choice (choice s) refl
 
 module _ (u : ℕ) (p : ExitTest) where
   -- a mark of another thread
-  other_mark : (t : ℕ) → eqb t u ≡ false → (m : Mark) → mark_passes (set_by_thread u p) t m ≡ false
+  other_mark : (t : ℕ) → eqb t u ≡ false → (m : Mark) → mark_passes (is_set_by u p) t m ≡ false
   other_mark t other mark.Frame = refl
   other_mark t other (mark.Handler pat func arg) = refl
   other_mark t other (mark.Exit reg x) = rw other refl
 
   -- no thread of a list is u, so none has a mark of it
-  pub none_left : (rows : List ThreadRow) → is_some (find (is_number u) rows) ≡ false → sum_by (row_passing (set_by_thread u p)) rows ≡ 0
+  pub none_left : (rows : List ThreadRow) → is_some (find (is_number u) rows) ≡ false → sum_by (row_passing (is_set_by u p)) rows ≡ 0
   none_left [] gone = refl
   none_left (row ∷ rows) gone = by_test (is_number u row) refl gone (none_left rows)
     where
-      by_test : (b : Bool) → is_number u row ≡ b → is_some (cond b (Some row) (find (is_number u) rows)) ≡ false → (is_some (find (is_number u) rows) ≡ false → sum_by (row_passing (set_by_thread u p)) rows ≡ 0) → sum_by (row_passing (set_by_thread u p)) (row ∷ rows) ≡ 0
+      by_test : (b : Bool) → is_number u row ≡ b → is_some (cond b (Some row) (find (is_number u) rows)) ≡ false → (is_some (find (is_number u) rows) ≡ false → sum_by (row_passing (is_set_by u p)) rows ≡ 0) → sum_by (row_passing (is_set_by u p)) (row ∷ rows) ≡ 0
       by_test true e gone rest = absurd (cc)
-      by_test false e gone rest = omega (arith, sum_by-cons (row_passing (set_by_thread u p)) row rows, count_never (mark_passes (set_by_thread u p) row.number) (other_mark row.number e) row.marks, rest gone)
+      by_test false e gone rest = omega (arith, sum_by-cons (row_passing (is_set_by u p)) row rows, count_never (mark_passes (is_set_by u p) row.number) (other_mark row.number e) row.marks, rest gone)
 
   -- who isn't live doesn't call, and so sets nothing
-  others_set : (s : State) (t : ℕ) (c : Call) → eqb t u ≡ false → Sets c → set_by (set_by_thread u p) s t c ≡ 0
-  others_set s t c other (Nothing none untold) = none (set_by_thread u p) s t
+  others_set : (s : State) (t : ℕ) (c : Call) → eqb t u ≡ false → Sets c → sets_of_call (is_set_by u p) s t c ≡ 0
+  others_set s t c other (Nothing none untold) = none (is_set_by u p) s t
   others_set s t c other (Exit x e) = rw (e, other) (by_room (nat_le 256 (length (marks_in s t)) || nat_le 4294967295 s.next_registration))
     where
       by_room : (b : Bool) → ◌≡◌ {A = ℕ} (cond b 0 0) 0
       by_room true = refl
       by_room false = refl
 
-  dead_set : (s : State) → Lawful s None → is_thread s u ≡ false → (c : Call) → set_now (set_by_thread u p) s (choice s) c ≡ 0
+  dead_set : (s : State) → Lawful s None → is_thread s u ≡ false → (c : Call) → sets_of_step (is_set_by u p) s (choice s) c ≡ 0
   dead_set s was gone c = by_choice (choice s) refl
     where
       other : (t : ℕ) (row : ThreadRow) → thread_of s t ≡ Some row → (b : Bool) → eqb t u ≡ b → eqb t u ≡ false
@@ -131,15 +131,15 @@ module _ (u : ℕ) (p : ExitTest) where
           absurd (cc (lives, gone, same))
       other t row known false e = e
 
-      by_choice : (o : Option ℕ) → choice s ≡ o → set_now (set_by_thread u p) s o c ≡ 0
+      by_choice : (o : Option ℕ) → choice s ≡ o → sets_of_step (is_set_by u p) s o c ≡ 0
       by_choice None e = refl
       by_choice (Some t) e =
           let run = chosen s was.nine t e in
           others_set s t c (other t run.row run.known (eqb t u) refl) (what_it_sets c)
 
   -- so none of its exit procedures runs in a call
-  dead_run : (s : State) → Lawful s None → is_thread s u ≡ false → (c : Call) → exits_passing (set_by_thread u p) (step s c).effects ≡ 0
-  dead_run s was gone c = omega (arith, exits_run_once s was c (set_by_thread u p), none_left s.threads gone, dead_set s was gone c)
+  dead_run : (s : State) → Lawful s None → is_thread s u ≡ false → (c : Call) → exits_passing (is_set_by u p) (step s c).effects ≡ 0
+  dead_run s was gone c = omega (arith, exits_run_once s was c (is_set_by u p), none_left s.threads gone, dead_set s was gone c)
 
 -- ---- what is told behind a call
 
@@ -238,16 +238,16 @@ pub record Does (s after : State) (es : List Effect) (sets : ExitTest → ℕ) :
   pub dies : (n : ℕ) → Dies s n (count_by (is_died n) es)
   pub stays : (n : ℕ) → IsGone s n → IsGone after n
   pub gone : (n : ℕ) → 1 ≤ count_by (is_died n) es → IsGone after n
-  pub mute : (u : ℕ) → is_thread s u ≡ false → (p : ExitTest) → exits_passing (set_by_thread u p) es ≡ 0
+  pub mute : (u : ℕ) → is_thread s u ≡ false → (p : ExitTest) → exits_passing (is_set_by u p) es ≡ 0
 
-exits_ask : (p : ExitTest) → AsksForFates (exited_passes p)
+exits_ask : (p : ExitTest) → AsksForFates (is_exit_passing p)
 exits_ask p = record { no_call = λ t c. refl; no_answer = λ t a. refl; no_delivery = λ a e. refl; no_trap = λ t e. refl; no_report = λ a d. refl }
 
 deaths_ask : (n : ℕ) → AsksForFates (is_died n)
 deaths_ask n = record { no_call = λ t c. refl; no_answer = λ t a. refl; no_delivery = λ a e. refl; no_trap = λ t e. refl; no_report = λ a d. refl }
 
 -- a step of the machine
-does_step : (s : State) → Lawful s None → (c : Call) → Does s (step s c).after (step s c).effects (λ p. set_now p s (choice s) c)
+does_step : (s : State) → Lawful s None → (c : Call) → Does s (step s c).after (step s c).effects (λ p. sets_of_step p s (choice s) c)
 does_step s was c = record {
   balance = λ p. exits_run_once s was c p;
   numbers = steps_number_exits s c;
@@ -262,13 +262,13 @@ module _ (s after : State) (es : List Effect) (sets : ExitTest → ℕ) (does : 
   -- other effects that tell of the same
   does_as : (xs : List Effect) → ((q : Effect → Bool) → AsksForFates q → count_by q xs ≡ count_by q es) → Does s after xs sets
   does_as xs same = record {
-    balance = λ p. omega (arith, does.balance p, same (exited_passes p) (exits_ask p));
+    balance = λ p. omega (arith, does.balance p, same (is_exit_passing p) (exits_ask p));
     numbers = does.numbers;
     given = does.given;
     dies = λ n. subst (Dies s n) (sym (same (is_died n) (deaths_ask n))) (does.dies n);
     stays = does.stays;
     gone = λ n some. does.gone n (omega (arith, some, same (is_died n) (deaths_ask n)));
-    mute = λ u gone p. same (exited_passes (set_by_thread u p)) (exits_ask (set_by_thread u p)) ∙ does.mute u gone p;
+    mute = λ u gone p. same (is_exit_passing (is_set_by u p)) (exits_ask (is_set_by u p)) ∙ does.mute u gone p;
   }
 
   -- and then a delivery
@@ -277,25 +277,25 @@ module _ (s after : State) (es : List Effect) (sets : ExitTest → ℕ) (does : 
       let quiet = deliveries_are_quiet after e text in
       let sent = (deliver after e text).effects in
       record {
-        balance = λ p. omega (arith, does.balance p, quiet.marks p, quiet.exits p, count-append (exited_passes p) es sent);
+        balance = λ p. omega (arith, does.balance p, quiet.marks p, quiet.exits p, count-append (is_exit_passing p) es sent);
         numbers = deliveries_number_none after e text ∙ does.numbers;
         given = does.given;
         dies = λ n. let same : count_by (is_died n) es ≡ count_by (is_died n) (es ++ sent) = omega (arith, count-append (is_died n) es sent, quiet.deaths n) in subst (Dies s n) same (does.dies n);
         stays = λ n h. gone_stays n after (deliver after e text).after (deliver_fades n after e text) (does.stays n h);
         gone = λ n some. gone_stays n after (deliver after e text).after (deliver_fades n after e text) (does.gone n (omega (arith, some, count-append (is_died n) es sent, quiet.deaths n)));
-        mute = λ u gone p. omega (arith, count-append (exited_passes (set_by_thread u p)) es sent, does.mute u gone p, quiet.exits (set_by_thread u p));
+        mute = λ u gone p. omega (arith, count-append (is_exit_passing (is_set_by u p)) es sent, does.mute u gone p, quiet.exits (is_set_by u p));
       }
 
 -- nothing but what tells of no death and no exit procedure
 does_none : (s : State) (es : List Effect) → ((q : Effect → Bool) → AsksForFates q → count_by q es ≡ 0) → Does s s es (λ p. 0)
 does_none s es none = record {
-  balance = λ p. omega (arith, none (exited_passes p) (exits_ask p));
+  balance = λ p. omega (arith, none (is_exit_passing p) (exits_ask p));
   numbers = omega arith;
   given = λ k. below_same k s.next_registration;
   dies = λ n. record { few = omega (arith, none (is_died n) (deaths_ask n)); lived = λ some. absurd (omega (arith, some, none (is_died n) (deaths_ask n))) };
   stays = λ n h. h;
   gone = λ n some. absurd (omega (arith, some, none (is_died n) (deaths_ask n)));
-  mute = λ u gone p. none (exited_passes (set_by_thread u p)) (exits_ask (set_by_thread u p));
+  mute = λ u gone p. none (is_exit_passing (is_set_by u p)) (exits_ask (is_set_by u p));
 }
 
 -- ---- a call, before the report
@@ -316,7 +316,7 @@ calls_quiet s was t c a never = record {
   lawful = was;
 }
   where
-    by_sets : (p : ExitTest) (rest : List Effect) → Sets c → set_by_call p t c (effect.Answered t a ∷ rest) ≡ 0
+    by_sets : (p : ExitTest) (rest : List Effect) → Sets c → sets_by_effects p t c (effect.Answered t a ∷ rest) ≡ 0
     by_sets p rest (Nothing none untold) = untold p t (effect.Answered t a ∷ rest)
     by_sets p rest (Exit x e) = absurd (never x e)
 
@@ -327,10 +327,10 @@ calls_made s was trapped t c turn = by_trap (trap_of c) refl
     by_refusal e is None = calls_quiet s was t c _ (λ x same. let no : Some e ≡ None = sym is ∙ ap trap_of same in absurd (cc))
     by_refusal e is (Some why) = calls_quiet s was t c _ (λ x same. let no : Some e ≡ None = sym is ∙ ap trap_of same in absurd (cc))
 
-    by_agent : (b : Bool) → passes (is_trapped trapped) (agent_event_of c) ≡ b → Calls s (cond b (refused_by s trapped t c error.InUse) (after_machine_step trapped (step s c))).state (cond b (refused_by s trapped t c error.InUse) (after_machine_step trapped (step s c))).effects
+    by_agent : (b : Bool) → passes (is_trapped trapped) (agent_event_of c) ≡ b → Calls s (cond b (after_refusal s trapped t c error.InUse) (after_machine_step trapped (step s c))).state (cond b (after_refusal s trapped t c error.InUse) (after_machine_step trapped (step s c))).effects
     by_agent true is = calls_quiet s was t c _ (λ x same. let no : false ≡ true = sym (ap (λ d. passes (is_trapped trapped) (agent_event_of d)) same) ∙ is in absurd (cc))
     by_agent false is = record {
-      sets = λ p. set_now p s (choice s) c;
+      sets = λ p. sets_of_step p s (choice s) c;
       does = does_step s was c;
       told = λ p rest later. step_told_before p s t c rest turn;
       lawful = Lawful-step s was c;
@@ -350,11 +350,11 @@ but_call-same s c q asks = by_choice (choice s)
     by_choice (Some u) = omega (arith, count-cons q (effect.Called u c) (drop 1 (step_by s u c).effects), ap one (asks.no_call u c))
 
 -- a step that no thread asked for
-calls_unasked : (s : State) → Lawful s None → (t : ℕ) (c : Call) → choice s ≡ Some t → ((p : ExitTest) → set_by p s t c ≡ 0) → Calls s (but_call (step s c)).after (but_call (step s c)).effects
+calls_unasked : (s : State) → Lawful s None → (t : ℕ) (c : Call) → choice s ≡ Some t → ((p : ExitTest) → sets_of_call p s t c ≡ 0) → Calls s (but_call (step s c)).after (but_call (step s c)).effects
 calls_unasked s was t c turn none = record {
-  sets = λ p. set_now p s (choice s) c;
-  does = does_as s (step s c).after (step s c).effects (λ p. set_now p s (choice s) c) (does_step s was c) (drop 1 (step s c).effects) (but_call-same s c);
-  told = λ p rest later. later-none p (drop 1 (step s c).effects ++ rest) (later-append (drop 1 (step s c).effects) rest (later-step s t c turn) later) ∙ sym (ap (λ o. set_now p s o c) turn ∙ none p);
+  sets = λ p. sets_of_step p s (choice s) c;
+  does = does_as s (step s c).after (step s c).effects (λ p. sets_of_step p s (choice s) c) (does_step s was c) (drop 1 (step s c).effects) (but_call-same s c);
+  told = λ p rest later. later-none p (drop 1 (step s c).effects ++ rest) (later-append (drop 1 (step s c).effects) rest (later-step s t c turn) later) ∙ sym (ap (λ o. sets_of_step p s o c) turn ∙ none p);
   lawful = Lawful-step s was c;
 }
 
@@ -407,7 +407,7 @@ rites-same q asks dead (x ∷ xs) = omega (arith, count-cons q (as_rites dead x)
     same (effect.Rites a d) = refl
 
 -- with the report behind it
-said_moved : (from s : State) (es : List Effect) (reports : List ℕ) → Calls from s es → Moved from (rites_said s es reports).state (rites_said s es reports).effects
+said_moved : (from s : State) (es : List Effect) (reports : List ℕ) → Calls from s es → Moved from (after_rites s es reports).state (after_rites s es reports).effects
 said_moved from s es reports calls = by_armed (is_event_armed s rites_event) refl reports
   where
     silent : Moved from s es

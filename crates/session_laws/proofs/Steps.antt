@@ -1,13 +1,13 @@
 -- What each step of a session keeps holds after each of its steps.
 use Rattle.lwp_types.specs.Choice.{choice}
 use Rattle.lwp_types.specs.Lawful.{Lawful}
-use Rattle.lwp_types.specs.Names.{polled_as}
+use Rattle.lwp_types.specs.Names.{names_for_poll}
 use Rattle.lwp_types.specs.Poll.{Polled}
 use Rattle.lwp_types.specs.State.{State, opening}
 use Rattle.pod_events.specs.Events.{take_event}
 use Rattle.pod_events.specs.Step.{event_step}
 use Rattle.pod_runner.specs.Due.{AllDue, IsDefined, TakeDue, is_call_due, is_take_due}
-use Rattle.pod_runner.specs.Play.{calls_made, play, session_of_takes, with_take}
+use Rattle.pod_runner.specs.Play.{session_of_calls, play, session_of_takes, with_take}
 use Rattle.pod_runner.specs.Session.{Live, Made, Session, Setting, call_move, call_step, move, move_by, move_row, row_of, take_move, take_step, with_move}
 use Rattle.pod_runner.specs.declared.session.Row.{Row}
 use Rattle.pod_runner.specs.declared.session.Took.{Took}
@@ -35,7 +35,7 @@ module _ (Holds : State → List Made → Type 0) (lasts : Lasts Holds) {B : Typ
   row_lasts : (live : Live B) (steps : List Made) (t : ℕ) (o : Option (Row B)) → Holds live.pod.state steps
       → InIt (with_move (record { live = live; steps = steps }) None (move_row setting.next setting.bodies live t o))
   row_lasts live steps t None h = idle_lasts live steps h
-  row_lasts live steps t (Some row) h = called_lasts live steps t (setting.next row.body (polled_as t live.names) row.answer) h
+  row_lasts live steps t (Some row) h = called_lasts live steps t (setting.next row.body (names_for_poll t live.names) row.answer) h
 
   by_lasts : (live : Live B) (steps : List Made) (o : Option ℕ) → Holds live.pod.state steps
       → InIt (with_move (record { live = live; steps = steps }) None (move_by setting.next setting.bodies live o))
@@ -51,9 +51,9 @@ module _ (Holds : State → List Made → Type 0) (lasts : Lasts Holds) {B : Typ
   take_lasts took s may h = lasts.push s.live.pod.state (take_event s.live.pod took.event took.line.text).after.state s.steps _ h (take_moved s.live.pod (lasts.lawful s.live.pod.state s.steps h) took.event took.line.text may)
 
   module _ (start : Holds (opening setting.params) []) where
-    calls_last : (n : ℕ) → InIt (calls_made setting n)
+    calls_last : (n : ℕ) → InIt (session_of_calls setting n)
     calls_last zero = start
-    calls_last (suc n) = call_lasts (calls_made setting n) (calls_last n)
+    calls_last (suc n) = call_lasts (session_of_calls setting n) (calls_last n)
 
     with_lasts : (took : Took) (before : ℕ → Session B) (Before : ℕ → Type 0) → ((n : ℕ) → Before n → InIt (before n)) → (n : ℕ) → TakeDue setting took before Before n → InIt (with_take setting took before n)
     with_lasts took before Before was zero h = take_lasts took (before 0) h.2 (was 0 h.1)

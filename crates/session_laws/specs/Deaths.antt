@@ -2,7 +2,7 @@
 use Rattle.pod_laws.specs.Forgotten.{IsForgotten, is_died}
 use Rattle.pod_laws.specs.Once.{ExitTest}
 use Rattle.pod_runner.specs.Session.{Made, Session}
-use Rattle.session_laws.specs.Exits.{exits_run, set_by_thread}
+use Rattle.session_laws.specs.Exits.{exits_run, is_set_by}
 use Rattle.std.specs.List.{count_by, sum_by}
 use Rattle.std.specs.Prelude.{List, drop, take, ℕ, ◌≡◌, ◌≤◌}
 
@@ -20,4 +20,4 @@ EachDiesOnce session = (n : ℕ) → deaths n session.steps ≤ 1
 
 -- where u has died in the first m steps, none of the others runs an exit procedure of u
 abbrev pub TheDeadRunNothing : {B : Type 0} → Session B → Type 0
-TheDeadRunNothing session = (u m : ℕ) → 1 ≤ deaths u (take m session.steps) → (p : ExitTest) → exits_run (set_by_thread u p) (drop m session.steps) ≡ 0
+TheDeadRunNothing session = (u m : ℕ) → 1 ≤ deaths u (take m session.steps) → (p : ExitTest) → exits_run (is_set_by u p) (drop m session.steps) ≡ 0

@@ -1,7 +1,7 @@
 -- The pod's own events, over a whole session: deaths are reported, and traps are raised.
 use Rattle.lwp_types.specs.State.{opening}
 use Rattle.pod_events.specs.Events.{EventState, quiet_events}
-use Rattle.pod_events.specs.Laws.{AlwaysHeard, CanMove, is_raised, mourned_in, pends, told_in, traps_in}
+use Rattle.pod_events.specs.Laws.{AlwaysHeard, CanMove, is_raised, reports_due, pends, reports_of_moves, traps_in}
 use Rattle.pod_events.specs.Moves.{EventMove, after_moves, effects_of}
 use Rattle.pod_runner.specs.Due.{IsDefined}
 use Rattle.pod_runner.specs.Play.{play}
@@ -20,7 +20,7 @@ pub record IsExact (start pod : EventState) (steps : List Made) : Type 0 where
   -- As long as event 32 has an agent, each death of an unmarked thread is reported once, in the order of deaths, or waits: from any
   -- point on, what waited then and who died since are who was reported since, and what waits now.
   pub reports : (before later : List EventMove) → moves ≡ before ++ later → AlwaysHeard later (after_moves before start)
-      → (after_moves before start).reports ++ mourned_in later (after_moves before start) ≡ told_in later (after_moves before start) ++ pod.reports
+      → (after_moves before start).reports ++ reports_due later (after_moves before start) ≡ reports_of_moves later (after_moves before start) ++ pod.reports
   -- Of each event: each line of it that was taken as a trap was raised once, or is to be.
   pub traps : (e : ℕ) → count_by (is_raised e) (effects_in steps) + pends e pod ≡ traps_in e moves start
 

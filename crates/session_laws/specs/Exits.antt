@@ -16,23 +16,23 @@ use Rattle.lwp_types.specs.declared.call.Effect.TheVariants as effect
 -- ---- what the effects tell
 
 -- t has set x, if it is answered a number, and that is the number of x
-abbrev pub set_under : ExitTest → ℕ → ExitCall → Answer → ℕ
-set_under p t x (answer.Value (pos n)) = cond (p t n x) 1 0
-set_under p t x _ = 0
+abbrev pub sets_by_answer : ExitTest → ℕ → ExitCall → Answer → ℕ
+sets_by_answer p t x (answer.Value (pos n)) = cond (p t n x) 1 0
+sets_by_answer p t x _ = 0
 
 -- the next effect answers this OnExit of t
-abbrev pub set_if : ExitTest → ℕ → ExitCall → List Effect → ℕ
-set_if p t x (effect.Answered u a ∷ es) = cond (u == t) (set_under p t x a) 0
-set_if p t x _ = 0
+abbrev pub sets_if_answered : ExitTest → ℕ → ExitCall → List Effect → ℕ
+sets_if_answered p t x (effect.Answered u a ∷ es) = cond (u == t) (sets_by_answer p t x a) 0
+sets_if_answered p t x _ = 0
 
 -- what a call of t sets, where these effects are next
-abbrev pub set_by_call : ExitTest → ℕ → Call → List Effect → ℕ
-set_by_call p t (call.OnExit x) es = set_if p t x es
-set_by_call p t _ es = 0
+abbrev pub sets_by_effects : ExitTest → ℕ → Call → List Effect → ℕ
+sets_by_effects p t (call.OnExit x) es = sets_if_answered p t x es
+sets_by_effects p t _ es = 0
 
 -- how many exit procedures that pass are set in a step with these effects; the first of them is the call, or a trap and then the call
 abbrev pub exits_set_in : ExitTest → List Effect → ℕ
-exits_set_in p (effect.Called t c ∷ es) = set_by_call p t c es
+exits_set_in p (effect.Called t c ∷ es) = sets_by_effects p t c es
 exits_set_in p (effect.Trapped t e ∷ es) = exits_set_in p es
 exits_set_in p _ = 0
 
@@ -75,9 +75,9 @@ abbrev pub EachExitHasItsFate : {B : Type 0} → Session B → Type 0
 EachExitHasItsFate session = (k : ℕ) → Fate session k
 
 -- the thread u has set it, and it passes
-abbrev pub set_by_thread : ℕ → ExitTest → ExitTest
-set_by_thread u p t n x = (t == u) && p t n x
+abbrev pub is_set_by : ℕ → ExitTest → ExitTest
+is_set_by u p t n x = (t == u) && p t n x
 
 -- whoever isn't live has nothing set still: all that it has set has run
 abbrev pub TheDeadHaveRunTheirExits : {B : Type 0} → Session B → Type 0
-TheDeadHaveRunTheirExits session = (u : ℕ) → is_thread session.live.pod.state u ≡ false → (p : ExitTest) → exits_run (set_by_thread u p) session.steps ≡ exits_set (set_by_thread u p) session.steps
+TheDeadHaveRunTheirExits session = (u : ℕ) → is_thread session.live.pod.state u ≡ false → (p : ExitTest) → exits_run (is_set_by u p) session.steps ≡ exits_set (is_set_by u p) session.steps

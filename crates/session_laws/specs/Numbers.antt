@@ -4,7 +4,7 @@ use Rattle.lwp_types.specs.Choice.{choice}
 use Rattle.lwp_types.specs.State.{State}
 use Rattle.lwp_types.specs.Step.{step}
 use Rattle.lwp_types.specs.declared.call.Call.{Call}
-use Rattle.pod_laws.specs.Once.{ExitTest, set_now}
+use Rattle.pod_laws.specs.Once.{ExitTest, sets_of_step}
 use Rattle.std.specs.Prelude.{Bool, List, false, if◌then◌else◌, true, ℕ, ◌+◌, ◌==◌, ◌≡◌}
 use Rattle.lwp_types.specs.declared.call.Call.TheVariants as call
 
@@ -14,7 +14,7 @@ any_exit t n x = true
 
 -- the number that the next one gets is one more after a step that sets one, and else the same
 abbrev pub StepsNumberExits : Type 0
-StepsNumberExits = (s : State) (c : Call) → (step s c).after.next_registration ≡ s.next_registration + set_now any_exit s (choice s) c
+StepsNumberExits = (s : State) (c : Call) → (step s c).after.next_registration ≡ s.next_registration + sets_of_step any_exit s (choice s) c
 
 -- no delivery sets one
 abbrev pub DeliveriesNumberNone : Type 0

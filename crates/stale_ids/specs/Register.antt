@@ -27,12 +27,12 @@ module _ {T : Type 0} where
   without n live = filter (λ p. not (is_of n p)) live
 
   -- a pair, with another value where it is that of n
-  abbrev pub value_set : ℕ → T → ℕ × T → ℕ × T
-  value_set n value p = (p.0, if is_of n p then value else p.1)
+  abbrev pub pair_with_value : ℕ → T → ℕ × T → ℕ × T
+  pair_with_value n value p = (p.0, if is_of n p then value else p.1)
 
   -- the value under n becomes another
   abbrev pub with_value : ℕ → T → List (ℕ × T) → List (ℕ × T)
-  with_value n value live = map (value_set n value) live
+  with_value n value live = map (pair_with_value n value) live
 
   abbrev pub numbers : List (ℕ × T) → List ℕ
   numbers live = map (λ p. p.0) live

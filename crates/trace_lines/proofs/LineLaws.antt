@@ -17,8 +17,8 @@ use Rattle.std.specs.Fmt.{decimal, digits}
 use Rattle.std.specs.Prelude.{IsTrue, bytes_eq, negsuc, not, pos}
 use Rattle.script_lines.specs.Table.{op_at, row_of}
 use Rattle.trace_lines.proofs.WordLaws.{EndsDigits, behind_again, id_again, id_alone, not_number, not_number_on, number_again, number_alone, number_is_word, rest_again, who_again, who_alone, whole_alone}
-use Rattle.trace_lines.specs.Entries.{also_told, call_entry, entry_of, event_told, exit_entry_by, gain_of, id_of, is_suspended, rites_told, taken_post, target_of, thread_entry, tick_told, trap_told, verb_of, who_of}
-use Rattle.trace_lines.specs.Told.{AlsoIsRead, AnswersAreRead, CallsAreRead, DeathsAreRead, EndsAreRead, EventsAreRead, ExitsAreRead, IsAnswer, IsPrinted, RitesAreRead, TicksAreRead, TrapsAreRead, exit_target, exit_verb, gain_told, is_outcome, is_refused, suspended_told, target_told, verb_told}
+use Rattle.trace_lines.specs.Entries.{also_entry_by, call_entry, entry_of, event_entry_by, exit_entry_by, gain_of, id_of, is_suspended, rites_entry_by, taken_post, target_of, thread_entry, tick_entry_by, trap_entry_by, verb_of, who_of}
+use Rattle.trace_lines.specs.Told.{AlsoIsRead, AnswersAreRead, CallsAreRead, DeathsAreRead, EndsAreRead, EventsAreRead, ExitsAreRead, IsAnswer, IsPrinted, RitesAreRead, TicksAreRead, TrapsAreRead, exit_target, exit_verb, gain_in_answer, is_outcome, is_refused, is_created_suspended, target_of_call, verb_of_call}
 use Rattle.trace_lines.specs.Words.{ends, reach, rest, starts, word}
 use Rattle.trace_lines.specs.declared.entry.Entry.TheVariants as entry
 use Rattle.trace_lines.specs.declared.entry.Gain.TheVariants as gain
@@ -53,8 +53,8 @@ unfolding op_at row_of
 said t [] = refl
 said t (b ∷ bs) = refl
 
-received : (procs : List (List ℕ)) (t : ℕ) (from : Option ℕ) (mode : _) → target_told (call.Recv from mode) ≤ null_id
-    → call_entry t (call_text procs (Some t) (call.Recv from mode)) ≡ Some (entry.Called t verb.Receive (target_told (call.Recv from mode)) false)
+received : (procs : List (List ℕ)) (t : ℕ) (from : Option ℕ) (mode : _) → target_of_call (call.Recv from mode) ≤ null_id
+    → call_entry t (call_text procs (Some t) (call.Recv from mode)) ≡ Some (entry.Called t verb.Receive (target_of_call (call.Recv from mode)) false)
 unfolding op_at row_of
 received procs t None mode le = refl
 received procs t (Some u) mode le = rw (who_again t u _ le refl) refl
@@ -64,7 +64,7 @@ unfolding op_at row_of
 replied procs t u text = refl
 
 asked : (procs : List (List ℕ)) (t : ℕ) (c : Call) → IsPrinted procs c
-    → call_entry t (call_text procs (Some t) c) ≡ Some (entry.Called t (verb_told c) (target_told c) (suspended_told c))
+    → call_entry t (call_text procs (Some t) c) ≡ Some (entry.Called t (verb_of_call c) (target_of_call c) (is_created_suspended c))
 unfolding op_at row_of
 asked procs t (call.Create number prio flags) h = ap (λ s. Some (entry.Called t verb.Create null_id s)) (created procs number prio flags h.0 h.1)
 asked procs t (call.Destroy u) h = ap (λ n. Some (entry.Called t verb.Destroy n false)) (who_alone t u h)
@@ -109,7 +109,7 @@ other_condition : (n : ℕ) → (v : Bool) → gain_of (cond v (codes "none") (9
 other_condition n true = refl
 other_condition n false = refl
 
-answered : (t : ℕ) (a : Answer) → IsAnswer a → thread_entry (Some t) (answer_text a) ≡ Some (entry.Answered t (gain_told a))
+answered : (t : ℕ) (a : Answer) → IsAnswer a → thread_entry (Some t) (answer_text a) ≡ Some (entry.Answered t (gain_in_answer a))
 answered t (answer.Value (pos n)) h = ap (λ g. Some (entry.Answered t g)) (valued n h)
 answered t (answer.Value (negsuc n)) h = refl
 answered t (answer.Thread u) h = ap (λ g. Some (entry.Answered t g)) (born u h)
@@ -163,7 +163,7 @@ posted_again line hc hs =
 pub delivered_again : (procs : List (List ℕ)) (line : Line) (agent e : ℕ) → EventsAreRead procs line agent e
 delivered_again procs line agent e he hc hs =
     let fits : e < 2 ^ 64 = omega (arith, he) in
-    rw (number_again e (posted_text line) fits refl, behind_again e (posted_text line) fits refl) (ap (event_told e) (posted_again line hc hs))
+    rw (number_again e (posted_text line) fits refl, behind_again e (posted_text line) fits refl) (ap (event_entry_by e) (posted_again line hc hs))
 
 -- ---- later deliveries
 
@@ -172,18 +172,18 @@ also_again procs agent e lt = by_null (eqb agent null_id) refl
   where
     by_null : (v : Bool) → eqb agent null_id ≡ v → entry_of (codes "also " ++ cond v (codes "none") (116 ∷ decimal agent)) ≡ Some (entry.Also agent)
     by_null true h = absurd (omega (arith, eqb-true agent null_id h))
-    by_null false h = ap also_told (whole_alone agent (omega (arith, lt)))
+    by_null false h = ap also_entry_by (whole_alone agent (omega (arith, lt)))
 
 -- ---- ticks
 
 pub ticked_again : (procs : List (List ℕ)) (line : Line) (now : ℕ) → TicksAreRead procs line now
 ticked_again procs line now fits hc hs =
-    rw (number_again now (posted_text line) fits refl, behind_again now (posted_text line) fits refl) (ap (tick_told now) (posted_again line hc hs))
+    rw (number_again now (posted_text line) fits refl, behind_again now (posted_text line) fits refl) (ap (tick_entry_by now) (posted_again line hc hs))
 
 -- ---- traps
 
 pub trapped_again : (procs : List (List ℕ)) (took : Option Line) (t e : ℕ) → TrapsAreRead procs took t e
-trapped_again procs took t e lt fits = thread_line t (codes " trap " ++ decimal e) lt refl ∙ ap (trap_told t) (whole_alone e (omega (arith, fits)))
+trapped_again procs took t e lt fits = thread_line t (codes " trap " ++ decimal e) lt refl ∙ ap (trap_entry_by t) (whole_alone e (omega (arith, fits)))
 
 -- ---- reports
 
@@ -197,7 +197,7 @@ reported_again procs took agent dead la ld = by_null (eqb dead null_id) (eqb age
     by_null false false h g =
         let fits : dead < 2 ^ 64 = omega (arith, ld) in
         let more = codes " to t" ++ decimal agent in
-        rw (number_again dead more fits refl, behind_again dead more fits refl) (ap (rites_told dead) (whole_alone agent (omega (arith, la))))
+        rw (number_again dead more fits refl, behind_again dead more fits refl) (ap (rites_entry_by dead) (whole_alone agent (omega (arith, la))))
 
 -- ---- ends
 

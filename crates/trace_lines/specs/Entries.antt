@@ -103,13 +103,13 @@ gain_of text =
     else if starts (codes "t") text then gain.Thread (id_of text)
     else value_gain (number text)
 
-abbrev pub trap_told : ℕ → Option ℕ → Option Entry
-trap_told tid None = None
-trap_told tid (Some event) = Some (entry.Trapped tid event)
+abbrev pub trap_entry_by : ℕ → Option ℕ → Option Entry
+trap_entry_by tid None = None
+trap_entry_by tid (Some event) = Some (entry.Trapped tid event)
 
 -- the line of a trap that is raised, behind its word: a number, and nothing else
 abbrev pub trap_entry : ℕ → List ℕ → Option Entry
-trap_entry tid text = trap_told tid (whole_number text)
+trap_entry tid text = trap_entry_by tid (whole_number text)
 
 -- the line of an answer or a death, or of a trap, behind the thread
 abbrev pub answer_entry : ℕ → List ℕ → Option Entry
@@ -148,40 +148,40 @@ taken_post_of (Some client) text = if starts (codes " seq ") text then client_an
 abbrev pub taken_post : List ℕ → Option (ℕ × ℕ)
 taken_post text = if starts (codes " client ") text then taken_post_of (number (drop 8 text)) (behind (drop 8 text)) else None
 
-abbrev pub event_told : ℕ → Option (ℕ × ℕ) → Option Entry
-event_told event None = None
-event_told event (Some line) = Some (entry.Event event line.0 line.1)
+abbrev pub event_entry_by : ℕ → Option (ℕ × ℕ) → Option Entry
+event_entry_by event None = None
+event_entry_by event (Some line) = Some (entry.Event event line.0 line.1)
 
 -- the line of a delivery, behind its event
 abbrev pub event_entry : Option ℕ → List ℕ → Option Entry
 event_entry None text = None
-event_entry (Some event) text = event_told event (taken_post text)
+event_entry (Some event) text = event_entry_by event (taken_post text)
 
-abbrev pub also_told : Option ℕ → Option Entry
-also_told None = None
-also_told (Some agent) = Some (entry.Also agent)
+abbrev pub also_entry_by : Option ℕ → Option Entry
+also_entry_by None = None
+also_entry_by (Some agent) = Some (entry.Also agent)
 
 -- the line of a later delivery, behind its letter: a number, and nothing else
 abbrev pub also_entry : List ℕ → Option Entry
-also_entry text = also_told (whole_number text)
+also_entry text = also_entry_by (whole_number text)
 
-abbrev pub rites_told : ℕ → Option ℕ → Option Entry
-rites_told dead None = None
-rites_told dead (Some agent) = Some (entry.Rites agent dead)
+abbrev pub rites_entry_by : ℕ → Option ℕ → Option Entry
+rites_entry_by dead None = None
+rites_entry_by dead (Some agent) = Some (entry.Rites agent dead)
 
 -- the line of a report, behind the letter of the dead: its number, and the agent that hears of it
 abbrev pub rites_entry : Option ℕ → List ℕ → Option Entry
 rites_entry None text = None
-rites_entry (Some dead) text = if starts (codes " to t") text then rites_told dead (whole_number (drop 5 text)) else None
+rites_entry (Some dead) text = if starts (codes " to t") text then rites_entry_by dead (whole_number (drop 5 text)) else None
 
-abbrev pub tick_told : ℕ → Option (ℕ × ℕ) → Option Entry
-tick_told now None = None
-tick_told now (Some line) = Some (entry.Tick now line.0 line.1)
+abbrev pub tick_entry_by : ℕ → Option (ℕ × ℕ) → Option Entry
+tick_entry_by now None = None
+tick_entry_by now (Some line) = Some (entry.Tick now line.0 line.1)
 
 -- the line of a tick, behind its number
 abbrev pub tick_entry : Option ℕ → List ℕ → Option Entry
 tick_entry None text = None
-tick_entry (Some now) text = tick_told now (taken_post text)
+tick_entry (Some now) text = tick_entry_by now (taken_post text)
 
 -- whether the line stands behind the last step
 abbrev pub is_closing : List ℕ → Bool

@@ -20,49 +20,49 @@ use Rattle.trace_lines.specs.declared.entry.Verb.TheVariants as verb
 use Rattle.trace_text.specs.Lines.{line_text, proc_text}
 
 -- what is called
-abbrev pub verb_told : Call → Verb
-verb_told (call.Create number prio flags) = verb.Create
-verb_told (call.Destroy t) = verb.Destroy
-verb_told (call.Suspend t) = verb.Suspend
-verb_told (call.Resume t) = verb.Resume
-verb_told (call.Join t) = verb.Join
-verb_told (call.Sleep ticks) = verb.Sleep
-verb_told (call.Send t room text) = verb.Send
-verb_told (call.Recv from mode) = verb.Receive
-verb_told (call.Enter m) = verb.Enter
-verb_told (call.CondEnter m) = verb.CondEnter
-verb_told (call.MonExit m) = verb.MonExit
-verb_told (call.MonBreak m) = verb.MonBreak
-verb_told (call.Wait c) = verb.Wait
-verb_told (call.Agent e) = verb.Agent
-verb_told (call.OnExit x) = verb.OnExit
-verb_told (call.Say text) = verb.Say
-verb_told _ = verb.Other
+abbrev pub verb_of_call : Call → Verb
+verb_of_call (call.Create number prio flags) = verb.Create
+verb_of_call (call.Destroy t) = verb.Destroy
+verb_of_call (call.Suspend t) = verb.Suspend
+verb_of_call (call.Resume t) = verb.Resume
+verb_of_call (call.Join t) = verb.Join
+verb_of_call (call.Sleep ticks) = verb.Sleep
+verb_of_call (call.Send t room text) = verb.Send
+verb_of_call (call.Recv from mode) = verb.Receive
+verb_of_call (call.Enter m) = verb.Enter
+verb_of_call (call.CondEnter m) = verb.CondEnter
+verb_of_call (call.MonExit m) = verb.MonExit
+verb_of_call (call.MonBreak m) = verb.MonBreak
+verb_of_call (call.Wait c) = verb.Wait
+verb_of_call (call.Agent e) = verb.Agent
+verb_of_call (call.OnExit x) = verb.OnExit
+verb_of_call (call.Say text) = verb.Say
+verb_of_call _ = verb.Other
 
 abbrev pub somebody : Option ℕ → ℕ
 somebody None = null_id
 somebody (Some t) = t
 
 -- whom or what it names
-abbrev pub target_told : Call → ℕ
-target_told (call.Destroy t) = t
-target_told (call.Suspend t) = t
-target_told (call.Resume t) = t
-target_told (call.Join t) = t
-target_told (call.Send t room text) = t
-target_told (call.Recv from mode) = somebody from
-target_told (call.Enter m) = m
-target_told (call.CondEnter m) = m
-target_told (call.MonExit m) = m
-target_told (call.MonBreak m) = m
-target_told (call.Wait c) = c
-target_told (call.Agent e) = e
-target_told _ = null_id
+abbrev pub target_of_call : Call → ℕ
+target_of_call (call.Destroy t) = t
+target_of_call (call.Suspend t) = t
+target_of_call (call.Resume t) = t
+target_of_call (call.Join t) = t
+target_of_call (call.Send t room text) = t
+target_of_call (call.Recv from mode) = somebody from
+target_of_call (call.Enter m) = m
+target_of_call (call.CondEnter m) = m
+target_of_call (call.MonExit m) = m
+target_of_call (call.MonBreak m) = m
+target_of_call (call.Wait c) = c
+target_of_call (call.Agent e) = e
+target_of_call _ = null_id
 
 -- whether a new thread begins suspended
-abbrev pub suspended_told : Call → Bool
-suspended_told (call.Create number prio flags) = flags.suspended
-suspended_told _ = false
+abbrev pub is_created_suspended : Call → Bool
+is_created_suspended (call.Create number prio flags) = flags.suspended
+is_created_suspended _ = false
 
 -- a procedure's name has no space
 abbrev pub IsOneWord : List ℕ → Type 0
@@ -71,26 +71,26 @@ IsOneWord name = reach 32 name ≡ length name
 -- the numbers of the call fit their types, and the name of a new thread's procedure is a word
 abbrev pub IsPrinted : List (List ℕ) → Call → Type 0
 IsPrinted procs (call.Create number prio flags) = IsOneWord (proc_text procs number) × (prio < 2 ^ 32)
-IsPrinted procs c = target_told c ≤ null_id
+IsPrinted procs c = target_of_call c ≤ null_id
 
 -- a call of a thread is read back
 abbrev pub CallsAreRead : List (List ℕ) → Option Line → ℕ → Call → Type 0
 CallsAreRead procs took t c = t < null_id → IsPrinted procs c
-    → entry_of (line_text procs took (effect.Called t c)) ≡ Some (entry.Called t (verb_told c) (target_told c) (suspended_told c))
+    → entry_of (line_text procs took (effect.Called t c)) ≡ Some (entry.Called t (verb_of_call c) (target_of_call c) (is_created_suspended c))
 
-abbrev pub value_told : ℤ → Gain
-value_told (pos n) = gain.Value n
-value_told (negsuc n) = gain.Other
+abbrev pub gain_in_value : ℤ → Gain
+gain_in_value (pos n) = gain.Value n
+gain_in_value (negsuc n) = gain.Other
 
 -- what a thread is answered
-abbrev pub gain_told : Answer → Gain
-gain_told (answer.Value v) = value_told v
-gain_told (answer.Thread t) = gain.Thread t
-gain_told (answer.Letter from text room) = gain.Letter from
-gain_told (answer.Reply text) = gain.Reply
-gain_told (answer.Caught depth mark p) = gain.Caught
-gain_told (answer.Refused e) = gain.Refused
-gain_told _ = gain.Other
+abbrev pub gain_in_answer : Answer → Gain
+gain_in_answer (answer.Value v) = gain_in_value v
+gain_in_answer (answer.Thread t) = gain.Thread t
+gain_in_answer (answer.Letter from text room) = gain.Letter from
+gain_in_answer (answer.Reply text) = gain.Reply
+gain_in_answer (answer.Caught depth mark p) = gain.Caught
+gain_in_answer (answer.Refused e) = gain.Refused
+gain_in_answer _ = gain.Other
 
 -- the numbers of the answer fit their types, and a new thread is somebody
 abbrev pub IsAnswer : Answer → Type 0
@@ -101,7 +101,7 @@ IsAnswer _ = Unit {0}
 
 -- an answer is read back
 abbrev pub AnswersAreRead : List (List ℕ) → Option Line → ℕ → Answer → Type 0
-AnswersAreRead procs took t a = t < null_id → IsAnswer a → entry_of (line_text procs took (effect.Answered t a)) ≡ Some (entry.Answered t (gain_told a))
+AnswersAreRead procs took t a = t < null_id → IsAnswer a → entry_of (line_text procs took (effect.Answered t a)) ≡ Some (entry.Answered t (gain_in_answer a))
 
 -- a death is read back
 abbrev pub DeathsAreRead : List (List ℕ) → Option Line → ℕ → Type 0

@@ -16,7 +16,7 @@ use Rattle.thread_index.specs.Index.{Found, Puts, count_of, place_of, width_of}
 use Rattle.waiting_list.proofs.KnownLaws.{IsKnown-push, IsKnown-remove, IsKnown-set}
 use Rattle.waiting_list.specs.Entries.{IsIndexed, IsArrivalOf, IsBestAt, IsKnown, IsSortedOut, IsOnce, IsThreadAt, arrivals, entry_of, has_arrival, is_entry_for, is_entry_of, waiting_of}
 use Rattle.waiting_list.specs.Kept.{IsKept}
-use Rattle.waiting_list.specs.Line.{is_for, is_thread, priority_set}
+use Rattle.waiting_list.specs.Line.{is_for, is_thread, waiting_with_priority}
 use Rattle.waiting_list.specs.declared.keys.Key.{Key}
 use Rattle.waiting_list.specs.declared.rows.Entry.{Entry}
 use Rattle.waiting_list.specs.declared.rows.Waiting.{Waiting}
@@ -104,8 +104,8 @@ tids_are n es = ap (map (λ (w : Waiting). w.tid)) (map-filter waiting_of (is_fo
 pub none_left : (t : ℕ) (es : List Entry) → count_by (is_entry_of t) es ≡ 0 → filter (λ w. not (is_thread t w)) (map waiting_of es) ≡ map waiting_of es
 none_left t es none = filter_none (is_thread t) (map waiting_of es) (omega (arith, none, count_waits (is_thread t) es))
 
-pub none_prioritized : (t p : ℕ) (es : List Entry) → count_by (is_entry_of t) es ≡ 0 → map (priority_set t p) (map waiting_of es) ≡ map waiting_of es
-none_prioritized t p es none = map_none (is_thread t) (priority_set t p) (λ x other. ap (λ b. record x { prio = cond b p x.prio }) other) (map waiting_of es) (omega (arith, none, count_waits (is_thread t) es))
+pub none_prioritized : (t p : ℕ) (es : List Entry) → count_by (is_entry_of t) es ≡ 0 → map (waiting_with_priority t p) (map waiting_of es) ≡ map waiting_of es
+none_prioritized t p es none = map_none (is_thread t) (waiting_with_priority t p) (λ x other. ap (λ b. record x { prio = cond b p x.prio }) other) (map waiting_of es) (omega (arith, none, count_waits (is_thread t) es))
 
 -- ---- changes
 
@@ -195,11 +195,11 @@ module _ (es : List Entry) (ranks arrived : List Key) (index : Found) (room rank
     abbrev with_prio : ℕ → ℕ → Entry → Entry
     with_prio p q x = record x { prio = cond (is_entry_of t x) p x.prio; filed = cond (is_entry_of t x) q x.filed }
 
-    waits_prio : (p q : ℕ) (xs : List Entry) → map waiting_of (map (with_prio p q) xs) ≡ map (priority_set t p) (map waiting_of xs)
+    waits_prio : (p q : ℕ) (xs : List Entry) → map waiting_of (map (with_prio p q) xs) ≡ map (waiting_with_priority t p) (map waiting_of xs)
     waits_prio p q [] = refl
     waits_prio p q (x ∷ xs) = ap (λ ws. waiting_of (with_prio p q x) ∷ ws) (waits_prio p q xs)
 
-    pub prioritized_there : (p q : ℕ) → map waiting_of (set es i (record e { prio = p; filed = q })) ≡ map (priority_set t p) (map waiting_of es)
+    pub prioritized_there : (p q : ℕ) → map waiting_of (set es i (record e { prio = p; filed = q })) ≡ map (waiting_with_priority t p) (map waiting_of es)
     prioritized_there p q =
         ap (λ b. map waiting_of (set es i (record e { prio = cond b p e.prio; filed = cond b q e.filed }))) (sym is_t)
         ∙ ap (map waiting_of) (set_only (is_entry_of t) (with_prio p q) (λ x other. ap (λ b. record x { prio = cond b p x.prio; filed = cond b q x.filed }) other) es i e (was.once t) there.within here is_t)

@@ -32,16 +32,16 @@ abbrev pub first_for : Line → ℕ → Option Waiting
 first_for s n = find (is_for n) s.waiting
 
 -- of those the one of thread t
-abbrev pub found_for : Line → ℕ → ℕ → Option Waiting
-found_for s n t = find (λ w. is_for n w && is_thread t w) s.waiting
+abbrev pub thread_waiting_for : Line → ℕ → ℕ → Option Waiting
+thread_waiting_for s n t = find (λ w. is_for n w && is_thread t w) s.waiting
 
 -- thread t waits
 abbrev pub has_thread : Line → ℕ → Bool
 has_thread s t = list_any (is_thread t) s.waiting
 
 -- one that waits, with another priority where it is thread t
-abbrev pub priority_set : ℕ → ℕ → Waiting → Waiting
-priority_set t p w = record w { prio = if is_thread t w then p else w.prio }
+abbrev pub waiting_with_priority : ℕ → ℕ → Waiting → Waiting
+waiting_with_priority t p w = record w { prio = if is_thread t w then p else w.prio }
 
 -- the line after each call
 
@@ -63,4 +63,4 @@ after_leave s t = record s { waiting = filter (λ w. not (is_thread t w)) s.wait
 
 -- the priority of thread t is p from now on; it keeps its place
 abbrev pub after_set_priority : Line → ℕ → ℕ → Line
-after_set_priority s t p = record s { waiting = map (priority_set t p) s.waiting }
+after_set_priority s t p = record s { waiting = map (waiting_with_priority t p) s.waiting }

@@ -1,7 +1,7 @@
 // The line of those that wait.
 ghost use Rattle.std.specs.Prelude.{◌≡◌, ◌<◌, ◌≤◌, false, length, map, IsOk, IfOk, OnOk, OnErr};
 ghost use Rattle.std.specs.List.{list_any};
-ghost use Rattle.waiting_list.specs.Line.{after_join, after_leave, after_reserve, after_set_priority, best_for, empty_line, first_for, found_for, has_thread, is_for, waiting_for};
+ghost use Rattle.waiting_list.specs.Line.{after_join, after_leave, after_reserve, after_set_priority, best_for, empty_line, first_for, thread_waiting_for, has_thread, is_for, waiting_for};
 
 use crate::Waiting;
 use crate::filing::{dismiss, file_next, next_arrival, prioritize, widen};
@@ -125,7 +125,7 @@ impl WaitingList {
 
     /// Of those that wait for this the one of the thread.
     pub fn found(&self, what: u64, tid: Tid) -> Option<Waiting>
-        ensures { result ≡ found_for self.now what tid }
+        ensures { result ≡ thread_waiting_for self.now what tid }
     {
         let at = place_of_thread(&self.entries, &self.index, tid)?;
         let entry = self.entries[at];

@@ -1,6 +1,6 @@
 -- What one client is told, worked out by hand: the replies to the agents of its event, and the answers to its lines.
 use Rattle.line_server.specs.Tables.{line_answers}
-use Rattle.pod_runner.specs.Due.{counted_to}
+use Rattle.pod_runner.specs.Due.{numbers_to}
 use Rattle.script_answers.specs.Replies.{answers_of}
 use Rattle.std.specs.List.{flat_map}
 use Rattle.std.specs.Prelude.{List, [], codes, map, ℕ, ◌++◌, ◌∷◌, ◌≡◌}
@@ -17,10 +17,10 @@ AreAnswered texts told = line_answers texts ≡ told
 
 -- what each of the three clients of the line server posts, and how it is answered: 39 requests, and then `quit`
 abbrev pub texts_of_one : List (List ℕ)
-texts_of_one = map text (counted_to 40)
+texts_of_one = map text (numbers_to 40)
 
 abbrev pub answers_of_one : List (List ℕ)
-answers_of_one = map reply (counted_to requests) ++ codes "bye" ∷ []
+answers_of_one = map reply (numbers_to requests) ++ codes "bye" ∷ []
 
 -- texts, each on a line of its own
 abbrev pub as_lines : List (List ℕ) → List ℕ

@@ -5,7 +5,7 @@ use Rattle.lwp_types.specs.Threads.{new_thread}
 use Rattle.lwp_types.specs.declared.call.Answer.{Answer}
 use Rattle.lwp_types.specs.declared.call.Call.{Call}
 use Rattle.lwp_types.specs.declared.call.LwpErr.{LwpErr}
-use Rattle.pod_runner.specs.Due.{counted_to}
+use Rattle.pod_runner.specs.Due.{numbers_to}
 use Rattle.trace_text.specs.declared.ends.Halt.TheVariants.{Ended, Spent}
 use Rattle.std.specs.Fmt.{decimal}
 use Rattle.std.specs.List.{flat_map}
@@ -21,7 +21,7 @@ use Rattle.script_text.specs.declared.script.Stmt.TheVariants as stmt
 
 -- so many pieces of text, each by its number, counted from 0
 abbrev pub pieces : ℕ → (ℕ → List ℕ) → List ℕ
-pieces n piece = flat_map piece (counted_to n)
+pieces n piece = flat_map piece (numbers_to n)
 
 -- A procedure that calls itself comes to 64 frames.
 --   lwp 1 / pod 1
@@ -108,18 +108,18 @@ alone = opening (record { maxpri = 1; births = 4294967295; procs = 1 })
 
 -- it has so many threads, all but the first suspended
 abbrev pub with_threads : ℕ → State
-with_threads n = record alone { threads = opening_thread 1 ∷ map (λ k. new_thread (k + 1) 1 asleep) (counted_to (n - 1)); births = n }
+with_threads n = record alone { threads = opening_thread 1 ∷ map (λ k. new_thread (k + 1) 1 asleep) (numbers_to (n - 1)); births = n }
 
 -- so many monitors are live
 abbrev pub with_monitors : ℕ → State
-with_monitors n = record alone { monitors = counted_to n; monitor_births = n }
+with_monitors n = record alone { monitors = numbers_to n; monitor_births = n }
 
 -- so many conditions are live, all of one monitor
 abbrev pub with_conditions : ℕ → State
 with_conditions n = record alone {
   monitors = 0 ∷ [];
   monitor_births = 1;
-  conditions = map (λ c. record { number = c; mon = 0 }) (counted_to n);
+  conditions = map (λ c. record { number = c; mon = 0 }) (numbers_to n);
   condition_births = n;
 }
 

@@ -1,7 +1,7 @@
 -- The line server at work: three clients, a session for each, one store. Each client asks for thirteen keys in turn, to be put,
 -- got and deleted, and quits. The store is of greater priority and replies at once; the sessions take turns, a request each.
 use Rattle.lwp_types.specs.declared.call.Line.{Line}
-use Rattle.pod_runner.specs.Due.{counted_to}
+use Rattle.pod_runner.specs.Due.{numbers_to}
 use Rattle.pod_runner.specs.declared.session.Took.{Took}
 use Rattle.trace_text.specs.declared.ends.Halt.TheVariants.{Ended, Spent}
 use Rattle.std.specs.Fmt.{decimal}
@@ -81,7 +81,7 @@ before c (suc k) = answers c (reply k)
 
 -- each session in turn replies, hears the next line and asks the store
 abbrev pub round : ℕ → List ℕ
-round k = flat_map (λ c. before c k ++ (hears c k ++ asks c k)) (counted_to clients)
+round k = flat_map (λ c. before c k ++ (hears c k ++ asks c k)) (numbers_to clients)
 
 -- the first thread, which waits for the sessions one after the other, waits for the next, if there is one
 abbrev pub main_goes_on : ℕ → List ℕ
@@ -106,7 +106,7 @@ ends = codes "t0: return\nt0 dies\npod ends 0\n"
 
 -- the whole trace, with this at its end
 abbrev pub whole : List ℕ → List ℕ
-whole end = joined (begins ∷ flat_map round (counted_to requests) ∷ flat_map quits (counted_to clients) ∷ end ∷ [])
+whole end = joined (begins ∷ flat_map round (numbers_to requests) ∷ flat_map quits (numbers_to clients) ∷ end ∷ [])
 
 -- after how many calls a line is taken: six to begin with, five for each session and round, and then that which lets it in
 abbrev pub turn : ℕ → ℕ → ℕ
@@ -114,7 +114,7 @@ turn c k = 6 + 5 * (3 * k + c) + 1
 
 -- the lines in the order in which they are taken
 abbrev pub taken : List Took
-taken = flat_map (λ k. map (λ c. took (turn c k) (c + 1) (posted_line c k)) (counted_to clients)) (counted_to (requests + 1))
+taken = flat_map (λ k. map (λ c. took (turn c k) (c + 1) (posted_line c k)) (numbers_to clients)) (numbers_to (requests + 1))
 
 -- Three sessions and one store; each client is answered `ok`, `is vI`, `ok` for each key, and `bye`.
 --   lwp 1 / pod 2
@@ -128,7 +128,7 @@ taken = flat_map (λ k. map (λ c. took (turn c k) (c + 1) (posted_line c k)) (c
 --   and the same for the clients 1 and 2
 abbrev pub line_server : Row
 line_server = record {
-  script = posted (1 ∷ 2 ∷ 3 ∷ []) (flat_map (λ c. map (posted_line c) (counted_to (requests + 1))) (counted_to clients))
+  script = posted (1 ∷ 2 ∷ 3 ∷ []) (flat_map (λ c. map (posted_line c) (numbers_to (requests + 1))) (numbers_to clients))
       (with_natives (built_in 0 native.Store ∷ built_in 1 (native.Session 1 0) ∷ built_in 2 (native.Session 2 0) ∷ built_in 3 (native.Session 3 0) ∷ [])
       (pod 2 (named (codes "db" ∷ codes "s0" ∷ codes "s1" ∷ codes "s2" ∷ codes "main" ∷ []) (codes "db" ∷ codes "a" ∷ codes "b" ∷ codes "c" ∷ []) [] [])
       (procedure 4 (stmt.Create 0 0 2 serving ∷ stmt.Create 1 1 1 plain ∷ stmt.Create 2 2 1 plain ∷ stmt.Create 3 3 1 plain

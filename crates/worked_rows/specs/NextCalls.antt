@@ -9,7 +9,7 @@ use Rattle.lwp_types.specs.Names.{Names, null_names}
 use Rattle.lwp_types.specs.Poll.{Next}
 use Rattle.lwp_types.specs.declared.call.Answer.{Answer}
 use Rattle.lwp_types.specs.declared.call.Call.{Call}
-use Rattle.pod_runner.specs.Due.{counted_to}
+use Rattle.pod_runner.specs.Due.{numbers_to}
 use Rattle.script_body.specs.Frame.{Frame}
 use Rattle.script_body.specs.ScriptBody.{ScriptBody, script_opening}
 use Rattle.script_text.specs.declared.script.Stmt.{Stmt}
@@ -61,4 +61,4 @@ store place = record { tables = []; client = 1; place = place }
 
 -- a table with the keys `k0` to `k99`, each of the value `v`
 abbrev pub hundred : Table
-hundred = map (λ n. (codes "k" ++ decimal n, value_reply (codes "v"))) (counted_to 100)
+hundred = map (λ n. (codes "k" ++ decimal n, value_reply (codes "v"))) (numbers_to 100)

@@ -3,7 +3,7 @@ use Rattle.trace_text.specs.declared.ends.Halt.TheVariants.{Ended, Stuck}
 use Rattle.lwp_types.specs.Agents.{new_agent}
 use Rattle.lwp_types.specs.State.{State, opening_thread}
 use Rattle.lwp_types.specs.declared.call.Line.{Line}
-use Rattle.pod_runner.specs.Due.{counted_to}
+use Rattle.pod_runner.specs.Due.{numbers_to}
 use Rattle.pod_runner.specs.declared.session.Took.{Took}
 use Rattle.std.specs.Prelude.{None, Some, [], codes, map, ℕ, ◌+◌, ◌∷◌}
 use Rattle.worked_rows.specs.Limits.{alone}
@@ -226,7 +226,7 @@ agents_of_two_events = record {
 
 -- the first thread has so many agents, all of one event
 abbrev pub with_agents : ℕ → State
-with_agents n = record alone { agents = map (λ k. new_agent (k + 1) 7 0) (counted_to n); births = n + 1 }
+with_agents n = record alone { agents = map (λ k. new_agent (k + 1) 7 0) (numbers_to n); births = n + 1 }
 
 -- and it waits for a letter of anybody
 abbrev pub waiting_with_agents : ℕ → State

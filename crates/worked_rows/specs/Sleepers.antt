@@ -3,7 +3,7 @@ use Rattle.trace_text.specs.declared.ends.Halt.TheVariants.{Ended, Spent, Stuck}
 use Rattle.lwp_types.specs.State.{State, opening_thread}
 use Rattle.lwp_types.specs.declared.call.Line.{Line}
 use Rattle.lwp_types.specs.declared.rows.Block.TheVariants as block
-use Rattle.pod_runner.specs.Due.{counted_to}
+use Rattle.pod_runner.specs.Due.{numbers_to}
 use Rattle.pod_runner.specs.declared.session.Took.{Took}
 use Rattle.std.specs.Prelude.{List, None, Some, [], codes, map, ℕ, ◌∷◌}
 use Rattle.worked_rows.specs.Limits.{alone}
@@ -22,7 +22,7 @@ x_line seq = line 0 seq (codes "x")
 
 -- so many lines of client 0
 abbrev pub beats : ℕ → List Line
-beats n = map (λ seq. x_line seq) (counted_to n)
+beats n = map (λ seq. x_line seq) (numbers_to n)
 
 -- one of them is taken for the clock after so many calls
 abbrev pub beat : ℕ → ℕ → Took

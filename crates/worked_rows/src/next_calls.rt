@@ -1,7 +1,7 @@
 // Bodies with answers that no session gives.
 ghost use Rattle.line_server.specs.Sessions.{session_next};
 ghost use Rattle.line_server.specs.Stores.{store_next};
-ghost use Rattle.line_server.specs.Tables.{told_text};
+ghost use Rattle.line_server.specs.Tables.{served_text};
 ghost use Rattle.line_server.specs.declared.session.SessionPlace.TheVariants as serving;
 ghost use Rattle.line_server.specs.declared.store.StorePlace.TheVariants as storing;
 ghost use Rattle.lwp_types.specs.declared.call.Answer.TheVariants as answer;
@@ -70,12 +70,12 @@ pub fn stores_go_on()
 
 /// A table of a hundred keys takes no new one, and goes on serving those that it has.
 pub fn full_tables()
-    ensures full { (told_text (codes "put k100 w") hundred).reply ≡ codes "full" }
-    ensures unchanged { (told_text (codes "put k100 w") hundred).table ≡ hundred }
-    ensures put { (told_text (codes "put k99 w") hundred).reply ≡ codes "ok" }
-    ensures as_many { length (told_text (codes "put k99 w") hundred).table ≡ 100 }
-    ensures got { (told_text (codes "get k99") (told_text (codes "put k99 w") hundred).table).reply ≡ codes "is w" }
-    ensures missing { (told_text (codes "get k100") hundred).reply ≡ codes "none" }
-    ensures deleted { (told_text (codes "del k0") hundred).reply ≡ codes "ok" }
-    ensures room { (told_text (codes "put k100 w") (told_text (codes "del k0") hundred).table).reply ≡ codes "ok" }
+    ensures full { (served_text (codes "put k100 w") hundred).reply ≡ codes "full" }
+    ensures unchanged { (served_text (codes "put k100 w") hundred).table ≡ hundred }
+    ensures put { (served_text (codes "put k99 w") hundred).reply ≡ codes "ok" }
+    ensures as_many { length (served_text (codes "put k99 w") hundred).table ≡ 100 }
+    ensures got { (served_text (codes "get k99") (served_text (codes "put k99 w") hundred).table).reply ≡ codes "is w" }
+    ensures missing { (served_text (codes "get k100") hundred).reply ≡ codes "none" }
+    ensures deleted { (served_text (codes "del k0") hundred).reply ≡ codes "ok" }
+    ensures room { (served_text (codes "put k100 w") (served_text (codes "del k0") hundred).table).reply ≡ codes "ok" }
 {}

@@ -3,7 +3,7 @@ use Rattle.lwp_types.specs.declared.call.Line.{Line}
 use Rattle.event_gate.specs.Ends.{Posting}
 use Rattle.event_gate.proofs.Texts.{asked_short, asked_whole, asks_more, posts_more, room_left, seq_is}
 use Rattle.event_gate.proofs.posts.post_texts.Goals as goal
-use Rattle.event_gate.specs.Texts.{asked_each}
+use Rattle.event_gate.specs.Texts.{after_asks}
 
 pub post-requires-clause-room : goal.post-requires-clause-room
 post-requires-clause-room g c = room_left c.args.poster.now c.args.texts.now c.loop-text.text-index c.loop-text.poster c.loop-text-test.true c.requires c.loop-text.invariant.0
@@ -32,10 +32,10 @@ returns-in_default-clause-gate g c =
     asks_more g.G.PostGate.asked c.args.gate.now c.loop-text.gate c.before-in-loop-text.new.self p.client (length p.posted) c.count-seq.result texts i c.text-item.result c.loop-text-test.true c.loop-text.invariant.1
     (seq_is p q texts i c.count-seq.result c.loop-text-test.true c.loop-text.invariant.0 c.count-seq.ensures)
     (c.before-in-loop-text.ensures ∙ ap (λ (client : ℕ). g.G.PostGate.asked c.loop-text.gate client c.count-seq.result) c.client-client.ensures)
-    ∙ ap (asked_each g.G.PostGate.asked c.args.gate.now) (asked_short p c.post.new.self texts i c.loop-text-test.true (kept ∙ c.loop-text.invariant.0))
+    ∙ ap (after_asks g.G.PostGate.asked c.args.gate.now) (asked_short p c.post.new.self texts i c.loop-text-test.true (kept ∙ c.loop-text.invariant.0))
 
 pub returns-clause-gate : goal.returns-clause-gate
 returns-clause-gate g c =
     let past = c.loop-text-test.false in
     let within = c.loop-text.auto.text-index-end in
-    c.loop-text.invariant.1 ∙ ap (asked_each g.G.PostGate.asked c.args.gate.now) (asked_whole c.args.poster.now c.loop-text.poster c.args.texts.now c.loop-text.text-index (omega (arith, past, within)) c.loop-text.invariant.0)
+    c.loop-text.invariant.1 ∙ ap (after_asks g.G.PostGate.asked c.args.gate.now) (asked_whole c.args.poster.now c.loop-text.poster c.args.texts.now c.loop-text.text-index (omega (arith, past, within)) c.loop-text.invariant.0)

@@ -1,15 +1,15 @@
 use Rattle.event_gate.specs.Ends.{Posting, port_place}
 use Rattle.event_gate.proofs.Texts.{length-lines_from}
-use Rattle.event_gate.specs.Texts.{PostsSome, asked_each, lines_asked, lines_from}
+use Rattle.event_gate.specs.Texts.{PostsSome, after_asks, lines_asked, lines_from}
 use Rattle.lanes.specs.Ends.{LanePosting, lane_place}
-use Rattle.lanes.specs.Texts.{lane_posted}
+use Rattle.lanes.specs.Texts.{lane_posting_with_texts}
 use Rattle.live_clients.proofs.poster.post_any.Goals as goal
 use Rattle.live_clients.specs.Ends.{IsEnd, IsReady, lines_tried, of_lane, of_port}
 use Rattle.live_clients.specs.declared.poster.AnyPass.TheVariants.{Lane, Port}
 use Rattle.std.proofs.Common.{Bool, List, ap, arith, cond, length, length-append, refl, sym, take, true, true≢false, ℕ, ◌+◌, ◌-◌, ◌++◌, ◌∙◌, ◌≡◌}
 use Rattle.std.proofs.lemmas.List.{take_all}
 
-lane_end : (p q : LanePosting) (texts : List (List ℕ)) → IsReady (lane_place p.lane) p.client texts (of_lane p) → q ≡ lane_posted p texts
+lane_end : (p q : LanePosting) (texts : List (List ℕ)) → IsReady (lane_place p.lane) p.client texts (of_lane p) → q ≡ lane_posting_with_texts p texts
     → IsEnd (lane_place p.lane) p.client texts (record { pass = Lane q; all = true })
 lane_end p q texts ready is =
     let all : texts ≡ take (length texts) texts = sym (take_all (length texts) texts (omega arith)) in
@@ -36,7 +36,7 @@ port_end p q texts all ready some = record {
 }
 
 -- the lines of which the gate was asked
-lane_tried : (p q : LanePosting) (texts : List (List ℕ)) → IsReady (lane_place p.lane) p.client texts (of_lane p) → q ≡ lane_posted p texts
+lane_tried : (p q : LanePosting) (texts : List (List ℕ)) → IsReady (lane_place p.lane) p.client texts (of_lane p) → q ≡ lane_posting_with_texts p texts
     → lines_from p.client (length p.posted) texts ≡ lines_tried p.client texts (record { pass = Lane q; all = true })
 lane_tried p q texts ready is =
     let none : length p.posted ≡ 0 = ap length ready.posted_is in
@@ -64,9 +64,9 @@ returns-in-Port-clause-end g c =
 pub returns-in-Lane-clause-gate : goal.returns-in-Lane-clause-gate
 returns-in-Lane-clause-gate g c =
     let ready = rw c.in-Lane.is at c.requires in
-    rw c.in-Lane.is (c.lane_post_all.ensures.gate ∙ ap (asked_each g.G.PostGate.asked c.args.gate.now) (lane_tried c.in-Lane.poster c.lane_post_all.result c.args.texts.now ready c.lane_post_all.ensures.posts))
+    rw c.in-Lane.is (c.lane_post_all.ensures.gate ∙ ap (after_asks g.G.PostGate.asked c.args.gate.now) (lane_tried c.in-Lane.poster c.lane_post_all.result c.args.texts.now ready c.lane_post_all.ensures.posts))
 
 pub returns-in-Port-clause-gate : goal.returns-in-Port-clause-gate
 returns-in-Port-clause-gate g c =
     let ready = rw c.in-Port.is at c.requires in
-    rw c.in-Port.is (c.post_all-pass.ensures.gate ∙ ap (asked_each g.G.PostGate.asked c.args.gate.now) (port_tried c.in-Port.poster c.post_all-pass.result.pass c.args.texts.now c.post_all-pass.result.all ready))
+    rw c.in-Port.is (c.post_all-pass.ensures.gate ∙ ap (after_asks g.G.PostGate.asked c.args.gate.now) (port_tried c.in-Port.poster c.post_all-pass.result.pass c.args.texts.now c.post_all-pass.result.all ready))

@@ -4,7 +4,7 @@ use Rattle.lwp_calls.proofs.Made.{told-alone}
 use Rattle.lwp_calls.proofs.Stacks.{searching-bad, searching-none, searching-some}
 use Rattle.lwp_calls.proofs.exception_calls.notify.Goals as goal
 use Rattle.lwp_types.specs.Case.{value_case}
-use Rattle.lwp_types.specs.Exits.{catch_case, exc_notify, notified_by}
+use Rattle.lwp_types.specs.Exits.{catch_case, exc_notify, excnotify_case_by}
 use Rattle.lwp_types.specs.declared.call.LwpErr.TheVariants as error
 use Rattle.std.proofs.Common.{[], ap, of_z, pos, refl, rules, sym, to_z, w64, ◌+ℤ◌, ◌+◌, ◌∙◌, ◌≡◌}
 
@@ -18,18 +18,18 @@ pub returns-in-Give-clause-told : goal.returns-in-Give-clause-told
 returns-in-Give-clause-told c =
     let same : to_z w64 (of_z w64 c.from-arg.result) ≡ pos c.in-Some.handler.arg = search rules in
     let is : exc_notify (state_of c.args.parts.now) c.args.tid c.args.pattern ≡ value_case (state_of c.args.parts.now) c.in-Some.handler.arg = searching-some (state_of c.args.parts.now) c.args.tid c.args.pattern _ (sym c.if-is_no_pattern.ensures) c.in-Some.handler (sym c.found.ensures.value ∙ c.in-Some.is)
-    ∙ ap (notified_by (state_of c.args.parts.now) c.args.tid c.args.pattern c.in-Some.handler) c.in-Give.is in
+    ∙ ap (excnotify_case_by (state_of c.args.parts.now) c.args.tid c.args.pattern c.in-Some.handler) c.in-Give.is in
     told-alone (answers_quietly c.args.parts.now c.args.parts.now [] _ _ c.requires.lawful.step refl is) c.args.tid (rw same at c.done-in-Give.ensures)
 
 pub returns-in-Sum-clause-told : goal.returns-in-Sum-clause-told
 returns-in-Sum-clause-told c =
     let is : exc_notify (state_of c.args.parts.now) c.args.tid c.args.pattern ≡ value_case (state_of c.args.parts.now) (c.in-Some.handler.arg + c.args.pattern) = searching-some (state_of c.args.parts.now) c.args.tid c.args.pattern _ (sym c.if-is_no_pattern.ensures) c.in-Some.handler (sym c.found.ensures.value ∙ c.in-Some.is)
-    ∙ ap (notified_by (state_of c.args.parts.now) c.args.tid c.args.pattern c.in-Some.handler) c.in-Sum.is in
+    ∙ ap (excnotify_case_by (state_of c.args.parts.now) c.args.tid c.args.pattern c.in-Some.handler) c.in-Sum.is in
     let same : to_z w64 (of_z w64 (to_z w64 (of_z w64 c.from-arg.result) +ℤ to_z w64 (of_z w64 c.from.result))) ≡ pos (c.in-Some.handler.arg + c.args.pattern) = search rules in
     told-alone (answers_quietly c.args.parts.now c.args.parts.now [] _ _ c.requires.lawful.step refl is) c.args.tid (rw same at c.done-in-Sum.ensures)
 
 pub returns-in-Nothing-clause-told : goal.returns-in-Nothing-clause-told
 returns-in-Nothing-clause-told c =
     let is : exc_notify (state_of c.args.parts.now) c.args.tid c.args.pattern ≡ catch_case (state_of c.args.parts.now) c.args.tid c.args.pattern c.in-Some.handler = searching-some (state_of c.args.parts.now) c.args.tid c.args.pattern _ (sym c.if-is_no_pattern.ensures) c.in-Some.handler (sym c.found.ensures.value ∙ c.in-Some.is)
-    ∙ ap (notified_by (state_of c.args.parts.now) c.args.tid c.args.pattern c.in-Some.handler) c.in-Nothing.is in
+    ∙ ap (excnotify_case_by (state_of c.args.parts.now) c.args.tid c.args.pattern c.in-Some.handler) c.in-Nothing.is in
     rw is c.catch.ensures.told

@@ -2,7 +2,7 @@ use Rattle.std.proofs.Common.{None, Some, ap, rules, arith, subst, sym, ⊎_elim
 use Rattle.std.proofs.lemmas.Bool.{cases_lt}
 use Rattle.pod_runner.specs.Run.{Played, Writes, trace_of, with_call}
 use Rattle.replay.proofs.WalkLaws.{call-told-one, walk-call, walk-call-differs, walk-call-other, walk-keeps}
-use Rattle.replay.specs.Following.{told_in}
+use Rattle.replay.specs.Following.{bytes_told}
 use Rattle.replay.specs.Replayed.{Says, asked_of, moment_of}
 use Rattle.replay.specs.Says.{ComparedBy}
 use Rattle.replay.specs.Walk.{Going}
@@ -15,9 +15,9 @@ returns-in-None g c = record {
       let p = moment_of c.args.run.now in
       let is : c.turn.new.self ≡ with_call c.args.run.now = c.in-Ok.ensures.after in
       let by : ComparedBy c.turn.new.sink c.compare.new.follower None = subst (λ o. ComparedBy c.turn.new.sink c.compare.new.follower o) c.in-None.is c.in_ok-compare.ensures in
-      let wrote : Writes (Some (told_in c.args.follower.now)) (Some (told_in c.turn.new.sink)) (trace_of g.B.Body.next g.P.Program.bodies g.P.Program.proc_names c.args.run.now)
+      let wrote : Writes (Some (bytes_told c.args.follower.now)) (Some (bytes_told c.turn.new.sink)) (trace_of g.B.Body.next g.P.Program.bodies g.P.Program.proc_names c.args.run.now)
       (trace_of g.B.Body.next g.P.Program.bodies g.P.Program.proc_names (with_call c.args.run.now)) =
-      subst (λ (r : Played _). Writes (Some (told_in c.args.follower.now)) (Some (told_in c.turn.new.sink)) (trace_of g.B.Body.next g.P.Program.bodies g.P.Program.proc_names c.args.run.now) (trace_of g.B.Body.next g.P.Program.bodies g.P.Program.proc_names r)) is c.in-Ok.ensures.told.0 in
+      subst (λ (r : Played _). Writes (Some (bytes_told c.args.follower.now)) (Some (bytes_told c.turn.new.sink)) (trace_of g.B.Body.next g.P.Program.bodies g.P.Program.proc_names c.args.run.now) (trace_of g.B.Body.next g.P.Program.bodies g.P.Program.proc_names r)) is c.in-Ok.ensures.told.0 in
       let kept = walk-keeps asked fit speaks p lines c.args.follower.now c.turn.new.sink here c.requires.clean None wrote c.compare.new.follower by
       (call-told-one asked fit speaks p lines c.args.follower.now c.turn.new.sink here c.requires.clean c.requires.turn) in
       record {
@@ -39,9 +39,9 @@ returns-in-Some g c = record {
       let p = moment_of c.args.run.now in
       let is : c.turn.new.self ≡ with_call c.args.run.now = c.in-Ok.ensures.after in
       let by : ComparedBy c.turn.new.sink c.compare.new.follower (Some c.in-Some.difference) = subst (λ o. ComparedBy c.turn.new.sink c.compare.new.follower o) c.in-Some.is c.in_ok-compare.ensures in
-      let wrote : Writes (Some (told_in c.args.follower.now)) (Some (told_in c.turn.new.sink)) (trace_of g.B.Body.next g.P.Program.bodies g.P.Program.proc_names c.args.run.now)
+      let wrote : Writes (Some (bytes_told c.args.follower.now)) (Some (bytes_told c.turn.new.sink)) (trace_of g.B.Body.next g.P.Program.bodies g.P.Program.proc_names c.args.run.now)
       (trace_of g.B.Body.next g.P.Program.bodies g.P.Program.proc_names (with_call c.args.run.now)) =
-      subst (λ (r : Played _). Writes (Some (told_in c.args.follower.now)) (Some (told_in c.turn.new.sink)) (trace_of g.B.Body.next g.P.Program.bodies g.P.Program.proc_names c.args.run.now) (trace_of g.B.Body.next g.P.Program.bodies g.P.Program.proc_names r)) is c.in-Ok.ensures.told.0 in
+      subst (λ (r : Played _). Writes (Some (bytes_told c.args.follower.now)) (Some (bytes_told c.turn.new.sink)) (trace_of g.B.Body.next g.P.Program.bodies g.P.Program.proc_names c.args.run.now) (trace_of g.B.Body.next g.P.Program.bodies g.P.Program.proc_names r)) is c.in-Ok.ensures.told.0 in
       let out = c.called_outcome.result in
       let d = c.in-Some.difference in
       subst (λ v. Says asked c.args.follower.now.recorded v c.turn.new.self.takes out.calls) (sym c.called_outcome.ensures.verdict)

@@ -1,7 +1,7 @@
 use Rattle.std.proofs.Common.{None, Some, ap, arith, length, rules, subst, sym, ◌∙◌, ◌≡◌}
 use Rattle.pod_runner.specs.Run.{Played, Writes, trace_of, with_took}
 use Rattle.replay.proofs.WalkLaws.{take-told-one, walk-keeps, walk-take, walk-take-differs}
-use Rattle.replay.specs.Following.{Following, told_in}
+use Rattle.replay.specs.Following.{Following, bytes_told}
 use Rattle.replay.specs.Next.{event_in}
 use Rattle.replay.specs.Replayed.{Says, asked_of, moment_of}
 use Rattle.replay.specs.Says.{ComparedBy}
@@ -17,9 +17,9 @@ returns-in-None g c = record {
       let is : c.offer.new.self ≡ with_took c.args.run.now (event_in lines c.args.told.client) c.args.told.line =
       c.in-Ok.ensures.after ∙ ap (λ e. with_took c.args.run.now e c.args.told.line) c.event-event.ensures in
       let by : ComparedBy c.offer.new.sink c.compare.new.follower None = subst (λ o. ComparedBy c.offer.new.sink c.compare.new.follower o) c.in-None.is c.in_ok-compare.ensures in
-      let wrote : Writes (Some (told_in c.args.follower.now)) (Some (told_in c.offer.new.sink)) (trace_of g.B.Body.next g.P.Program.bodies g.P.Program.proc_names c.args.run.now)
+      let wrote : Writes (Some (bytes_told c.args.follower.now)) (Some (bytes_told c.offer.new.sink)) (trace_of g.B.Body.next g.P.Program.bodies g.P.Program.proc_names c.args.run.now)
       (trace_of g.B.Body.next g.P.Program.bodies g.P.Program.proc_names (with_took c.args.run.now (event_in lines c.args.told.client) c.args.told.line)) =
-      subst (λ (r : Played _). Writes (Some (told_in c.args.follower.now)) (Some (told_in c.offer.new.sink)) (trace_of g.B.Body.next g.P.Program.bodies g.P.Program.proc_names c.args.run.now) (trace_of g.B.Body.next g.P.Program.bodies g.P.Program.proc_names r)) is c.in-Ok.ensures.told.0 in
+      subst (λ (r : Played _). Writes (Some (bytes_told c.args.follower.now)) (Some (bytes_told c.offer.new.sink)) (trace_of g.B.Body.next g.P.Program.bodies g.P.Program.proc_names c.args.run.now) (trace_of g.B.Body.next g.P.Program.bodies g.P.Program.proc_names r)) is c.in-Ok.ensures.told.0 in
       let kept = walk-keeps asked fit speaks p lines c.args.follower.now c.offer.new.sink here c.requires.clean (Some (event_in lines c.args.told.client, c.args.told.line)) wrote c.compare.new.follower by
       (take-told-one asked fit speaks p lines c.args.follower.now c.offer.new.sink here c.requires.clean c.args.told.client c.args.told.line c.requires.told) in
       let f2 = c.compare.new.follower in
@@ -50,9 +50,9 @@ returns-in-Some g c = record {
       let is : c.offer.new.self ≡ with_took c.args.run.now (event_in lines c.args.told.client) c.args.told.line =
       c.in-Ok.ensures.after ∙ ap (λ e. with_took c.args.run.now e c.args.told.line) c.event-event.ensures in
       let by : ComparedBy c.offer.new.sink c.compare.new.follower (Some c.in-Some.difference) = subst (λ o. ComparedBy c.offer.new.sink c.compare.new.follower o) c.in-Some.is c.in_ok-compare.ensures in
-      let wrote : Writes (Some (told_in c.args.follower.now)) (Some (told_in c.offer.new.sink)) (trace_of g.B.Body.next g.P.Program.bodies g.P.Program.proc_names c.args.run.now)
+      let wrote : Writes (Some (bytes_told c.args.follower.now)) (Some (bytes_told c.offer.new.sink)) (trace_of g.B.Body.next g.P.Program.bodies g.P.Program.proc_names c.args.run.now)
       (trace_of g.B.Body.next g.P.Program.bodies g.P.Program.proc_names (with_took c.args.run.now (event_in lines c.args.told.client) c.args.told.line)) =
-      subst (λ (r : Played _). Writes (Some (told_in c.args.follower.now)) (Some (told_in c.offer.new.sink)) (trace_of g.B.Body.next g.P.Program.bodies g.P.Program.proc_names c.args.run.now) (trace_of g.B.Body.next g.P.Program.bodies g.P.Program.proc_names r)) is c.in-Ok.ensures.told.0 in
+      subst (λ (r : Played _). Writes (Some (bytes_told c.args.follower.now)) (Some (bytes_told c.offer.new.sink)) (trace_of g.B.Body.next g.P.Program.bodies g.P.Program.proc_names c.args.run.now) (trace_of g.B.Body.next g.P.Program.bodies g.P.Program.proc_names r)) is c.in-Ok.ensures.told.0 in
       subst (λ n. Says asked c.args.follower.now.recorded c.in-Some.difference.verdict c.offer.new.self.takes n) (sym c.calls.ensures)
       (subst (λ (r : Played _). Says asked c.args.follower.now.recorded c.in-Some.difference.verdict r.takes r.calls) (sym is)
       (walk-take-differs asked fit speaks p lines c.args.follower.now c.offer.new.sink here c.requires.clean c.args.told.client c.args.told.line c.requires.told wrote c.in-Some.difference by.0));

@@ -1,7 +1,7 @@
 use Rattle.std.proofs.Common.{◌≡◌, ◌∙◌, None, ap, arith, refl, rules}
 use Rattle.script_answers.proofs.AnswerLaws.{answering-opens, answering-still, answering-told, came-failing, came-going, cut-by, falls-so, stopped-by, whole-by}
 use Rattle.script_answers.proofs.answering.answer_out.Goals as goal
-use Rattle.script_answers.specs.Replies.{agents_after, event_of, told_by}
+use Rattle.script_answers.specs.Replies.{agents_after, event_of, texts_told}
 use Rattle.pod_runner.specs.Run.{Played}
 use Rattle.script_text.specs.declared.script.Script.{Script}
 
@@ -37,8 +37,8 @@ loop-notes-preserved-in-Continue-branch-3 g c =
     answering-told (event_of c.args.script.now c.args.client) c.args.played.now c.loop-notes.played c.go_round.new.run c.args.gate.now c.loop-notes.gate c.go_round.new.gate c.loop-notes.notes.event c.loop-notes.notes.agents
     (g.K.Sink.written c.args.sink.now) (g.K.Sink.written c.loop-notes.sink) (g.K.Sink.faults c.args.sink.now) (g.K.Sink.faults c.loop-notes.sink) c.loop-notes.invariant
     c.in_ok-halt.field-0 c.in_ok-halt.ensures.does over (search rules)
-    c.tell.new.notes.event (told_by c.loop-notes.notes.agents c.made.result) c.tell.new.notes.agents (g.K.Sink.written c.tell.new.sink) (g.K.Sink.faults c.tell.new.sink) c.tell.ensures.event
-    (ap (told_by c.loop-notes.notes.agents) c.made.ensures)
+    c.tell.new.notes.event (texts_told c.loop-notes.notes.agents c.made.result) c.tell.new.notes.agents (g.K.Sink.written c.tell.new.sink) (g.K.Sink.faults c.tell.new.sink) c.tell.ensures.event
+    (ap (texts_told c.loop-notes.notes.agents) c.made.ensures)
     (c.in_ok-tell.ensures.agents ∙ ap (agents_after c.loop-notes.notes.event c.loop-notes.notes.agents) c.made.ensures)
     c.in_ok-tell.ensures.told c.in_ok-tell.ensures.same
 
@@ -49,7 +49,7 @@ returns-in_err-tell-clause-cut g c =
     λ is. cut-by c.args.client c.args.script.now c.args.played.now c.args.gate.now c.requires.opening c.requires.stocked c.requires.posted c.loop-notes.played c.loop-notes.gate c.loop-notes.notes.event c.loop-notes.notes.agents
     (g.K.Sink.written c.args.sink.now) (g.K.Sink.written c.loop-notes.sink) (g.K.Sink.faults c.args.sink.now) (g.K.Sink.faults c.loop-notes.sink) c.loop-notes.invariant
     c.go_round.new.run c.go_round.new.gate c.in_ok-halt.field-0 c.in_ok-halt.ensures.does over (search rules)
-    (told_by c.loop-notes.notes.agents c.made.result) (g.K.Sink.written c.tell.new.sink) (ap (told_by c.loop-notes.notes.agents) c.made.ensures) (c.in_err-tell.ensures.cut (search rules))
+    (texts_told c.loop-notes.notes.agents c.made.result) (g.K.Sink.written c.tell.new.sink) (ap (texts_told c.loop-notes.notes.agents) c.made.ensures) (c.in_err-tell.ensures.cut (search rules))
 
 pub returns-in_err-tell-clause-stopped : goal.returns-in_err-tell-clause-stopped
 returns-in_err-tell-clause-stopped g c =

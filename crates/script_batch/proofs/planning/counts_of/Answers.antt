@@ -3,8 +3,8 @@ use Rattle.script_plan.specs.Make.{is_over}
 use Rattle.std.proofs.Common.{refl, rules, true, ◌≡◌}
 use Rattle.script_batch.proofs.planning.counts_of.Goals as goal
 
-pub told_of-requires : goal.told_of-requires
-told_of-requires c =
+pub counts_at_end-requires : goal.counts_at_end-requires
+counts_at_end-requires c =
     let session = c.play_script-session.result in
     let over : is_over session.end ≡ true = search rules in
     (ended-of c.args.turns c.args.script.now c.new-counted.result c.play_script-session.new.sink session c.new-counted.ensures over c.play_script-session.ensures).few
@@ -15,4 +15,4 @@ returns c =
     let bytes = c.play_script-session.new.sink.bytes in
     let over : is_over session.end ≡ true = search rules in
     let ended = ended-of c.args.turns c.args.script.now c.new-counted.result c.play_script-session.new.sink session c.new-counted.ensures over c.play_script-session.ensures in
-    told-is c.args.turns c.args.script.now bytes session c.told_of.result c.count.result c.told_of.ensures c.count.ensures ended
+    told-is c.args.turns c.args.script.now bytes session c.counts_at_end.result c.count.result c.counts_at_end.ensures c.count.ensures ended

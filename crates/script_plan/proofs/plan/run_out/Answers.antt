@@ -3,7 +3,7 @@ use Rattle.script_plan.proofs.PlanLaws.{broken-last, broken-of, came, finished, 
 use Rattle.script_session.proofs.RunLaws.{on_err, told-before}
 use Rattle.pod_runner.proofs.Rounds.{stream, tells-broke, tells-part, tells-wrote}
 use Rattle.pod_runner.specs.Run.{trace_before, trace_of}
-use Rattle.pod_runner.specs.Trace.{left_from}
+use Rattle.pod_runner.specs.Trace.{left_counts_from}
 use Rattle.script_program.specs.Bodies.{bodies_of, body_next}
 use Rattle.script_text.specs.Script.{proc_names}
 use Rattle.trace_text.specs.Lines.{end_text}
@@ -67,7 +67,7 @@ returns-in-Ok-clause-whole g c =
     let opening = c.requires.opening in
     let so_far = came c.args.script.now c.args.turns c.args.played.now c.run.new.run c.args.gate.now c.run.new.gate opening c.requires.stocked c.run.ensures.does.ran.same c.run.ensures.begun c.run.ensures.does.ran.made in
     let over = finished c.args.script.now c.args.turns c.args.played.now c.run.new.run c.args.gate.now c.run.new.gate c.in_ok-halt.halt so_far opening c.requires.stocked c.in_ok-halt.ensures.eager c.in_ok-halt.ensures.ends in
-    let last = c.deref-2.ensures.value ∙ c.in_ok-tail.ensures ∙ ap (λ left. end_text c.args.turns left c.in_ok-halt.halt) (c.deref.ensures.value ∙ c.in_ok-left.ensures ∙ ap (λ clients. left_from 0 clients c.run.new.gate) c.as_slice.ensures) in
+    let last = c.deref-2.ensures.value ∙ c.in_ok-tail.ensures ∙ ap (λ left. end_text c.args.turns left c.in_ok-halt.halt) (c.deref.ensures.value ∙ c.in_ok-left.ensures ∙ ap (λ clients. left_counts_from 0 clients c.run.new.gate) c.as_slice.ensures) in
     whole-of c.args.script.now c.args.turns c.run.new.run c.run.new.gate c.in_ok-halt.halt (g.K.Sink.written c.args.sink.now) (g.K.Sink.written c.run.new.sink) (g.K.Sink.written c.write_all.new.sink) c.deref-2.result.now over c.requires.posted
     (c.in_ok-halt.ensures.does.ran.told.0 (g.K.Sink.written c.args.sink.now) (told-before c.args.script.now c.args.turns c.args.played.now (g.K.Sink.written c.args.sink.now) opening)) last c.in-Ok.ensures.ok
 
@@ -76,7 +76,7 @@ returns-clause-part g c =
     let opening = c.requires.opening in
     let so_far = came c.args.script.now c.args.turns c.args.played.now c.run.new.run c.args.gate.now c.run.new.gate opening c.requires.stocked c.run.ensures.does.ran.same c.run.ensures.begun c.run.ensures.does.ran.made in
     let over = finished c.args.script.now c.args.turns c.args.played.now c.run.new.run c.args.gate.now c.run.new.gate c.in_ok-halt.halt so_far opening c.requires.stocked c.in_ok-halt.ensures.eager c.in_ok-halt.ensures.ends in
-    let last = c.deref-2.ensures.value ∙ c.in_ok-tail.ensures ∙ ap (λ left. end_text c.args.turns left c.in_ok-halt.halt) (c.deref.ensures.value ∙ c.in_ok-left.ensures ∙ ap (λ clients. left_from 0 clients c.run.new.gate) c.as_slice.ensures) in
+    let last = c.deref-2.ensures.value ∙ c.in_ok-tail.ensures ∙ ap (λ left. end_text c.args.turns left c.in_ok-halt.halt) (c.deref.ensures.value ∙ c.in_ok-left.ensures ∙ ap (λ clients. left_counts_from 0 clients c.run.new.gate) c.as_slice.ensures) in
     part-last c.args.script.now c.args.turns c.run.new.run c.run.new.gate c.in_ok-halt.halt (g.K.Sink.written c.args.sink.now) (g.K.Sink.written c.run.new.sink) (g.K.Sink.written c.write_all.new.sink) c.deref-2.result.now over c.requires.posted
     (c.in_ok-halt.ensures.does.ran.told.0 (g.K.Sink.written c.args.sink.now) (told-before c.args.script.now c.args.turns c.args.played.now (g.K.Sink.written c.args.sink.now) opening)) last c.in-Err.ensures.err
 
@@ -85,6 +85,6 @@ returns-clause-broken g c =
     let opening = c.requires.opening in
     let so_far = came c.args.script.now c.args.turns c.args.played.now c.run.new.run c.args.gate.now c.run.new.gate opening c.requires.stocked c.run.ensures.does.ran.same c.run.ensures.begun c.run.ensures.does.ran.made in
     let over = finished c.args.script.now c.args.turns c.args.played.now c.run.new.run c.args.gate.now c.run.new.gate c.in_ok-halt.halt so_far opening c.requires.stocked c.in_ok-halt.ensures.eager c.in_ok-halt.ensures.ends in
-    let last = c.deref-2.ensures.value ∙ c.in_ok-tail.ensures ∙ ap (λ left. end_text c.args.turns left c.in_ok-halt.halt) (c.deref.ensures.value ∙ c.in_ok-left.ensures ∙ ap (λ clients. left_from 0 clients c.run.new.gate) c.as_slice.ensures) in
+    let last = c.deref-2.ensures.value ∙ c.in_ok-tail.ensures ∙ ap (λ left. end_text c.args.turns left c.in_ok-halt.halt) (c.deref.ensures.value ∙ c.in_ok-left.ensures ∙ ap (λ clients. left_counts_from 0 clients c.run.new.gate) c.as_slice.ensures) in
     λ is. broken-last c.args.script.now c.args.turns c.run.new.run c.run.new.gate c.in_ok-halt.halt (g.K.Sink.written c.args.sink.now) (g.K.Sink.written c.run.new.sink) (g.K.Sink.written c.write_all.new.sink) c.deref-2.result.now over
     (c.in_ok-halt.ensures.does.ran.told.0 (g.K.Sink.written c.args.sink.now) (told-before c.args.script.now c.args.turns c.args.played.now (g.K.Sink.written c.args.sink.now) opening)) last c.in-Err.ensures.err

@@ -2,7 +2,7 @@ use Rattle.live_clients.proofs.Back.{at_place, end_fits, hears, inside_of, tied_
 use Rattle.live_clients.proofs.outside.Outside.take_back.Goals as goal
 use Rattle.event_gate.specs.Inlet.{EachInlet}
 use Rattle.live_clients.specs.Served.{Hears}
-use Rattle.live_clients.specs.Ends.{passed_of}
+use Rattle.live_clients.specs.Ends.{pass_posting}
 use Rattle.live_clients.specs.Ties.{AreTied, all_texts, any_intake, events_of, intakes}
 use Rattle.std.proofs.Common.{subst, sym, ◌&&◌}
 use Rattle.std.proofs.lemmas.List.{map-set}
@@ -35,4 +35,4 @@ returns-clause-inlets g c =
     let inside = inside_of (events_of o) (all_texts o) o.all o.out.items (intakes o) c.args.client c.requires in
     let at = at_place o.inlets.items c.args.client.inlet c.index_mut.result.now inside c.index_mut.ensures.value in
     subst (EachInlet Hears (intakes o)) (sym (map-set any_intake o.inlets.items c.args.client.inlet c.take_in.new.self))
-    (hears (intakes o) c.args.client.inlet (any_intake c.index_mut.result.now) (any_intake c.take_in.new.self) (passed_of c.end-pass.result.pass) inside at c.take_in.ensures)
+    (hears (intakes o) c.args.client.inlet (any_intake c.index_mut.result.now) (any_intake c.take_in.new.self) (pass_posting c.end-pass.result.pass) inside at c.take_in.ensures)

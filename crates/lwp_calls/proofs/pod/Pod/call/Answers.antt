@@ -2,7 +2,7 @@ use Rattle.death_cleanup.specs.View.{state_of}
 use Rattle.lwp_calls.proofs.Agree.{choice-same}
 use Rattle.lwp_calls.proofs.Pods.{few_status, forgets, refusal-leaves, runs, stepped, told}
 use Rattle.lwp_calls.proofs.pod.Pod.call.Goals as goal
-use Rattle.lwp_calls.specs.Pod.{called_by, current_of}
+use Rattle.lwp_calls.specs.Pod.{call_effects, current_of}
 use Rattle.lwp_types.specs.Choice as machine
 use Rattle.lwp_types.specs.Step.{step}
 use Rattle.pod_laws.proofs.EveryStep.{Lawful-step}
@@ -38,7 +38,7 @@ returns-in-Ok-clause-after c =
 pub returns-in-Ok-clause-effects : goal.returns-in-Ok-clause-effects
 returns-in-Ok-clause-effects c =
     let turn : current_of (state_of c.self.inside.parts) ≡ Some c.unwrap-tid.result = (rw (← c.self.view_is) at (sym c.current.ensures.value ∙ c.unwrap-tid.ensures)) in
-    let effects : called_by (current_of (state_of c.self.inside.parts)) c.args.call.now ++ c.finish-self-inside.new.effects ≡ (step (state_of c.self.inside.parts) c.args.call.now).effects =
+    let effects : call_effects (current_of (state_of c.self.inside.parts)) c.args.call.now ++ c.finish-self-inside.new.effects ≡ (step (state_of c.self.inside.parts) c.args.call.now).effects =
     told (state_of c.self.inside.parts) c.self.invariant.0 c.args.call.now c.unwrap-tid.result turn c.carry_out.new.parts c.in-Ok.ensures.ok.state c.clear.new.self c.carry_out.new.effects c.finish-self-inside.new.effects c.clear.ensures c.in-Ok.ensures.ok.effects c.finish-self-inside.ensures.effects in
     rw (← c.self.view_is) effects
 
@@ -58,7 +58,7 @@ pub returns-in-Ok-clause-dead : goal.returns-in-Ok-clause-dead
 returns-in-Ok-clause-dead c =
     let turn : current_of (state_of c.self.inside.parts) ≡ Some c.unwrap-tid.result = (rw (← c.self.view_is) at (sym c.current.ensures.value ∙ c.unwrap-tid.ensures)) in
     let after : state_of c.finish-self-inside.new.parts ≡ (step (state_of c.self.inside.parts) c.args.call.now).after = c.finish-self-inside.ensures.after ∙ sym (stepped (state_of c.self.inside.parts) c.self.invariant.0 c.args.call.now c.unwrap-tid.result turn c.carry_out.new.parts c.in-Ok.ensures.ok.state) in
-    let effects : called_by (current_of (state_of c.self.inside.parts)) c.args.call.now ++ c.finish-self-inside.new.effects ≡ (step (state_of c.self.inside.parts) c.args.call.now).effects =
+    let effects : call_effects (current_of (state_of c.self.inside.parts)) c.args.call.now ++ c.finish-self-inside.new.effects ≡ (step (state_of c.self.inside.parts) c.args.call.now).effects =
     told (state_of c.self.inside.parts) c.self.invariant.0 c.args.call.now c.unwrap-tid.result turn c.carry_out.new.parts c.in-Ok.ensures.ok.state c.clear.new.self c.carry_out.new.effects c.finish-self-inside.new.effects c.clear.ensures c.in-Ok.ensures.ok.effects c.finish-self-inside.ensures.effects in
     forgets (state_of c.self.inside.parts) (state_of c.finish-self-inside.new.parts) c.self.invariant.0 c.args.call.now c.finish-self-inside.new.effects after effects
 
@@ -66,6 +66,6 @@ pub returns-in-Ok-clause-exits : goal.returns-in-Ok-clause-exits
 returns-in-Ok-clause-exits c =
     let turn : current_of (state_of c.self.inside.parts) ≡ Some c.unwrap-tid.result = (rw (← c.self.view_is) at (sym c.current.ensures.value ∙ c.unwrap-tid.ensures)) in
     let after : state_of c.finish-self-inside.new.parts ≡ (step (state_of c.self.inside.parts) c.args.call.now).after = c.finish-self-inside.ensures.after ∙ sym (stepped (state_of c.self.inside.parts) c.self.invariant.0 c.args.call.now c.unwrap-tid.result turn c.carry_out.new.parts c.in-Ok.ensures.ok.state) in
-    let effects : called_by (current_of (state_of c.self.inside.parts)) c.args.call.now ++ c.finish-self-inside.new.effects ≡ (step (state_of c.self.inside.parts) c.args.call.now).effects =
+    let effects : call_effects (current_of (state_of c.self.inside.parts)) c.args.call.now ++ c.finish-self-inside.new.effects ≡ (step (state_of c.self.inside.parts) c.args.call.now).effects =
     told (state_of c.self.inside.parts) c.self.invariant.0 c.args.call.now c.unwrap-tid.result turn c.carry_out.new.parts c.in-Ok.ensures.ok.state c.clear.new.self c.carry_out.new.effects c.finish-self-inside.new.effects c.clear.ensures c.in-Ok.ensures.ok.effects c.finish-self-inside.ensures.effects in
     rw (← c.self.view_is) (runs (state_of c.self.inside.parts) (state_of c.finish-self-inside.new.parts) c.self.invariant.0 c.args.call.now c.finish-self-inside.new.effects after effects)

@@ -1,6 +1,6 @@
 use Rattle.std.proofs.Common.{arith, ◌≡◌, ◌+◌, ◌∙◌, List, ℕ, false, true}
 use Rattle.lwp_types.specs.Names.{null_names}
-use Rattle.pod_runner.specs.RunParts.{live_of, told_of}
+use Rattle.pod_runner.specs.RunParts.{live_of, last_step_effects}
 use Rattle.pod_runner.specs.Play.{play}
 use Rattle.pod_runner.specs.Session.{Setting}
 use Rattle.pod_runner.proofs.Turns.{called-step, keeps-call, made-call, room-turn, told-fault, told-ok}
@@ -19,9 +19,9 @@ invariant_of-self-in-Ok g c =
     let sound : c.self.inside.failed ≡ false = rw (← c.self.view_is) at c.requires.sound in
     let kept = c.self.invariant in
     let due = rw (← c.self.view_is) at c.requires.due in
-    let step = called-step setting names c.self.inside.procs c.self.inside.takes c.self.inside.calls c.self.inside.turns (live_of c.self.inside.parts) (live_of c.turn.new.self) (told_of c.turn.new.self) c.turn.new.out c.bytes.result.now
+    let step = called-step setting names c.self.inside.procs c.self.inside.takes c.self.inside.calls c.self.inside.turns (live_of c.self.inside.parts) (live_of c.turn.new.self) (last_step_effects c.turn.new.self) c.turn.new.out c.bytes.result.now
     kept.named c.bytes.ensures kept.made (kept.now sound) c.in_ok-turn.ensures in
-    keeps-call setting names c.self.inside.procs c.self.inside.takes c.self.inside.calls c.self.inside.turns (live_of c.turn.new.self) (told_of c.turn.new.self) false c.bytes.result.now kept.named kept.few kept.made due step
+    keeps-call setting names c.self.inside.procs c.self.inside.takes c.self.inside.calls c.self.inside.turns (live_of c.turn.new.self) (last_step_effects c.turn.new.self) false c.bytes.result.now kept.named kept.few kept.made due step
 
 pub invariant_of-self-in-Err : goal.invariant_of-self-in-Err
 invariant_of-self-in-Err g c =
@@ -30,9 +30,9 @@ invariant_of-self-in-Err g c =
     let sound : c.self.inside.failed ≡ false = rw (← c.self.view_is) at c.requires.sound in
     let kept = c.self.invariant in
     let due = rw (← c.self.view_is) at c.requires.due in
-    let step = called-step setting names c.self.inside.procs c.self.inside.takes c.self.inside.calls c.self.inside.turns (live_of c.self.inside.parts) (live_of c.turn.new.self) (told_of c.turn.new.self) c.turn.new.out c.bytes.result.now
+    let step = called-step setting names c.self.inside.procs c.self.inside.takes c.self.inside.calls c.self.inside.turns (live_of c.self.inside.parts) (live_of c.turn.new.self) (last_step_effects c.turn.new.self) c.turn.new.out c.bytes.result.now
     kept.named c.bytes.ensures kept.made (kept.now sound) c.in_ok-turn.ensures in
-    keeps-call setting names c.self.inside.procs c.self.inside.takes c.self.inside.calls c.self.inside.turns (live_of c.turn.new.self) (told_of c.turn.new.self) true c.bytes.result.now kept.named kept.few kept.made due step
+    keeps-call setting names c.self.inside.procs c.self.inside.takes c.self.inside.calls c.self.inside.turns (live_of c.turn.new.self) (last_step_effects c.turn.new.self) true c.bytes.result.now kept.named kept.few kept.made due step
 
 pub returns-in-Ok-clause-told : goal.returns-in-Ok-clause-told
 returns-in-Ok-clause-told g c =
@@ -41,9 +41,9 @@ returns-in-Ok-clause-told g c =
     let sound : c.self.inside.failed ≡ false = rw (← c.self.view_is) at c.requires.sound in
     let kept = c.self.invariant in
     let due = rw (← c.self.view_is) at c.requires.due in
-    let step = called-step setting names c.self.inside.procs c.self.inside.takes c.self.inside.calls c.self.inside.turns (live_of c.self.inside.parts) (live_of c.turn.new.self) (told_of c.turn.new.self) c.turn.new.out c.bytes.result.now
+    let step = called-step setting names c.self.inside.procs c.self.inside.takes c.self.inside.calls c.self.inside.turns (live_of c.self.inside.parts) (live_of c.turn.new.self) (last_step_effects c.turn.new.self) c.turn.new.out c.bytes.result.now
     kept.named c.bytes.ensures kept.made (kept.now sound) c.in_ok-turn.ensures in
-    rw (← c.self.view_is) (told-ok names (play setting c.self.inside.takes c.self.inside.calls) (play setting c.self.inside.takes (c.self.inside.calls + 1)) (live_of c.turn.new.self) (told_of c.turn.new.self) c.bytes.result.now (g.K.Sink.written c.args.sink.now) (g.K.Sink.written c.write_all.new.sink) (g.K.Sink.faults c.args.sink.now) (g.K.Sink.faults c.write_all.new.sink) tt step c.in-Ok.ensures.ok c.in-Ok.ensures.cause.same)
+    rw (← c.self.view_is) (told-ok names (play setting c.self.inside.takes c.self.inside.calls) (play setting c.self.inside.takes (c.self.inside.calls + 1)) (live_of c.turn.new.self) (last_step_effects c.turn.new.self) c.bytes.result.now (g.K.Sink.written c.args.sink.now) (g.K.Sink.written c.write_all.new.sink) (g.K.Sink.faults c.args.sink.now) (g.K.Sink.faults c.write_all.new.sink) tt step c.in-Ok.ensures.ok c.in-Ok.ensures.cause.same)
 
 pub returns-in-Err-clause-told : goal.returns-in-Err-clause-told
 returns-in-Err-clause-told g c =
@@ -52,9 +52,9 @@ returns-in-Err-clause-told g c =
     let sound : c.self.inside.failed ≡ false = rw (← c.self.view_is) at c.requires.sound in
     let kept = c.self.invariant in
     let due = rw (← c.self.view_is) at c.requires.due in
-    let step = called-step setting names c.self.inside.procs c.self.inside.takes c.self.inside.calls c.self.inside.turns (live_of c.self.inside.parts) (live_of c.turn.new.self) (told_of c.turn.new.self) c.turn.new.out c.bytes.result.now
+    let step = called-step setting names c.self.inside.procs c.self.inside.takes c.self.inside.calls c.self.inside.turns (live_of c.self.inside.parts) (live_of c.turn.new.self) (last_step_effects c.turn.new.self) c.turn.new.out c.bytes.result.now
     kept.named c.bytes.ensures kept.made (kept.now sound) c.in_ok-turn.ensures in
-    rw (← c.self.view_is) (told-fault names (play setting c.self.inside.takes c.self.inside.calls) (play setting c.self.inside.takes (c.self.inside.calls + 1)) (live_of c.turn.new.self) (told_of c.turn.new.self) c.bytes.result.now (g.K.Sink.written c.args.sink.now) (g.K.Sink.written c.write_all.new.sink) (g.K.Sink.faults c.args.sink.now) (g.K.Sink.faults c.write_all.new.sink) step c.in-Err.ensures.err c.in-Err.ensures.cause.failed c.in-Err.ensures.cause.later)
+    rw (← c.self.view_is) (told-fault names (play setting c.self.inside.takes c.self.inside.calls) (play setting c.self.inside.takes (c.self.inside.calls + 1)) (live_of c.turn.new.self) (last_step_effects c.turn.new.self) c.bytes.result.now (g.K.Sink.written c.args.sink.now) (g.K.Sink.written c.write_all.new.sink) (g.K.Sink.faults c.args.sink.now) (g.K.Sink.faults c.write_all.new.sink) step c.in-Err.ensures.err c.in-Err.ensures.cause.failed c.in-Err.ensures.cause.later)
 
 pub returns-in-Ok-clause-made : goal.returns-in-Ok-clause-made
 returns-in-Ok-clause-made g c =

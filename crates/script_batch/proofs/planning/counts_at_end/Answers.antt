@@ -1,4 +1,4 @@
-use Rattle.script_batch.proofs.planning.told_of.Goals as goal
+use Rattle.script_batch.proofs.planning.counts_at_end.Goals as goal
 use Rattle.std.proofs.Common.{rules}
 
 pub returns : goal.returns
