@@ -32,8 +32,8 @@ pub record IsIndexed (key : AgentRow → ℕ) (rows : List AgentRow) (es : List 
   pub each : (k : ℕ) → numbers_under k es ≡ agent_numbers (filter (λ row. key row == k) rows)
   pub all : length es ≡ length rows
 
--- the agents stand in birth order, are found by their event and by their owner, and are counted; and each list has room for
--- as many as there are places
+-- the agents stand in birth order, are found by their event and by their owner, and are counted; and each list has room
+-- for as many as there are places
 pub record IsKept (r : Roster) (room : ℕ) (by_event by_owner : Entries) (board : List Tally) : Type 0 where
   pub in_order : IsInBirthOrder r.agents
   pub events : IsIndexed (λ row. row.event) r.agents by_event.entries

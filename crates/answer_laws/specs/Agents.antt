@@ -35,14 +35,17 @@ abbrev pub spares_agent : ℕ → ℕ → Call → Bool
 spares_agent a u (call.Destroy v) = not (v == a) && not (v == u)
 spares_agent a u _ = true
 
--- A call of another than an agent's owner leaves the agent and its letter as they are, unless it destroys the one or the other.
+-- A call of another than an agent's owner leaves the agent and its letter as they are, unless it destroys the one or
+-- the other.
 abbrev pub OthersLeaveAgents : Type 0
-OthersLeaveAgents = (s : State) → Lawful s None → (t a : ℕ) (row : AgentRow) → choice s ≡ Some t → agent_of s.agents a ≡ Some row → (t == row.owner) ≡ false → (c : Call) → spares_agent a row.owner c ≡ true
+OthersLeaveAgents = (s : State) → Lawful s None → (t a : ℕ) (row : AgentRow) → choice s ≡ Some t
+    → agent_of s.agents a ≡ Some row → (t == row.owner) ≡ false → (c : Call) → spares_agent a row.owner c ≡ true
     → agent_sight (step s c).after a ≡ agent_sight s a
 
 -- And who destroys an agent leaves nothing of it.
 abbrev pub DestroyedAgentsAreGone : Type 0
-DestroyedAgentsAreGone = (s : State) (t a : ℕ) (row : AgentRow) → choice s ≡ Some t → agent_of s.agents a ≡ Some row → agent_sight (step s (call.Destroy a)).after a ≡ no_agent
+DestroyedAgentsAreGone = (s : State) (t a : ℕ) (row : AgentRow) → choice s ≡ Some t
+    → agent_of s.agents a ≡ Some row → agent_sight (step s (call.Destroy a)).after a ≡ no_agent
 
 -- ---- lines and reports
 
@@ -60,7 +63,8 @@ pub record IsPassedBy (a : ℕ) (s : State) (out : Outcome) : Type 0 where
   pub none : deliveries_to a out.effects ≡ 0
 
 -- it holds the message now, and its owner has a letter of it, which is received or not
-pub record IsReached (a : ℕ) (row : AgentRow) (text : List ℕ) (received : Bool) (s : State) (out : Outcome) : Type 0 where
+pub record IsReached (a : ℕ) (row : AgentRow) (text : List ℕ) (received : Bool) (s : State)
+    (out : Outcome) : Type 0 where
   pub seen : agent_sight out.after a ≡ record {
     row = Some (record row { holding = true });
     letters = (agent_sight s a).letters ++ record (message text row) { received = received } ∷ [];
@@ -78,14 +82,18 @@ pub record IsHandedOn (u a : ℕ) (text : List ℕ) (s : State) (out : Outcome) 
   pub goes_on : sight out.after u ≡ going_on (sight s u)
   pub told : answers_to u out.effects ≡ answer.Letter a text 240 ∷ []
 
--- a text for its event reaches an agent: an owner who waits for its letter by name has received it, and one who is busy has not
+-- a text for its event reaches an agent: an owner who waits for its letter by name has received it, and one who is busy
+-- has not
 pub record Reaches (s : State) (a : ℕ) (row : AgentRow) (text : List ℕ) (out : Outcome) : Type 0 where
-  pub awaited : (sight s row.owner).waits ≡ Some (block.Receiving (Some a)) → IsReached a row text true s out × IsHandedOn row.owner a text s out
+  pub awaited : (sight s row.owner).waits ≡ Some (block.Receiving (Some a))
+      → IsReached a row text true s out × IsHandedOn row.owner a text s out
   pub kept : is_busy (sight s row.owner).waits ≡ true → IsReached a row text false s out × IsLeft row.owner s out
 
 abbrev pub DeliveriesReachAgents : Type 0
-DeliveriesReachAgents = (s : State) → Lawful s None → (a : ℕ) (row : AgentRow) → agent_of s.agents a ≡ Some row → (text : List ℕ) → Reaches s a row text (deliver s row.event text)
+DeliveriesReachAgents = (s : State) → Lawful s None → (a : ℕ) (row : AgentRow)
+    → agent_of s.agents a ≡ Some row → (text : List ℕ) → Reaches s a row text (deliver s row.event text)
 
 -- A text for an event passes by whoever is no agent of it.
 abbrev pub DeliveriesPassOthersBy : Type 0
-DeliveriesPassOthersBy = (s : State) → Lawful s None → (a e : ℕ) (text : List ℕ) → passes (is_for e) (agent_of s.agents a) ≡ false → IsPassedBy a s (deliver s e text)
+DeliveriesPassOthersBy = (s : State) → Lawful s None → (a e : ℕ) (text : List ℕ)
+    → passes (is_for e) (agent_of s.agents a) ≡ false → IsPassedBy a s (deliver s e text)

@@ -1,4 +1,5 @@
--- What is told of a client in the steps of a session: the lines delivered to its agent, the replies to it, and where its session sends.
+-- What is told of a client in the steps of a session: the lines delivered to its agent, the replies to it, and where
+-- its session sends.
 use Rattle.answer_laws.specs.Talks.{AreFirst}
 use Rattle.line_server.specs.Tables.{line_answers}
 use Rattle.lwp_types.specs.declared.call.Call.{Call}
@@ -35,7 +36,8 @@ abbrev pub reply_to : ℕ → Call → List (List ℕ)
 reply_to a (call.Reply b text) = if b == a then text ∷ [] else []
 reply_to a _ = []
 
--- of the effects of a step, which are a call or a trap and then a call: the reply of s to a, if it was accepted, which is to say answered 0
+-- of the effects of a step, which are a call or a trap and then a call: the reply of s to a, if it was accepted, which
+-- is to say answered 0
 abbrev pub replies_of_step : ℕ → ℕ → List Effect → List (List ℕ)
 replies_of_step s a (effect.Called t c ∷ es) = if (t == s) && list_any (is_told s is_zero) es then reply_to a c else []
 replies_of_step s a (effect.Trapped t e ∷ es) = replies_of_step s a es

@@ -28,17 +28,24 @@ script_setting bodies params names = record { next = body_next; bodies = bodies;
 
 -- So it is at the opening of a script's session, where all names are null.
 abbrev pub NullNamesAreKnown : Type 0
-NullNamesAreKnown = (bodies : List ThreadBody) (params : PodParams) (threads monitors conditions : ℕ) → KnowsItsNames (opening_session (script_setting bodies params (null_names threads monitors conditions)))
+NullNamesAreKnown = (bodies : List ThreadBody) (params : PodParams) (threads monitors conditions : ℕ)
+    → KnowsItsNames (opening_session (script_setting bodies params (null_names threads monitors conditions)))
 
 -- In every session of every script, if it is so at the opening it is so always.
 abbrev pub NamesAreOfTheBorn : Type 0
 NamesAreOfTheBorn = (bodies : List ThreadBody) (params : PodParams) (names : Names) → 1 ≤ params.maxpri → params.maxpri ≤ 255 → KnowsItsNames (opening_session (script_setting bodies params names))
-    → (takes : List Took) (n : ℕ) → IsDefined (script_setting bodies params names) takes n → KnowsItsNames (play (script_setting bodies params names) takes n)
+    → (takes : List Took) (n : ℕ) → IsDefined (script_setting bodies params names) takes n
+    → KnowsItsNames (play (script_setting bodies params names) takes n)
 
 -- And a client's session sends to somebody who was born, or to nobody: not to a store before its birth.
 abbrev pub SessionsSendToTheBorn : Type 0
-SessionsSendToTheBorn = (bodies : List ThreadBody) (params : PodParams) (names : Names) → 1 ≤ params.maxpri → params.maxpri ≤ 255 → KnowsItsNames (opening_session (script_setting bodies params names))
+SessionsSendToTheBorn = (bodies : List ThreadBody) (params : PodParams) (names : Names)
+    → 1 ≤ params.maxpri → params.maxpri ≤ 255 → KnowsItsNames (opening_session (script_setting bodies params names))
     → (takes : List Took) (n : ℕ) → IsDefined (script_setting bodies params names) takes n
-    → (s : ℕ) (body : SessionBody) (heard : Answer) → row_of s (play (script_setting bodies params names) takes n).live.rows ≡ Some (record { tid = s; body = Serving body; answer = heard })
-    → (to room : ℕ) (text : List ℕ) → (session_next body (names_for_poll s (play (script_setting bodies params names) takes n).live.names) heard).0 ≡ call.Send to room text
+    → (s : ℕ) (body : SessionBody) (heard : Answer)
+    → row_of s (play (script_setting bodies params names) takes n).live.rows
+    ≡ Some (record { tid = s; body = Serving body; answer = heard })
+    → (to room : ℕ) (text : List ℕ)
+    → (session_next body (names_for_poll s (play (script_setting bodies params names) takes n).live.names) heard).0
+    ≡ call.Send to room text
     → IsKnown (play (script_setting bodies params names) takes n).live.pod.state to

@@ -9,4 +9,5 @@ is_short text = nat_le (length text) 240
 
 -- The answers to lines that are short are short.
 abbrev pub ShortLinesHaveShortAnswers : Type 0
-ShortLinesHaveShortAnswers = (lines : List (List ℕ)) → IsTrue (list_all is_short lines) → IsTrue (list_all is_short (line_answers lines))
+ShortLinesHaveShortAnswers = (lines : List (List ℕ)) → IsTrue (list_all is_short lines)
+    → IsTrue (list_all is_short (line_answers lines))

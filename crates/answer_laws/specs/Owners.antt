@@ -24,21 +24,28 @@ pub record IsTold (t a : ℕ) (said : List Answer) (itself : Sight) (agent : Age
   pub itself_then : sight out.after t ≡ itself
   pub agent_then : agent_sight out.after a ≡ agent
 
--- A receive of an owner by its agent's name: it is answered a message that it hasn't received, as that was delivered, and waits else.
+-- A receive of an owner by its agent's name: it is answered a message that it hasn't received, as that was delivered,
+-- and waits else.
 pub record OwnerReceives (s : State) (t a : ℕ) (row : AgentRow) (out : Outcome) : Type 0 where
   pub finds : (letter : Letter) → (agent_sight s a).letters ≡ letter ∷ [] → letter.received ≡ false
-      → IsTold t a (answer.Letter a letter.text letter.room ∷ []) (sight s t) (record { row = Some row; letters = as_received letter ∷ [] }) out
+      → IsTold t a (answer.Letter a letter.text letter.room ∷ []) (sight s t)
+      (record { row = Some row; letters = as_received letter ∷ [] }) out
   pub waits : list_all (λ letter. letter.received) (agent_sight s a).letters ≡ true
       → IsTold t a [] (record (sight s t) { waits = Some (block.Receiving (Some a)) }) (agent_sight s a) out
 
 abbrev pub OwnersReceive : Type 0
-OwnersReceive = (s : State) → Lawful s None → (t a : ℕ) (row : AgentRow) → choice s ≡ Some t → agent_of s.agents a ≡ Some row → row.owner ≡ t → OwnerReceives s t a row (step s (call.Recv (Some a) mode.Block))
+OwnersReceive = (s : State) → Lawful s None → (t a : ℕ) (row : AgentRow) → choice s ≡ Some t
+    → agent_of s.agents a ≡ Some row → row.owner ≡ t → OwnerReceives s t a row (step s (call.Recv (Some a) mode.Block))
 
--- A reply of an owner to a message that it has received, and that has room for the text, is accepted; and the agent holds none any more.
+-- A reply of an owner to a message that it has received, and that has room for the text, is accepted; and the agent
+-- holds none any more.
 abbrev pub OwnersReply : Type 0
-OwnersReply = (s : State) → Lawful s None → (t a : ℕ) (row : AgentRow) → choice s ≡ Some t → agent_of s.agents a ≡ Some row → row.owner ≡ t
-    → (letter : Letter) → (agent_sight s a).letters ≡ letter ∷ [] → letter.received ≡ true → (text : List ℕ) → length text ≤ letter.room
-    → IsTold t a (zero_answer ∷ []) (sight s t) (record { row = Some (record row { holding = false }); letters = [] }) (step s (call.Reply a text))
+OwnersReply = (s : State) → Lawful s None → (t a : ℕ) (row : AgentRow) → choice s ≡ Some t
+    → agent_of s.agents a ≡ Some row → row.owner ≡ t
+    → (letter : Letter) → (agent_sight s a).letters ≡ letter ∷ [] → letter.received ≡ true
+    → (text : List ℕ) → length text ≤ letter.room
+    → IsTold t a (zero_answer ∷ []) (sight s t) (record { row = Some (record row { holding = false }); letters = [] })
+    (step s (call.Reply a text))
 
 -- Of an agent that isn't there, its owner is told so.
 pub record IsRefused (t a : ℕ) (s : State) (out : Outcome) : Type 0 where
@@ -46,7 +53,8 @@ pub record IsRefused (t a : ℕ) (s : State) (out : Outcome) : Type 0 where
 
 abbrev pub OwnersOfNoneAreRefused : Type 0
 OwnersOfNoneAreRefused = (s : State) (t a : ℕ) → choice s ≡ Some t → is_id s a ≡ false
-    → ((how : Mode) → IsRefused t a s (step s (call.Recv (Some a) how))) × ((text : List ℕ) → IsRefused t a s (step s (call.Reply a text)))
+    → ((how : Mode) → IsRefused t a s (step s (call.Recv (Some a) how)))
+    × ((text : List ℕ) → IsRefused t a s (step s (call.Reply a text)))
 
 -- ---- who sends a letter
 
@@ -65,10 +73,15 @@ pub record IsSentTo (t k : ℕ) (sender receiver : Sight) (said : List Answer) (
   pub receiver_then : sight out.after k ≡ receiver
   pub receiver_told : answers_to k out.effects ≡ said
 
--- a letter to another thread: who waits for such a one has received it, and goes on with it; from anybody else it waits to be received
+-- a letter to another thread: who waits for such a one has received it, and goes on with it; from anybody else it waits
+-- to be received
 pub record Sends (s : State) (t k room : ℕ) (text : List ℕ) (out : Outcome) : Type 0 where
-  pub handed : passes (λ row. takes_from t row.block) (thread_of s k) ≡ true → IsSentTo t k (sending (sight s t) (as_received (new_letter t k room text))) (going_on (sight s k)) (answer.Letter t text room ∷ []) out
-  pub kept : passes (λ row. takes_from t row.block) (thread_of s k) ≡ false → IsSentTo t k (sending (sight s t) (new_letter t k room text)) (sight s k) [] out
+  pub handed : passes (λ row. takes_from t row.block) (thread_of s k) ≡ true
+      → IsSentTo t k (sending (sight s t) (as_received (new_letter t k room text)))
+      (going_on (sight s k)) (answer.Letter t text room ∷ []) out
+  pub kept : passes (λ row. takes_from t row.block) (thread_of s k) ≡ false
+      → IsSentTo t k (sending (sight s t) (new_letter t k room text)) (sight s k) [] out
 
 abbrev pub SendsAreLetters : Type 0
-SendsAreLetters = (s : State) → Lawful s None → (t k : ℕ) → choice s ≡ Some t → is_thread s k ≡ true → (k == t) ≡ false → (room : ℕ) (text : List ℕ) → Sends s t k room text (step s (call.Send k room text))
+SendsAreLetters = (s : State) → Lawful s None → (t k : ℕ) → choice s ≡ Some t → is_thread s k ≡ true
+    → (k == t) ≡ false → (room : ℕ) (text : List ℕ) → Sends s t k room text (step s (call.Send k room text))

@@ -23,11 +23,17 @@ store_line text = Line text ∷ session ∷ OwnLetter ∷ store ∷ session ∷ 
 
 -- behind these events the session has received these lines, and its client was told so
 abbrev pub Comes : List Event → List (List ℕ) → List (List ℕ) → Type 0
-Comes events lines told = ((after_events 2 3 (opening_talk 1 0) events).lines ≡ lines) × ((after_events 2 3 (opening_talk 1 0) events).told ≡ told)
+Comes events lines told = ((after_events 2 3 (opening_talk 1 0) events).lines ≡ lines)
+    × ((after_events 2 3 (opening_talk 1 0) events).told ≡ told)
 
 -- both are at their start; another puts a key, and asks for it between the client's lines
 abbrev pub talk_of_a : List Event
-talk_of_a = store ∷ session ∷ session ∷ (other (codes "put k zz") ++ (store_line (codes "get k") ++ (other (codes "get k") ++ (alone (codes "what") ++ (store_line (codes "put k v") ++ (store_line (codes "get k") ++ alone (codes "quit")))))))
+talk_of_a = store ∷ session ∷ session
+    ∷ (other (codes "put k zz")
+    ++ (store_line (codes "get k")
+    ++ (other (codes "get k")
+    ++ (alone (codes "what")
+    ++ (store_line (codes "put k v") ++ (store_line (codes "get k") ++ alone (codes "quit")))))))
 
 abbrev pub lines_of_a : List (List ℕ)
 lines_of_a = codes "get k" ∷ codes "what" ∷ codes "put k v" ∷ codes "get k" ∷ codes "quit" ∷ []
@@ -37,7 +43,9 @@ answers_of_a = codes "none" ∷ codes "bad" ∷ codes "ok" ∷ codes "is v" ∷ 
 
 -- the session dies while the store reads its second line
 abbrev pub talk_of_b : List Event
-talk_of_b = session ∷ session ∷ store ∷ (store_line (codes "del k") ++ Line (codes "get k") ∷ session ∷ OwnLetter ∷ SessionDies ∷ store ∷ session ∷ Line (codes "what") ∷ store ∷ [])
+talk_of_b = session ∷ session ∷ store
+    ∷ (store_line (codes "del k") ++ Line (codes "get k") ∷ session ∷ OwnLetter ∷ SessionDies
+    ∷ store ∷ session ∷ Line (codes "what") ∷ store ∷ [])
 
 abbrev pub lines_of_b : List (List ℕ)
 lines_of_b = codes "del k" ∷ codes "get k" ∷ []

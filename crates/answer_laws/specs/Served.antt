@@ -23,8 +23,12 @@ use Rattle.lwp_types.specs.declared.rows.Mark.TheVariants as mark
 pub record LineServer {B : Type 0} (next : Next B) : Type 0 where
   pub serving : SessionBody → B
   pub storing : StoreBody → B
-  pub serves : (body : SessionBody) (names : Names) (x : Answer) → next (serving body) names x ≡ ((session_next body names x).0, serving (session_next body names x).1, (session_next body names x).2)
-  pub stores : (body : StoreBody) (names : Names) (x : Answer) → next (storing body) names x ≡ ((store_next body names x).0, storing (store_next body names x).1, (store_next body names x).2)
+  pub serves : (body : SessionBody) (names : Names) (x : Answer)
+      → next (serving body) names x
+      ≡ ((session_next body names x).0, serving (session_next body names x).1, (session_next body names x).2)
+  pub stores : (body : StoreBody) (names : Names) (x : Answer)
+      → next (storing body) names x
+      ≡ ((store_next body names x).0, storing (store_next body names x).1, (store_next body names x).2)
   -- no two of them are one
   pub one_session : (b c : SessionBody) → serving b ≡ serving c → b ≡ c
   pub one_store : (b c : StoreBody) → storing b ≡ storing c → b ≡ c
@@ -58,7 +62,8 @@ steps_of steps = map step_of steps
 
 -- ---- where they begin
 
--- the thread has this body and was not polled yet; it waits for nothing, has the frame that it begins with, and has sent nothing
+-- the thread has this body and was not polled yet; it waits for nothing, has the frame that it begins with, and has
+-- sent nothing
 pub record Begins {B : Type 0} (u : ℕ) (body : B) (live : Live B) : Type 0 where
   pub row : row_of u live.rows ≡ Some (record { tid = u; body = body; answer = zero_answer })
   pub thread : sight live.pod.state u ≡ record { waits = Some block.Not; marks = mark.Frame ∷ []; letters = [] }
@@ -79,22 +84,31 @@ pub record Serves {B : Type 0} (s k : ℕ) (end : Session B) : Type 0 where
 abbrev pub TextsAreShort : {B : Type 0} → Session B → Type 0
 TextsAreShort end = (a : ℕ) → list_all is_short (texts_delivered a (steps_of end.steps)) ≡ true
 
--- Where a store and a client's session begin, whatever the others do and whenever lines are taken from there on: the accepted replies of the
--- session to its agent are a first part of the answers to the lines delivered to that.
+-- Where a store and a client's session begin, whatever the others do and whenever lines are taken from there on: the
+-- accepted replies of the session to its agent are a first part of the answers to the lines delivered to that.
 abbrev pub ClientsAreAnsweredInTurn : Type 0 → Type 0
-ClientsAreAnsweredInTurn B = (setting : Setting B) (server : LineServer setting.next) (s k event place : ℕ) → (s == k) ≡ false
-    → (live : Live B) → Lawful live.pod.state None → Begins k (server.storing store_opening) live → Begins s (server.serving (session_opening event place)) live
-    → (moves : List (Option Took)) → CanGoOn setting moves (session_from live) → Serves s k (after_moves setting moves (session_from live)) → TextsAreShort (after_moves setting moves (session_from live))
+ClientsAreAnsweredInTurn B = (setting : Setting B) (server : LineServer setting.next) (s k event place : ℕ)
+    → (s == k) ≡ false
+    → (live : Live B) → Lawful live.pod.state None → Begins k (server.storing store_opening) live
+    → Begins s (server.serving (session_opening event place)) live
+    → (moves : List (Option Took)) → CanGoOn setting moves (session_from live)
+    → Serves s k (after_moves setting moves (session_from live))
+    → TextsAreShort (after_moves setting moves (session_from live))
     → (a : ℕ) → IsAnsweredInTurn s a (steps_of (after_moves setting moves (session_from live)).steps)
 
--- So it is where the session begins by a move behind some others since the store began, before which it wasn't born; whoever else the store
--- has served till then.
+-- So it is where the session begins by a move behind some others since the store began, before which it wasn't born;
+-- whoever else the store has served till then.
 abbrev pub LaterClientsAreAnsweredInTurn : Type 0 → Type 0
 LaterClientsAreAnsweredInTurn B = (setting : Setting B) (server : LineServer setting.next) (s k event place : ℕ)
     → (first : Live B) → Lawful first.pod.state None → Begins k (server.storing store_opening) first
-    → (moves : List (Option Took)) (birth : Option Took) → CanGoOn setting (moves ++ birth ∷ []) (session_from first) → (after_moves setting moves (session_from first)).live.pod.state.births ≤ s
-    → (live : Live B) → live ≡ (after_moves setting (moves ++ birth ∷ []) (session_from first)).live → Begins s (server.serving (session_opening event place)) live
-    → (later : List (Option Took)) → CanGoOn setting later (session_from live) → Serves s k (after_moves setting later (session_from live)) → TextsAreShort (after_moves setting later (session_from live))
+    → (moves : List (Option Took)) (birth : Option Took)
+    → CanGoOn setting (moves ++ birth ∷ []) (session_from first)
+    → (after_moves setting moves (session_from first)).live.pod.state.births ≤ s
+    → (live : Live B) → live ≡ (after_moves setting (moves ++ birth ∷ []) (session_from first)).live
+    → Begins s (server.serving (session_opening event place)) live
+    → (later : List (Option Took)) → CanGoOn setting later (session_from live)
+    → Serves s k (after_moves setting later (session_from live))
+    → TextsAreShort (after_moves setting later (session_from live))
     → (a : ℕ) → IsAnsweredInTurn s a (steps_of (after_moves setting later (session_from live)).steps)
 
 -- ---- whole sessions
@@ -104,20 +118,26 @@ abbrev pub line_is_short : Option Took → Bool
 line_is_short None = true
 line_is_short (Some took) = is_short took.line.text
 
--- At the opening of a session and from there on: the store begins behind some moves, and the client's session behind some more, the last of
--- which bears it; then the rest follows. Of all steps from the opening on: what the session's client is told is a first part of the answers
--- to its lines.
+-- At the opening of a session and from there on: the store begins behind some moves, and the client's session behind
+-- some more, the last of which bears it; then the rest follows. Of all steps from the opening on: what the session's
+-- client is told is a first part of the answers to its lines.
 abbrev pub IsAnsweredInIt : {B : Type 0} → Setting B → (SessionBody → B) → (StoreBody → B) → Type 0
 IsAnsweredInIt setting serving storing = 1 ≤ setting.params.maxpri → setting.params.maxpri ≤ 255 → (s k event place : ℕ)
-    → (first moves : List (Option Took)) (birth : Option Took) (later : List (Option Took)) → CanGoOn setting (first ++ (moves ++ birth ∷ later)) (opening_session setting)
+    → (first moves : List (Option Took)) (birth : Option Took) (later : List (Option Took))
+    → CanGoOn setting (first ++ (moves ++ birth ∷ later)) (opening_session setting)
     → Begins k (storing store_opening) (after_moves setting first (opening_session setting)).live
     → (after_moves setting (first ++ moves) (opening_session setting)).live.pod.state.births ≤ s
-    → Begins s (serving (session_opening event place)) (after_moves setting (first ++ (moves ++ birth ∷ [])) (opening_session setting)).live
-    → Serves s k (after_moves setting (first ++ (moves ++ birth ∷ later)) (opening_session setting)) → list_all line_is_short (first ++ (moves ++ birth ∷ later)) ≡ true
-    → (a : ℕ) → IsAnsweredInTurn s a (steps_of (after_moves setting (first ++ (moves ++ birth ∷ later)) (opening_session setting)).steps)
+    → Begins s (serving (session_opening event place))
+    (after_moves setting (first ++ (moves ++ birth ∷ [])) (opening_session setting)).live
+    → Serves s k (after_moves setting (first ++ (moves ++ birth ∷ later)) (opening_session setting))
+    → list_all line_is_short (first ++ (moves ++ birth ∷ later)) ≡ true
+    → (a : ℕ)
+    → IsAnsweredInTurn s a (steps_of (after_moves setting (first ++ (moves ++ birth ∷ later))
+    (opening_session setting)).steps)
 
 abbrev pub InWholeSessions : Type 0 → Type 0
-InWholeSessions B = (setting : Setting B) (server : LineServer setting.next) → IsAnsweredInIt setting server.serving server.storing
+InWholeSessions B = (setting : Setting B) (server : LineServer setting.next)
+    → IsAnsweredInIt setting server.serving server.storing
 
 -- some moves from the opening come to this session
 pub record IsReached {B : Type 0} (setting : Setting B) (session : Session B) : Type 0 where
@@ -127,4 +147,5 @@ pub record IsReached {B : Type 0} (setting : Setting B) (session : Session B) : 
 
 -- Every session is reached so.
 abbrev pub SessionsAreReached : Type 0 → Type 0
-SessionsAreReached B = (setting : Setting B) (takes : List Took) (n : ℕ) → IsDefined setting takes n → IsReached setting (play setting takes n)
+SessionsAreReached B = (setting : Setting B) (takes : List Took) (n : ℕ) → IsDefined setting takes n
+    → IsReached setting (play setting takes n)

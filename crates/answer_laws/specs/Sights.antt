@@ -28,7 +28,11 @@ pub record Sight : Type 0 where
 
 -- by the thread's row, if it has one
 abbrev pub sight_by : Option ThreadRow → List Letter → Sight
-sight_by row letters = record { waits = option_map (λ row. row.block) row; marks = unwrap_or (option_map (λ row. row.marks) row) []; letters = letters }
+sight_by row letters = record {
+  waits = option_map (λ row. row.block) row;
+  marks = unwrap_or (option_map (λ row. row.marks) row) [];
+  letters = letters;
+}
 
 abbrev pub sight : State → ℕ → Sight
 sight s u = sight_by (thread_of s u) (filter (is_letter_of u) s.letters)
@@ -103,15 +107,17 @@ abbrev pub Spares : State → ℕ → Call → Type 0
 Spares s u (call.Destroy v) = ((v == u) ≡ false) × (open_letters s u v ≡ 0)
 Spares s u _ = Unit {0}
 
--- Of a thread that isn't the caller, waits at most for a letter or a reply, has written nothing to the caller, and is spared with
--- those to whom it has written, a call changes nothing and tells it nothing; unless it waits for a letter, and gets the one that
--- the caller sends it, or learns that whom it waits for isn't there.
+-- Of a thread that isn't the caller, waits at most for a letter or a reply, has written nothing to the caller, and is
+-- spared with those to whom it has written, a call changes nothing and tells it nothing; unless it waits for a letter,
+-- and gets the one that the caller sends it, or learns that whom it waits for isn't there.
 abbrev pub OthersLeaveIt : Type 0
-OthersLeaveIt = (s : State) → Lawful s None → (t u : ℕ) → choice s ≡ Some t → (t == u) ≡ false → IsTrue (attends s u) → open_letters s u t ≡ 0 → (c : Call) → Spares s u c
+OthersLeaveIt = (s : State) → Lawful s None → (t u : ℕ) → choice s ≡ Some t → (t == u) ≡ false
+    → IsTrue (attends s u) → open_letters s u t ≡ 0 → (c : Call) → Spares s u c
     → IsLeft u s (step s c) ⊎ IsWoken u (IsSent t u c) s (step s c)
 
--- So it is of each delivery, of a thread that attends and has no timer: nothing of it changes, unless it waits for a letter, and gets
--- one of an agent.
+-- So it is of each delivery, of a thread that attends and has no timer: nothing of it changes, unless it waits for a
+-- letter, and gets one of an agent.
 abbrev pub DeliveriesLeaveIt : Type 0
-DeliveriesLeaveIt = (s : State) → Lawful s None → (u : ℕ) → IsTrue (attends s u) → timers_of s.timers u ≡ 0 → (e : ℕ) (text : List ℕ)
+DeliveriesLeaveIt = (s : State) → Lawful s None → (u : ℕ) → IsTrue (attends s u)
+    → timers_of s.timers u ≡ 0 → (e : ℕ) (text : List ℕ)
     → IsLeft u s (deliver s e text) ⊎ IsWoken u (IsDelivered text) s (deliver s e text)

@@ -58,7 +58,8 @@ opening_talk event store = record {
 
 -- ---- calls of the session
 
--- what a call is to the two: an agent is made, a letter is received, x is replied to, or the session's letter is sent; any other ends its thread
+-- what a call is to the two: an agent is made, a letter is received, x is replied to, or the session's letter is sent;
+-- any other ends its thread
 pub data Deed : Type 0 where
   Opens : Deed
   Receives : Deed
@@ -81,7 +82,9 @@ after_agent_reply talk text = if talk.agent_lives
 
 -- what its call comes to; all that it sends goes to the store
 abbrev pub session_calls : ℕ → Talk → Deed → Talk
-session_calls a talk Opens = record talk { client = Hears (if talk.agent_lives then answer.Thread a else answer.Refused error.NoRoom) }
+session_calls a talk Opens = record talk {
+  client = Hears (if talk.agent_lives then answer.Thread a else answer.Refused error.NoRoom);
+}
 session_calls a talk Receives = record talk { client = if talk.agent_lives then AwaitsLetter else Hears nonexist }
 session_calls a talk (Replies to text) = after_agent_reply talk text
 session_calls a talk (Sends text) = record talk { mail = Sent text; client = AwaitsReply }
@@ -100,7 +103,11 @@ session_turn a names talk _ = talk
 
 -- a reply to the session goes to its letter, if the store has received that
 abbrev pub after_session_reply : Talk → List ℕ → Mail → Talk
-after_session_reply talk text (Received sent) = record talk { mail = Nothing; client = Hears (answer.Reply text); keeper = Hears zero_answer }
+after_session_reply talk text (Received sent) = record talk {
+  mail = Nothing;
+  client = Hears (answer.Reply text);
+  keeper = Hears zero_answer;
+}
 after_session_reply talk text _ = record talk { keeper = Hears (answer.Refused error.NoWait) }
 
 -- how the store's reply to anybody else is answered: with 0, or refused
@@ -111,7 +118,8 @@ reply_answer (Some e) = answer.Refused e
 -- what its call comes to, where the session is s
 abbrev pub store_calls : ℕ → Option LwpErr → Talk → Deed → Talk
 store_calls s refusal talk Receives = record talk { keeper = AwaitsLetter }
-store_calls s refusal talk (Replies to text) = if to == s then after_session_reply talk text talk.mail else record talk { keeper = Hears (reply_answer refusal) }
+store_calls s refusal talk (Replies to text) = if to == s then after_session_reply talk text talk.mail
+    else record talk { keeper = Hears (reply_answer refusal) }
 store_calls s refusal talk Opens = record talk { keeper = IsOver }
 store_calls s refusal talk (Sends text) = record talk { keeper = IsOver }
 store_calls s refusal talk Stops = record talk { keeper = IsOver }
@@ -146,7 +154,8 @@ letter_comes s talk _ = talk
 
 -- the store receives a letter of another thread, if it waits for one
 abbrev pub other_comes : ℕ → ℕ → List ℕ → ℕ → Talk → Stand → Talk
-other_comes s x text room talk AwaitsLetter = if x == s then talk else record talk { keeper = Hears (answer.Letter x text room) }
+other_comes s x text room talk AwaitsLetter = if x == s then talk
+    else record talk { keeper = Hears (answer.Letter x text room) }
 other_comes s x text room talk _ = talk
 
 -- ---- ends
@@ -166,7 +175,8 @@ session_dies talk = record talk { client = IsOver; mail = Nothing }
 
 -- ---- what may happen
 
--- a turn of the session or of the store, a letter for either, or an end; whatever can't happen just then changes nothing
+-- a turn of the session or of the store, a letter for either, or an end; whatever can't happen just then changes
+-- nothing
 pub data Event : Type 0 where
   SessionTurn : Names → Event
   StoreTurn : Option LwpErr → Names → Event
@@ -197,7 +207,9 @@ pub record AreFirst (texts others : List (List ℕ)) : Type 0 where
   pub rest : List (List ℕ)
   pub whole : texts ++ rest ≡ others
 
--- Whatever happens and whatever others send to the store, what the client is told is a first part of the answers to its lines.
+-- Whatever happens and whatever others send to the store, what the client is told is a first part of the answers to its
+-- lines.
 abbrev pub TalksAreAnswers : Type 0
 TalksAreAnswers = (s a event store : ℕ) (events : List Event)
-    → AreFirst (after_events s a (opening_talk event store) events).told (line_answers (after_events s a (opening_talk event store) events).lines)
+    → AreFirst (after_events s a (opening_talk event store) events).told
+    (line_answers (after_events s a (opening_talk event store) events).lines)

@@ -38,12 +38,15 @@ is_reply_of s a (Some made) = not (is_reply_to a made.call && made.zero) || made
 abbrev pub replies_are_of : ℕ → ℕ → List Sessions.Made → Bool
 replies_are_of s a steps = list_all (λ step. is_reply_of s a (call_in step.take step.effects)) steps
 
--- Where an event has had one agent, and nobody but s has replied to that: what its client was told are the accepted replies of s, each on a line
--- of its own.
+-- Where an event has had one agent, and nobody but s has replied to that: what its client was told are the accepted
+-- replies of s, each on a line of its own.
 abbrev pub RepliesAreWritten : Type 0 → Type 0
-RepliesAreWritten B = (setting : Setting B) → 1 ≤ setting.params.maxpri → setting.params.maxpri ≤ 255 → (takes : List Took) (n : ℕ) → IsDefined setting takes n
-    → (s e a : ℕ) → (known_after_steps (Some e) (play setting takes n).steps).agents ≡ a ∷ [] → replies_are_of s a (play setting takes n).steps ≡ true
-    → replies_in (Some e) (play setting takes n).steps ≡ text_lines (replies_accepted s a (steps_of (play setting takes n).steps))
+RepliesAreWritten B = (setting : Setting B) → 1 ≤ setting.params.maxpri
+    → setting.params.maxpri ≤ 255 → (takes : List Took) (n : ℕ) → IsDefined setting takes n
+    → (s e a : ℕ) → (known_after_steps (Some e) (play setting takes n).steps).agents ≡ a ∷ []
+    → replies_are_of s a (play setting takes n).steps ≡ true
+    → replies_in (Some e) (play setting takes n).steps
+    ≡ text_lines (replies_accepted s a (steps_of (play setting takes n).steps))
 
 -- these bytes are the first answers to the lines delivered to a, each on a line of its own
 pub record IsFirstWritten (a : ℕ) (steps : List Sessions.Made) (bytes : List ℕ) : Type 0 where
@@ -51,13 +54,18 @@ pub record IsFirstWritten (a : ℕ) (steps : List Sessions.Made) (bytes : List �
   pub first : AreFirst texts (line_answers (texts_delivered a (steps_of steps)))
   pub written : bytes ≡ text_lines texts
 
--- So what `answers` writes of a client of a script, in each of its sessions: where the client's event has had one agent, and of the accepted replies
--- to that all are of one client's session, it is a first part of the answers to the lines delivered to that agent.
+-- So what `answers` writes of a client of a script, in each of its sessions: where the client's event has had one
+-- agent, and of the accepted replies to that all are of one client's session, it is a first part of the answers to the
+-- lines delivered to that agent.
 abbrev pub ClientsAreWritten : Type 0
 ClientsAreWritten = (script : Script) → HoldsAlways (setting_of script) Serving Storing (λ s k end. Unit {0})
-    (λ s end. (client e a : ℕ) → event_of script client ≡ Some e → (known_after_steps (Some e) end.steps).agents ≡ a ∷ [] → replies_are_of s a end.steps ≡ true → IsFirstWritten a end.steps (replies_in (event_of script client) end.steps))
+    (λ s end. (client e a : ℕ) → event_of script client ≡ Some e
+    → (known_after_steps (Some e) end.steps).agents ≡ a ∷ []
+    → replies_are_of s a end.steps ≡ true
+    → IsFirstWritten a end.steps (replies_in (event_of script client) end.steps))
 
--- What a client is told in a plan is what it is told in the session that the plan's takes and calls play; and that each of these was due,
--- `answers_main` says.
+-- What a client is told in a plan is what it is told in the session that the plan's takes and calls play; and that each
+-- of these was due, `answers_main` says.
 abbrev pub PlansAreSessions : Type 0
-PlansAreSessions = (script : Script) (turns client : ℕ) → answers_of client script turns ≡ answers_after client script (takes_of script turns) (calls_of script turns)
+PlansAreSessions = (script : Script) (turns client : ℕ)
+    → answers_of client script turns ≡ answers_after client script (takes_of script turns) (calls_of script turns)

@@ -39,12 +39,14 @@ length_told line = if bytes_eq (take 7 line) (codes "script ") then size_of (dro
 abbrev pub part_behind : ℕ → ℕ → Option ℕ → ℕ → Option Part
 part_behind at line None len = None
 part_behind at line (Some size) len =
-    if nat_le (at + line + 1 + size) len then Some (record { from = at + line + 1; to = at + line + 1 + size }) else None
+    if nat_le (at + line + 1 + size) len then Some (record { from = at + line + 1; to = at + line + 1 + size })
+    else None
 
 -- the part whose line begins at a place
 abbrev pub part_at : List ℕ → ℕ → Option Part
 part_at bytes at =
-    let line = line_length (drop at bytes) in part_behind at line (length_told (take line (drop at bytes))) (length bytes)
+    let line = line_length (drop at bytes) in
+    part_behind at line (length_told (take line (drop at bytes))) (length bytes)
 
 -- one more part in front of these, or of a bad one
 abbrev pub in_front : Part → Result (List Part) ℕ → Result (List Part) ℕ
@@ -60,7 +62,8 @@ part_and_others (Some part) behind = in_front part (behind part)
 abbrev pub parts_from : ℕ → List ℕ → ℕ → Result (List Part) ℕ
 parts_from zero bytes at = if nat_le (length bytes) at then Ok [] else Err 0
 parts_from (suc many) bytes at =
-    if nat_le (length bytes) at then Ok [] else part_and_others (part_at bytes at) (λ part. parts_from many bytes part.to)
+    if nat_le (length bytes) at then Ok []
+    else part_and_others (part_at bytes at) (λ part. parts_from many bytes part.to)
 
 -- the parts of a text, at most 1,000, or the number of the first bad one; a text may have 33,554,432 bytes
 abbrev pub parts_of : List ℕ → Result (List Part) ℕ

@@ -19,11 +19,24 @@ actor_next (actors.Buffering buffer) names got = with_names actors.Buffering nam
 actor_next (actors.Producing producer) names got = with_names actors.Producing names (produces producer)
 actor_next (actors.Consuming consumer) names got = with_names actors.Consuming names (consumes consumer got)
 
-pub actor_next-keeps_lengths : (actor : Actor) (names : Names) (got : Answer) → KeepsLengths names (actor_next actor names got).2
+pub actor_next-keeps_lengths : (actor : Actor) (names : Names) (got : Answer)
+    → KeepsLengths names (actor_next actor names got).2
 unfolding actor_next
-actor_next-keeps_lengths (actors.Buffering buffer) names got = record { threads = refl; monitors = refl; conditions = refl }
-actor_next-keeps_lengths (actors.Producing producer) names got = record { threads = refl; monitors = refl; conditions = refl }
-actor_next-keeps_lengths (actors.Consuming consumer) names got = record { threads = refl; monitors = refl; conditions = refl }
+actor_next-keeps_lengths (actors.Buffering buffer) names got = record {
+  threads = refl;
+  monitors = refl;
+  conditions = refl;
+}
+actor_next-keeps_lengths (actors.Producing producer) names got = record {
+  threads = refl;
+  monitors = refl;
+  conditions = refl;
+}
+actor_next-keeps_lengths (actors.Consuming consumer) names got = record {
+  threads = refl;
+  monitors = refl;
+  conditions = refl;
+}
 
 -- two producers of two items each, one consumer of four, and room for one item
 abbrev pub cast : List Actor

@@ -54,7 +54,8 @@ after_keep producer item buffer = if nat_lt (length buffer.items) buffer.room
 -- an item comes: the consumer that has asked longest gets it, if one has
 abbrev pub after_put_by : ℕ → List ℕ → Buffer → List ℕ → Buffer
 after_put_by producer item buffer [] = after_keep producer item buffer
-after_put_by producer item buffer (consumer ∷ others) = after_thank producer (after_hand consumer item (record buffer { asking = others }))
+after_put_by producer item buffer (consumer ∷ others) =
+    after_thank producer (after_hand consumer item (record buffer { asking = others }))
 
 abbrev pub after_put : ℕ → List ℕ → Buffer → Buffer
 after_put producer item buffer = after_put_by producer item buffer buffer.asking
@@ -62,7 +63,8 @@ after_put producer item buffer = after_put_by producer item buffer buffer.asking
 -- there is room again: the item that has waited longest is stored, if one has
 abbrev pub after_refill_by : Buffer → List Letter → Buffer
 after_refill_by buffer [] = buffer
-after_refill_by buffer (letter ∷ others) = after_thank letter.0 (after_store letter.1 (record buffer { waiting = others }))
+after_refill_by buffer (letter ∷ others) =
+    after_thank letter.0 (after_store letter.1 (record buffer { waiting = others }))
 
 abbrev pub after_refill : Buffer → Buffer
 after_refill buffer = after_refill_by buffer buffer.waiting
@@ -70,7 +72,8 @@ after_refill buffer = after_refill_by buffer buffer.waiting
 -- a consumer asks: it gets the oldest item, or waits for one
 abbrev pub after_get_by : ℕ → Buffer → List (List ℕ) → Buffer
 after_get_by consumer buffer [] = record buffer { asking = buffer.asking ++ consumer ∷ [] }
-after_get_by consumer buffer (item ∷ others) = after_refill (after_hand consumer item (record buffer { items = others }))
+after_get_by consumer buffer (item ∷ others) =
+    after_refill (after_hand consumer item (record buffer { items = others }))
 
 abbrev pub after_get : ℕ → Buffer → Buffer
 after_get consumer buffer = after_get_by consumer buffer buffer.items

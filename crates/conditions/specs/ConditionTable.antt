@@ -104,7 +104,8 @@ newborn s = if is_full s then None else Some s.births
 
 -- one condition of monitor m more, if one may be born
 abbrev pub after_create : ConditionTable → ℕ → ConditionTable
-after_create s m = if is_full s then s else record s { conditions = s.conditions ++ record { number = s.births; mon = m } ∷ []; births = s.births + 1 }
+after_create s m = if is_full s then s
+    else record s { conditions = s.conditions ++ record { number = s.births; mon = m } ∷ []; births = s.births + 1 }
 
 -- the condition is gone
 abbrev pub after_destroy : ConditionTable → ℕ → ConditionTable

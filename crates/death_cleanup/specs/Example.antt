@@ -74,7 +74,8 @@ waiting = (deliver (after_calls (opening (record { maxpri = 9; births = 100; pro
 
 -- the marks of the first thread
 abbrev pub stack : List Mark
-stack = mark.Frame ∷ mark.Exit 0 (exit.Note []) ∷ mark.Exit 1 (exit.Reply 2 []) ∷ mark.Exit 2 (exit.Resume 0) ∷ mark.Exit 3 (exit.Notify 0) ∷ mark.Exit 4 (exit.SetExit 7) ∷ []
+stack = mark.Frame ∷ mark.Exit 0 (exit.Note []) ∷ mark.Exit 1 (exit.Reply 2 [])
+    ∷ mark.Exit 2 (exit.Resume 0) ∷ mark.Exit 3 (exit.Notify 0) ∷ mark.Exit 4 (exit.SetExit 7) ∷ []
 
 -- a thread that waits so
 abbrev pub thread : Block → List Mark → Kind
@@ -103,7 +104,15 @@ abbrev pub known_thread : ℕ → ℕ → Known
 known_thread t p = record { tid = t; prio = p; suspended = false; blocked = true }
 
 abbrev pub sched : Schedule
-sched = record { threads = known_thread 0 1 ∷ known_thread 1 5 ∷ known_thread 2 5 ∷ known_thread 3 5 ∷ known_thread 4 5 ∷ known_thread 5 5 ∷ known_thread 6 5 ∷ known_thread 7 5 ∷ []; order = []; timers = []; now = 0; maxpri = 9; places = 8 }
+sched = record {
+  threads = known_thread 0 1 ∷ known_thread 1 5 ∷ known_thread 2 5 ∷ known_thread 3 5
+      ∷ known_thread 4 5 ∷ known_thread 5 5 ∷ known_thread 6 5 ∷ known_thread 7 5 ∷ [];
+  order = [];
+  timers = [];
+  now = 0;
+  maxpri = 9;
+  places = 8;
+}
 
 abbrev pub messages : MessageTable
 messages = record {
@@ -125,13 +134,23 @@ mons = record {
 }
 
 abbrev pub conds : ConditionTable
-conds = record { conditions = record { number = 0; mon = 2 } ∷ []; births = 1; limit = 100; waits = record { cond = 0; tid = 0; prio = 1; depth = 1 } ∷ []; places = 8 }
+conds = record {
+  conditions = record { number = 0; mon = 2 } ∷ [];
+  births = 1;
+  limit = 100;
+  waits = record { cond = 0; tid = 0; prio = 1; depth = 1 } ∷ [];
+  places = 8;
+}
 
 abbrev pub agents : Roster
 agents = record { agents = record { number = 8; event = 3; owner = 0; holding = true } ∷ []; places = 1 }
 
 abbrev pub name_note : NameNote
-name_note = record { waits = record { what = awaited.Death; of = 0; tid = 4 } ∷ record { what = awaited.Death; of = 0; tid = 5 } ∷ record { what = awaited.Letter; of = 0; tid = 3 } ∷ []; places = 16 }
+name_note = record {
+  waits = record { what = awaited.Death; of = 0; tid = 4 }
+      ∷ record { what = awaited.Death; of = 0; tid = 5 } ∷ record { what = awaited.Letter; of = 0; tid = 3 } ∷ [];
+  places = 16;
+}
 
 abbrev pub parts : Parts
 parts = record {

@@ -53,7 +53,8 @@ after_bury parts t = record parts { ids = after_remove parts.ids t; dying = None
 
 -- an agent that is listed no more ends: whoever waits for it by name goes on, and its letter goes
 abbrev pub agent_over : ℕ → State → Outcome
-agent_over a s = and_then (for_each (unblock nonexist) (receivers_of s a) s) (λ now. still (record now { letters = without_letter a now.letters }))
+agent_over a s = and_then (for_each (unblock nonexist) (receivers_of s a) s)
+    (λ now. still (record now { letters = without_letter a now.letters }))
 
 -- the marks of who lives there; an agent has none
 abbrev pub kind_marks : Option Kind → List Mark
@@ -75,7 +76,9 @@ pair_with_stack t ms live = (live.0, if live.0 == t then kind_with_marks ms live
 
 -- the parts in which t has other marks
 abbrev pub after_set_stack : Parts → ℕ → List Mark → Parts
-after_set_stack parts t ms = record parts { ids = record parts.ids { live = map (pair_with_stack t ms) parts.ids.live } }
+after_set_stack parts t ms = record parts {
+  ids = record parts.ids { live = map (pair_with_stack t ms) parts.ids.live };
+}
 
 -- the parts once this thread, which waited on a condition of monitor m, waits to enter m
 abbrev pub after_ask : Parts → ℕ → WaitRec → Parts

@@ -118,7 +118,8 @@ pub record IsGap (r n : ℕ) (waits : List NamedWait) (i : ℕ) : Type 0 where
 
 -- the last of the waits doesn't stand before that of thread n in this run
 abbrev pub IsBeforeLast : ℕ → ℕ → List NamedWait → Type 0
-IsBeforeLast r n waits = (d : NamedWait) → 1 ≤ length waits → is_before r n (slice_index_or waits (length waits - 1) d) ≡ false
+IsBeforeLast r n waits = (d : NamedWait) → 1 ≤ length waits
+    → is_before r n (slice_index_or waits (length waits - 1) d) ≡ false
 
 -- this wait of the run stands there
 pub record HasWaiter (r : ℕ) (wait : NamedWait) (waits : List NamedWait) (i : ℕ) : Type 0 where

@@ -91,13 +91,15 @@ AreSent sent (l ∷ ls) = IsSent sent l × AreSent sent ls
 abbrev pub FitsPoster : (ℕ → Option ℕ) → (ℕ → List Line) → ℕ → Book → Type 0
 FitsPoster seat sent pass b = b.posts ≡ true → (seat b.client ≡ Some pass) × (b.sent ≡ sent b.client)
 
--- the one taker's book knows that no other client has announced anything, and what those have announced whose seats came back
+-- the one taker's book knows that no other client has announced anything, and what those have announced whose seats
+-- came back
 abbrev pub FitsTaker : ℕ → (ℕ → Option ℕ) → (ℕ → List Line) → ℕ → Book → Type 0
 FitsTaker taker seat sent pass b =
     b.takes ≡ true
     → (pass ≡ taker)
     × ((c : ℕ) → is_noted c b.noted ≡ false → (seat c ≡ None) × (sent c ≡ []))
-    × ((c : ℕ) → is_told c b.known ≡ true → (seat c ≡ None) × (lines_in_pass c b.known ≡ sent c) × (is_noted c b.noted ≡ true))
+    × ((c : ℕ) → is_told c b.known ≡ true
+    → (seat c ≡ None) × (lines_in_pass c b.known ≡ sent c) × (is_noted c b.noted ≡ true))
 
 -- of each line that was announced and not taken back there is one ticket, whoever has it
 pub record AreBooked (books : List Book) : Type 0 where
@@ -107,9 +109,11 @@ pub record AreBooked (books : List Book) : Type 0 where
   pub runs : (c : ℕ) → IsRun c 0 (sent c)
   pub once : (c i : ℕ) → tickets_in c i books ≡ below i (sent c)
   pub right : (pass : ℕ) (b : Book) → get_elem? books pass ≡ some b → AreSent sent b.lines
-  pub fits : (pass : ℕ) (b : Book) → get_elem? books pass ≡ some b → FitsPoster seat sent pass b × FitsTaker taker seat sent pass b
+  pub fits : (pass : ℕ) (b : Book) → get_elem? books pass ≡ some b
+      → FitsPoster seat sent pass b × FitsTaker taker seat sent pass b
 
--- what the taker knows of the lines of its tickets: each is the one that its client has announced under its number, where that is told, and no other client has announced any
+-- what the taker knows of the lines of its tickets: each is the one that its client has announced under its number,
+-- where that is told, and no other client has announced any
 pub record Learns (b : Book) : Type 0 where
   pub runs : (c : ℕ) → is_told c b.known ≡ true → IsRun c 0 (lines_in_pass c b.known)
   pub sent : (c : ℕ) → is_told c b.known ≡ true → AreSent (λ d. lines_in_pass c b.known) (of c b.lines)

@@ -41,7 +41,9 @@ command_by word key behind = if bytes_eq word (codes "put ") then put_command ke
 
 -- the same, where the key isn't cut off yet; it has to have the length of one
 abbrev pub command_by_word : List ℕ → List ℕ → Option Command
-command_by_word word text = if is_key_length (key_len text) then command_by word (take (key_len text) text) (drop (key_len text) text) else None
+command_by_word word text = if is_key_length (key_len text)
+    then command_by word (take (key_len text) text) (drop (key_len text) text)
+    else None
 
 -- what a text asks for, if it is a command: its first four bytes are the word
 abbrev pub command_of : List ℕ → Option Command

@@ -84,6 +84,7 @@ session_by body names a at.End = stops body
 unfoldable pub session_next : Next SessionBody
 session_next body names a = with_names (session_by body names a body.place) names
 
-pub session_next-keeps_lengths : (body : SessionBody) (names : Names) (a : Answer) → KeepsLengths names (session_next body names a).2
+pub session_next-keeps_lengths : (body : SessionBody) (names : Names) (a : Answer)
+    → KeepsLengths names (session_next body names a).2
 unfolding session_next
 session_next-keeps_lengths body names a = kept-lengths names

@@ -82,7 +82,8 @@ store_by body a at.Empty = after_reply body (store_receives body) a
 unfoldable pub store_next : Next StoreBody
 store_next body names a = with_names (store_by body a body.place) names
 
-pub store_next-keeps_lengths : (body : StoreBody) (names : Names) (a : Answer) → KeepsLengths names (store_next body names a).2
+pub store_next-keeps_lengths : (body : StoreBody) (names : Names) (a : Answer)
+    → KeepsLengths names (store_next body names a).2
 unfolding store_next
 store_next-keeps_lengths body names a = kept-lengths names
 
@@ -105,4 +106,5 @@ replies_among x tables (l ∷ ls) =
 
 -- a sender is told what its own texts are told on its own table, whatever others send
 abbrev pub SendersAreApart : Type 0
-SendersAreApart = (x : ℕ) (tables : Tables) (letters : Letters) → replies_among x tables letters ≡ replies (table_of x tables) (texts_of x letters)
+SendersAreApart = (x : ℕ) (tables : Tables) (letters : Letters)
+    → replies_among x tables letters ≡ replies (table_of x tables) (texts_of x letters)

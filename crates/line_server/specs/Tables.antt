@@ -36,7 +36,8 @@ abbrev pub get_reply : Option (List ℕ) → List ℕ
 get_reply None = codes "none"
 get_reply (Some text) = text
 
--- a put of a new key into a table of 100 keys is refused; any other is done, and a new key goes to its place in the order
+-- a put of a new key into a table of 100 keys is refused; any other is done, and a new key goes to its place in the
+-- order
 abbrev pub served_put : List ℕ → List ℕ → Table → ServedTable
 served_put key value table = if nat_le 100 (length table) && is_none (at_key key table)
     then record { reply = codes "full"; table = table }
@@ -73,4 +74,5 @@ is_quit text = bytes_eq text (codes "quit")
 
 -- what a client's lines are answered, up to and with the first `quit`
 abbrev pub line_answers : List (List ℕ) → List (List ℕ)
-line_answers texts = replies [] (before_first is_quit texts) ++ (if list_any is_quit texts then codes "bye" ∷ [] else [])
+line_answers texts = replies [] (before_first is_quit texts)
+    ++ (if list_any is_quit texts then codes "bye" ∷ [] else [])

@@ -45,7 +45,8 @@ pub record IsReady (place : List ℕ) (client : ℕ) (texts : List (List ℕ)) (
   pub posted_is : p.posted ≡ []
   pub room : length texts ≤ p.room
 
--- the client of this inlet has posted the first of these texts: all of them where it says so, and else fewer; on a lane it says so
+-- the client of this inlet has posted the first of these texts: all of them where it says so, and else fewer; on a lane
+-- it says so
 pub record IsEnd (place : List ℕ) (client : ℕ) (texts : List (List ℕ)) (e : AnyEnd) : Type 0 where
   pub place_is : (pass_posting e.pass).place ≡ place
   pub client_is : (pass_posting e.pass).client ≡ client
@@ -55,13 +56,16 @@ pub record IsEnd (place : List ℕ) (client : ℕ) (texts : List (List ℕ)) (e 
   pub short : e.all ≡ false → count < length texts
   pub sure : is_lane place ≡ true → e.all ≡ true
 
--- the lines of which the client's gate was asked: those posted, and where these aren't all the next one, which was refused
+-- the lines of which the client's gate was asked: those posted, and where these aren't all the next one, which was
+-- refused
 abbrev pub lines_tried : ℕ → List (List ℕ) → AnyEnd → List Line
 lines_tried client texts e = lines_from client 0 (take (length (pass_posting e.pass).posted + cond e.all 0 1) texts)
 
--- what the client has posted in all is known from now on; of the inlet's other clients that is known which was known before
+-- what the client has posted in all is known from now on; of the inlet's other clients that is known which was known
+-- before
 pub record IsTakenIn (t : Intake) (p : AnyPosting) (u : Intake) : Type 0 where
   pub same : u ≡ record t { known = u.known }
   pub told : is_told p.client u.known ≡ true
   pub posted : lines_in_pass p.client u.known ≡ p.posted
-  pub others : (d : ℕ) → is_noted d t.noted ≡ true → eqb p.client d ≡ false → (is_told d u.known ≡ is_told d t.known) × (lines_in_pass d u.known ≡ lines_in_pass d t.known)
+  pub others : (d : ℕ) → is_noted d t.noted ≡ true → eqb p.client d ≡ false
+      → (is_told d u.known ≡ is_told d t.known) × (lines_in_pass d u.known ≡ lines_in_pass d t.known)

@@ -13,7 +13,8 @@ intake_of (Port port) = port_intake port
 
 -- of each client whose pass came back, the lines taken are the first that it posted
 abbrev pub TakesFirst : Intake → Type 0
-TakesFirst t = (c : ℕ) → is_told c t.known ≡ true → take (length (of c t.taken)) (lines_in_pass c t.known) ≡ of c t.taken
+TakesFirst t = (c : ℕ) → is_told c t.known ≡ true
+    → take (length (of c t.taken)) (lines_in_pass c t.known) ≡ of c t.taken
 
 -- no line was taken of any other client
 abbrev pub TakesNone : Intake → Type 0

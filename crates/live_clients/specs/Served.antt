@@ -20,7 +20,8 @@ texts_of texts c = slice_index_or texts c []
 abbrev pub lines_in_all : List (List (List ℕ)) → ℕ
 lines_in_all texts = sum_by length texts
 
--- there is an inlet of each event that has a client, for just the clients of this event: a lane where there is one, and else a port
+-- there is an inlet of each event that has a client, for just the clients of this event: a lane where there is one, and
+-- else a port
 pub record AreFor (events : List ℕ) (inlets : List Intake) : Type 0 where
   pub rise : All (λ t. t.event ≤ 31) inlets × EventsRise inlets
   pub clients : All (λ t. t.noted ≡ clients_of events t.event) inlets
@@ -37,8 +38,8 @@ pub record Gave (t u : Intake) : Type 0 where
 abbrev pub Hears : Intake → Intake → Type 0
 Hears t u = u ≡ record t { known = u.known }
 
--- What an inlet has of a client of its event: the client posted the first of its texts, and all of them where `all` is true or it is a
--- lane. The lines taken are the first of these, and then come the rest.
+-- What an inlet has of a client of its event: the client posted the first of its texts, and all of them where `all` is
+-- true or it is a lane. The lines taken are the first of these, and then come the rest.
 pub record HasLines (client : ℕ) (texts : List (List ℕ)) (all : Bool) (t : Intake) : Type 0 where
   pub count : ℕ
   pub posted : lines_in_pass client t.known ≡ lines_from client 0 (take count texts)
@@ -60,9 +61,12 @@ pub record FellShort (events : List ℕ) (texts : List (List (List ℕ))) (n : �
   pub client : ℕ
   pub high : n ≤ client
   pub low : client < length events
-  pub short : All (λ t. t.event ≡ event_of events client → length (lines_in_pass client t.known) < length (texts_of texts client)) inlets
+  pub short : All
+      (λ t. t.event ≡ event_of events client → length (lines_in_pass client t.known) < length (texts_of texts client))
+      inlets
 
--- so it is of each inlet, and each client's event has one; where `all` is false, some client has not posted all its lines
+-- so it is of each inlet, and each client's event has one; where `all` is false, some client has not posted all its
+-- lines
 pub record AreServed (events : List ℕ) (texts : List (List (List ℕ))) (all : Bool) (inlets : List Intake) : Type 0 where
   pub are_for : AreFor events inlets
   pub served : All (IsServed events texts all) inlets

@@ -16,7 +16,8 @@ pub record ComesTo (old new : Parts) (before after : List Effect) (made : Case) 
 
 -- the same, and the caller's answer, if it has one now, was told behind what was done to others
 abbrev pub Told : Parts → Parts → List Effect → List Effect → ℕ → Case → Type 0
-Told old new before after caller made = CameTo old new before after (record { after = made.after; effects = made.others ++ own_effects caller made.own })
+Told old new before after caller made =
+    CameTo old new before after (record { after = made.after; effects = made.others ++ own_effects caller made.own })
 
 -- the state is as it was; there may be more places than before
 abbrev pub IsAsBefore : Parts → Parts → Type 0

@@ -27,4 +27,5 @@ ForgetsTheDead after effects = (n : ℕ) → 1 ≤ count_by (is_died n) effects 
 
 -- of each exit procedure: where it was set it still is, or it has run now, once
 abbrev pub RunsExitsOnce : State → Call → State → List Effect → Type 0
-RunsExitsOnce before c after effects = (p : ExitTest) → marks_passing p after + exits_passing p effects ≡ marks_passing p before + sets_of_step p before (choice before) c
+RunsExitsOnce before c after effects = (p : ExitTest)
+    → marks_passing p after + exits_passing p effects ≡ marks_passing p before + sets_of_step p before (choice before) c

@@ -41,7 +41,10 @@ is_lock_of lock row = passes (λ r. r.mon == lock.mon) row
 
 -- t may use a condition only of the monitor that it acquired last
 abbrev pub is_not_last : State → ℕ → ℕ → Check
-is_not_last s t c = (not (passes (λ lock. is_lock_of lock (condition_of s.conditions c)) (last_lock s.locks t)), error.NotOwned)
+is_not_last s t c = (
+  not (passes (λ lock. is_lock_of lock (condition_of s.conditions c)) (last_lock s.locks t)),
+  error.NotOwned,
+)
 
 -- CvCreate: a condition of a monitor
 abbrev pub condition_create : State → ℕ → Case
@@ -67,11 +70,13 @@ without_wait t ws = filter (λ w. not (w.tid == t)) ws
 -- the caller waits, and leaves the monitor altogether: the depth is kept for its return
 abbrev pub after_wait : ℕ → ℕ → Option Lock → State → Outcome
 after_wait t c None s = still s
-after_wait t c (Some lock) s = release lock.mon (after_block (record s { waits = s.waits ++ record { cond = c; tid = t; depth = lock.depth } ∷ [] }) t (block.Waiting c))
+after_wait t c (Some lock) s = release lock.mon (after_block
+    (record s { waits = s.waits ++ record { cond = c; tid = t; depth = lock.depth } ∷ [] }) t (block.Waiting c))
 
 -- Wait: until somebody wakes the caller
 abbrev pub wait : State → ℕ → ℕ → Case
-wait s t c = unless s (is_no_condition s c ∷ is_not_last s t c ∷ []) (silent_case (after_wait t c (last_lock s.locks t) s))
+wait s t c = unless s (is_no_condition s c ∷ is_not_last s t c ∷ [])
+    (silent_case (after_wait t c (last_lock s.locks t) s))
 
 -- a woken thread waits to enter its monitor again, at the depth that it left, behind those who wait for that already
 abbrev pub after_wake : ℕ → WaitRow → State → State
@@ -88,7 +93,8 @@ after_wake_all (Some row) ws s = fold (λ now w. after_wake row.mon w now) s ws
 
 -- what the three calls that wake have in common
 abbrev pub waking : State → ℕ → ℕ → List Check → List WaitRow → Case
-waking s t c more ws = unless s (is_no_condition s c ∷ is_not_last s t c ∷ more) (value_case (after_wake_all (condition_of s.conditions c) ws s) 0)
+waking s t c more ws = unless s (is_no_condition s c ∷ is_not_last s t c ∷ more)
+    (value_case (after_wake_all (condition_of s.conditions c) ws s) 0)
 
 -- Notify: by the priorities of this moment, the first of the greatest is woken, if anybody waits
 abbrev pub notify : State → ℕ → ℕ → Case
@@ -104,8 +110,10 @@ wait_of ws c to = filter (λ w. w.tid == to) (waits_on ws c)
 
 -- CvSend: one thread is woken
 abbrev pub cond_send : State → ℕ → ℕ → ℕ → Case
-cond_send s t c to = waking s t c (is_no_thread s to ∷ (is_empty (wait_of s.waits c to), error.NoWait) ∷ []) (wait_of s.waits c to)
+cond_send s t c to = waking s t c
+    (is_no_thread s to ∷ (is_empty (wait_of s.waits c to), error.NoWait) ∷ []) (wait_of s.waits c to)
 
 -- CvWaiters: who waits on the condition
 abbrev pub condition_waiters : State → ℕ → Case
-condition_waiters s c = unless s (is_no_condition s c ∷ []) (list_case s kind.Thread (map (λ w. w.tid) (waits_on s.waits c)))
+condition_waiters s c = unless s (is_no_condition s c ∷ [])
+    (list_case s kind.Thread (map (λ w. w.tid) (waits_on s.waits c)))

@@ -16,7 +16,9 @@ use Rattle.lwp_types.specs.declared.rows.Block.TheVariants as block
 -- MonCreate: a monitor that nobody holds
 abbrev pub monitor_create : State → Case
 monitor_create s = unless s (is_full 256 s.monitors ∷ is_at_limit s.monitor_births s ∷ [])
-    (answer_case (record s { monitors = s.monitors ++ s.monitor_births ∷ []; monitor_births = s.monitor_births + 1 }) (answer.Monitor s.monitor_births))
+    (answer_case
+    (record s { monitors = s.monitors ++ s.monitor_births ∷ []; monitor_births = s.monitor_births + 1 })
+    (answer.Monitor s.monitor_births))
 
 -- the condition is one of monitor m
 abbrev pub is_of_monitor : ℕ → CondRow → Bool
@@ -36,7 +38,10 @@ has_waits s m = list_any (λ row. is_of_monitor m row && is_waited_in s.waits ro
 
 -- the monitor is gone, and its conditions with it
 abbrev pub after_monitor_destroy : State → ℕ → State
-after_monitor_destroy s m = record s { monitors = without m s.monitors; conditions = without_conditions_of m s.conditions }
+after_monitor_destroy s m = record s {
+  monitors = without m s.monitors;
+  conditions = without_conditions_of m s.conditions;
+}
 
 -- MonDestroy: of a monitor that is in nobody's use
 abbrev pub monitor_destroy : State → ℕ → Case
@@ -79,7 +84,8 @@ enter_case s t m = value_case (record s { locks = with_entry t m (lock_of s.lock
 
 -- the caller waits to enter
 abbrev pub after_request : State → ℕ → ℕ → State
-after_request s t m = after_block (record s { requests = s.requests ++ record { mon = m; tid = t; depth = 1 } ∷ [] }) t (block.Entering m)
+after_request s t m = after_block
+    (record s { requests = s.requests ++ record { mon = m; tid = t; depth = 1 } ∷ [] }) t (block.Entering m)
 
 -- a monitor that another holds has to be waited for
 abbrev pub entering : State → ℕ → ℕ → Case
@@ -96,16 +102,20 @@ cond_enter s t m = unless s (is_no_monitor s m ∷ (is_owned_by_other s.locks t 
 
 -- the owner leaves once; the last time the monitor becomes free
 abbrev pub after_exit : ℕ → State → Outcome
-after_exit m s = if nat_le (depth_in s.locks m) 1 then release m s else still (record s { locks = with_depth m (depth_in s.locks m - 1) s.locks })
+after_exit m s = if nat_le (depth_in s.locks m) 1 then release m s
+    else still (record s { locks = with_depth m (depth_in s.locks m - 1) s.locks })
 
 -- MonExit: the owner leaves once
 abbrev pub monitor_exit : State → ℕ → ℕ → Case
-monitor_exit s t m = unless s (is_no_monitor s m ∷ (not (is_owner s.locks t m), error.InvalidArg) ∷ []) (with_zero (after_exit m s))
+monitor_exit s t m =
+    unless s (is_no_monitor s m ∷ (not (is_owner s.locks t m), error.InvalidArg) ∷ []) (with_zero (after_exit m s))
 
 -- MonBreak: its owner, whoever that is and however deep, loses it
 abbrev pub monitor_break : State → ℕ → Case
-monitor_break s m = unless s (is_no_monitor s m ∷ (is_none (lock_of s.locks m), error.NotOwned) ∷ []) (with_zero (release m s))
+monitor_break s m =
+    unless s (is_no_monitor s m ∷ (is_none (lock_of s.locks m), error.NotOwned) ∷ []) (with_zero (release m s))
 
 -- MonWaiters: who waits to enter
 abbrev pub monitor_waiters : State → ℕ → Case
-monitor_waiters s m = unless s (is_no_monitor s m ∷ []) (list_case s kind.Thread (map (λ r. r.tid) (requests_of s.requests m)))
+monitor_waiters s m = unless s (is_no_monitor s m ∷ [])
+    (list_case s kind.Thread (map (λ r. r.tid) (requests_of s.requests m)))

@@ -39,4 +39,5 @@ after_tick s = record s { now = s.now + 1 }
 
 -- a tick; whoever's timer it makes due goes on, one after the other
 abbrev pub tick : State → Outcome
-tick s = and_then (record { after = after_tick s; effects = effect.Ticked (s.now + 1) ∷ [] }) (λ now. for_each time_out (due_threads now) now)
+tick s = and_then (record { after = after_tick s; effects = effect.Ticked (s.now + 1) ∷ [] })
+    (λ now. for_each time_out (due_threads now) now)

@@ -1,5 +1,5 @@
--- The slots: each has a letter or is empty, and those that have one have the letters in the order of their sending. No public
--- clause cites this module.
+-- The slots: each has a letter or is empty, and those that have one have the letters in the order of their sending. No
+-- public clause cites this module.
 use Rattle.lwp_types.specs.Messages.{is_letter_of, is_open, is_to, letters_of}
 use Rattle.lwp_types.specs.State.{passes}
 use Rattle.lwp_types.specs.declared.rows.Letter.{Letter}

@@ -1,4 +1,5 @@
--- Locks by rising monitors, beside the same locks in the order of their acquisition. No public clause cites this module.
+-- Locks by rising monitors, beside the same locks in the order of their acquisition. No public clause cites this
+-- module.
 use Rattle.lwp_types.specs.MonitorRelease.{lock_of}
 use Rattle.lwp_types.specs.declared.rows.Lock.{Lock}
 use Rattle.monitors.specs.Kept.{IsKept}

@@ -1,5 +1,5 @@
--- The monitors of a pod as the machine has them. The machine looks up the priorities that requests keep here, and says beside
--- what becomes of the monitors what becomes of the threads.
+-- The monitors of a pod as the machine has them. The machine looks up the priorities that requests keep here, and says
+-- beside what becomes of the monitors what becomes of the threads.
 use Rattle.lwp_types.specs.Case.{Case, answer_case, refusal_case}
 use Rattle.lwp_types.specs.MonitorRelease.{next_owner, release, requests_of, without_request}
 use Rattle.lwp_types.specs.Monitors as machine
@@ -16,7 +16,12 @@ use Rattle.lwp_types.specs.declared.rows.Block.TheVariants as block
 
 -- the machine's state with these monitors
 abbrev pub with_monitors : MonitorTable → State → State
-with_monitors t s = record s { monitors = t.monitors; monitor_births = t.births; locks = t.locks; requests = map machine_row t.requests }
+with_monitors t s = record s {
+  monitors = t.monitors;
+  monitor_births = t.births;
+  locks = t.locks;
+  requests = map machine_row t.requests;
+}
 
 -- each request keeps the priority that its thread has by this account
 abbrev pub AreRanked : (ℕ → ℕ) → List EntryRequest → Type 0
@@ -36,7 +41,8 @@ birth_case (Some m) before after = answer_case after (answer.Monitor m)
 
 -- who waits to enter is who waits there
 abbrev pub RequestsAgree : Type 0
-RequestsAgree = (t : MonitorTable) (s : State) (m : ℕ) → requests_of (with_monitors t s).requests m ≡ map machine_row (table.requests_of t m)
+RequestsAgree = (t : MonitorTable) (s : State) (m : ℕ)
+    → requests_of (with_monitors t s).requests m ≡ map machine_row (table.requests_of t m)
 
 -- who enters next is who enters next there
 abbrev pub NextAgrees : Type 0
@@ -53,7 +59,8 @@ WaitersAgree = (t : MonitorTable) (s : State) (m : ℕ)
 -- a monitor is born as there, where as many may be
 abbrev pub BirthsAgree : Type 0
 BirthsAgree = (t : MonitorTable) (s : State) → t.limit ≡ s.limit
-    → machine.monitor_create (with_monitors t s) ≡ birth_case (table.newborn t) (with_monitors t s) (with_monitors (table.after_create t) s)
+    → machine.monitor_create (with_monitors t s)
+    ≡ birth_case (table.newborn t) (with_monitors t s) (with_monitors (table.after_create t) s)
 
 -- a thread enters as there
 abbrev pub EntriesAgree : Type 0
@@ -63,7 +70,9 @@ EntriesAgree = (t : MonitorTable) (s : State) (u m : ℕ)
 -- who has to wait stands behind all others, as there
 abbrev pub WaitsAgree : Type 0
 WaitsAgree = (t : MonitorTable) (s : State) (u m p : ℕ)
-    → machine.after_request (with_monitors t s) u m ≡ after_block (with_monitors (table.after_request t (record { mon = m; tid = u; prio = p; depth = 1 })) s) u (block.Entering m)
+    → machine.after_request (with_monitors t s) u m
+    ≡ after_block (with_monitors (table.after_request t (record { mon = m; tid = u; prio = p; depth = 1 })) s)
+    u (block.Entering m)
 
 -- a monitor is released as there, and whoever was next goes on
 abbrev pub ReleasesAgree : Type 0
@@ -73,24 +82,33 @@ ReleasesAgree = (t : MonitorTable) (s : State) → AreRanked (priority_in s) t.r
 -- a thread leaves once as there, and whoever holds the monitor then goes on
 abbrev pub LeavesAgree : Type 0
 LeavesAgree = (t : MonitorTable) (s : State) → AreRanked (priority_in s) t.requests → (m : ℕ)
-    → machine.after_exit m (with_monitors t s) ≡ with_owner (table.owner_after t m) (with_monitors (table.after_exit t m) s)
+    → machine.after_exit m (with_monitors t s)
+    ≡ with_owner (table.owner_after t m) (with_monitors (table.after_exit t m) s)
 
 -- what a thread asked for is forgotten as there
 abbrev pub ForgettingAgrees : Type 0
 ForgettingAgrees = (t : MonitorTable) (s : State) (u : ℕ)
-    → with_monitors (table.after_forget t u) s ≡ record (with_monitors t s) { requests = without_request u (with_monitors t s).requests }
+    → with_monitors (table.after_forget t u) s
+    ≡ record (with_monitors t s) { requests = without_request u (with_monitors t s).requests }
 
 -- a priority that is given changes nothing there
 abbrev pub RequeuesAgree : Type 0
-RequeuesAgree = (t : MonitorTable) (s : State) (u p : ℕ) → with_monitors (table.after_requeue t u p) s ≡ with_monitors t s
+RequeuesAgree = (t : MonitorTable) (s : State) (u p : ℕ)
+    → with_monitors (table.after_requeue t u p) s ≡ with_monitors t s
 
 -- Requests go on keeping the priorities of their threads.
 
 -- also where some are gone, where one came that has its thread's, and where a thread has another priority
 pub record RanksLast : Type 0 where
-  pub forgotten : (priority : ℕ → ℕ) (t : MonitorTable) → AreRanked priority t.requests → (u : ℕ) → AreRanked priority (table.after_forget t u).requests
-  pub released : (priority : ℕ → ℕ) (t : MonitorTable) → AreRanked priority t.requests → (m : ℕ) → AreRanked priority (table.after_release t m).requests
-  pub exited : (priority : ℕ → ℕ) (t : MonitorTable) → AreRanked priority t.requests → (m : ℕ) → AreRanked priority (table.after_exit t m).requests
-  pub requested : (priority : ℕ → ℕ) (t : MonitorTable) → AreRanked priority t.requests → (r : EntryRequest) → r.prio ≡ priority r.tid → AreRanked priority (table.after_request t r).requests
-  pub requeued : (before after : ℕ → ℕ) (t : MonitorTable) (u p : ℕ) → AreRanked before t.requests → after u ≡ p → ((v : ℕ) → v ≢ u → after v ≡ before v) → AreRanked after (table.after_requeue t u p).requests
-  pub same : (before after : ℕ → ℕ) (t : MonitorTable) → AreRanked before t.requests → ((v : ℕ) → after v ≡ before v) → AreRanked after t.requests
+  pub forgotten : (priority : ℕ → ℕ) (t : MonitorTable) → AreRanked priority t.requests → (u : ℕ)
+      → AreRanked priority (table.after_forget t u).requests
+  pub released : (priority : ℕ → ℕ) (t : MonitorTable) → AreRanked priority t.requests → (m : ℕ)
+      → AreRanked priority (table.after_release t m).requests
+  pub exited : (priority : ℕ → ℕ) (t : MonitorTable) → AreRanked priority t.requests → (m : ℕ)
+      → AreRanked priority (table.after_exit t m).requests
+  pub requested : (priority : ℕ → ℕ) (t : MonitorTable) → AreRanked priority t.requests
+      → (r : EntryRequest) → r.prio ≡ priority r.tid → AreRanked priority (table.after_request t r).requests
+  pub requeued : (before after : ℕ → ℕ) (t : MonitorTable) (u p : ℕ) → AreRanked before t.requests
+      → after u ≡ p → ((v : ℕ) → v ≢ u → after v ≡ before v) → AreRanked after (table.after_requeue t u p).requests
+  pub same : (before after : ℕ → ℕ) (t : MonitorTable) → AreRanked before t.requests
+      → ((v : ℕ) → after v ≡ before v) → AreRanked after t.requests

@@ -144,7 +144,8 @@ is_outermost s m = nat_le (depth_in s.locks m) 1
 
 -- the owner leaves once; the last time the monitor is released
 abbrev pub after_exit : MonitorTable → ℕ → MonitorTable
-after_exit s m = if is_outermost s m then after_release s m else record s { locks = with_depth m (depth_in s.locks m - 1) s.locks }
+after_exit s m = if is_outermost s m then after_release s m
+    else record s { locks = with_depth m (depth_in s.locks m - 1) s.locks }
 
 -- who holds the monitor because its owner has left once
 abbrev pub owner_after : MonitorTable → ℕ → Option ℕ

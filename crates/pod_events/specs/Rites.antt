@@ -32,7 +32,8 @@ dead_to_report before dead = filter (is_reported before) dead
 
 -- what is to be reported after a call; nothing, if there is nobody to report it to
 abbrev pub reports_after : State → State → List ℕ → List Effect → List ℕ
-reports_after before now reports es = if has_agent now rites_event then reports ++ dead_to_report before (deaths es) else []
+reports_after before now reports es = if has_agent now rites_event then reports ++ dead_to_report before (deaths es)
+    else []
 
 -- the text of a report: t and the number of the dead
 abbrev pub report_text : ℕ → List ℕ
@@ -76,4 +77,5 @@ after_first_report s es (dead ∷ later) = after_report s es dead later
 
 -- the same, if the agents of the event wait for it
 abbrev pub after_rites : State → List Effect → List ℕ → Reporting
-after_rites s es reports = if is_event_armed s rites_event then after_first_report s es reports else record { state = s; reports = reports; effects = es }
+after_rites s es reports = if is_event_armed s rites_event then after_first_report s es reports
+    else record { state = s; reports = reports; effects = es }

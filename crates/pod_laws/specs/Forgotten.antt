@@ -34,7 +34,8 @@ pub record IsForgotten (s : State) (n : ℕ) : Type 0 where
   pub unnamed : Unnamed s n
 
 abbrev pub TheDeadAreForgotten : Type 0
-TheDeadAreForgotten = (s : State) → Lawful s None → (c : Call) (n : ℕ) → 1 ≤ count_by (is_died n) (step s c).effects → IsForgotten (step s c).after n
+TheDeadAreForgotten = (s : State) → Lawful s None → (c : Call) (n : ℕ)
+    → 1 ≤ count_by (is_died n) (step s c).effects → IsForgotten (step s c).after n
 
 -- the call names a thread or an agent, and asks first whether it is there
 abbrev pub asks_for : ℕ → Call → Bool
@@ -52,7 +53,8 @@ asks_for n _ = false
 
 -- who isn't there is refused as not there
 abbrev pub TheAbsentAreRefused : Type 0
-TheAbsentAreRefused = (s : State) (t n : ℕ) → is_id s n ≡ false → (c : Call) → IsTrue (asks_for n c) → case_of s t c ≡ refusal_case s error.NonExist
+TheAbsentAreRefused = (s : State) (t n : ℕ) → is_id s n ≡ false → (c : Call) → IsTrue (asks_for n c)
+    → case_of s t c ≡ refusal_case s error.NonExist
 
 -- the exit procedure names a thread or an agent, and asks first whether it is there
 abbrev pub exit_asks_for : ℕ → ExitCall → Bool
@@ -62,11 +64,14 @@ exit_asks_for n _ = false
 
 -- so are exit procedures
 abbrev pub ExitsRefuseTheAbsent : Type 0
-ExitsRefuseTheAbsent = (s : State) (t n : ℕ) → is_id s n ≡ false → (x : ExitCall) → IsTrue (exit_asks_for n x) → exit_case s t x ≡ refusal_case s error.NonExist
+ExitsRefuseTheAbsent = (s : State) (t n : ℕ) → is_id s n ≡ false → (x : ExitCall)
+    → IsTrue (exit_asks_for n x) → exit_case s t x ≡ refusal_case s error.NonExist
 
 -- CvSend asks for the condition and the caller's last lock before; where both are fine, it is refused so too
 abbrev pub CondSendRefusesTheAbsent : Type 0
-CondSendRefusesTheAbsent = (s : State) (t n c : ℕ) → is_id s n ≡ false → (is_no_condition s c).0 ≡ false → (is_not_last s t c).0 ≡ false → case_of s t (call.CvSend c n) ≡ refusal_case s error.NonExist
+CondSendRefusesTheAbsent = (s : State) (t n c : ℕ) → is_id s n ≡ false
+    → (is_no_condition s c).0 ≡ false → (is_not_last s t c).0 ≡ false
+    → case_of s t (call.CvSend c n) ≡ refusal_case s error.NonExist
 
 -- what moves a pod on: a call of whoever has the turn, or an event with its text
 pub data Move : Type 0 where

@@ -24,7 +24,8 @@ use Rattle.lwp_types.specs.declared.call.Mode.TheVariants as mode
 abbrev pub due_answer : State → ℕ → Effect
 due_answer s t = effect.Answered t (if is_asleep_in s t then zero_answer else timeout_answer)
 
--- it tells that the clock has ticked, and then each thread whose timer is due, once, in the order in which the timers arrived
+-- it tells that the clock has ticked, and then each thread whose timer is due, once, in the order in which the timers
+-- arrived
 pub record TickAnswers (s : State) : Type 0 where
   pub told : (tick s).effects ≡ effect.Ticked (s.now + 1) ∷ map (due_answer s) (due_threads (after_tick s))
   pub once : (t : ℕ) → times_in (due_threads (after_tick s)) t ≤ 1
@@ -35,7 +36,8 @@ TicksAnswerTheDue = (s : State) → Lawful s None → TickAnswers s
 
 -- Timers go with the waits.
 
--- whoever goes on, or begins to die, has no timer from then on; and who may run has none, so that none is left where it waits again
+-- whoever goes on, or begins to die, has no timer from then on; and who may run has none, so that none is left where it
+-- waits again
 pub record EndsTimers (s : State) (t : ℕ) : Type 0 where
   pub goes_on : timers_of (after_unblock s t).timers t ≡ 0
   pub dies : timers_of (withdraw t s).after.timers t ≡ 0

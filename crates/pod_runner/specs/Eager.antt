@@ -48,7 +48,8 @@ after_offer_by planned e plan (Some line) = after_take planned e line plan
 
 -- the same, if it can be delivered
 abbrev pub after_offer : {B : Type 0} → Planned B → ℕ → Plan B → Plan B
-after_offer planned e plan = elim (is_takeable (pod_of plan) e) [ true ↦ after_offer_by planned e plan (first_left plan.left e) | false ↦ plan ]
+after_offer planned e plan =
+    elim (is_takeable (pod_of plan) e) [ true ↦ after_offer_by planned e plan (first_left plan.left e) | false ↦ plan ]
 
 -- between two calls, each event in turn may have one line taken
 abbrev pub boundary : {B : Type 0} → Planned B → Plan B → Plan B
@@ -68,7 +69,8 @@ plan_over planned plan = over planned.turns (pod_of plan) plan.calls plan.left
 
 -- lines are taken, and then, if somebody may run, a call is made
 abbrev pub after_advance : {B : Type 0} → Planned B → Plan B → Plan B
-after_advance planned plan = elim (has_choice plan) [ true ↦ one_call planned (boundary planned plan) | false ↦ boundary planned plan ]
+after_advance planned plan =
+    elim (has_choice plan) [ true ↦ one_call planned (boundary planned plan) | false ↦ boundary planned plan ]
 
 -- the same, unless it has ended
 abbrev pub round : {B : Type 0} → Planned B → Plan B → Plan B
@@ -77,7 +79,8 @@ round planned plan = elim (plan_over planned plan) [ None ↦ after_advance plan
 -- on and on, until it has ended; the number bounds the rounds
 unfoldable pub to_the_end : {B : Type 0} → Planned B → ℕ → Plan B → Plan B
 to_the_end planned zero plan = plan
-to_the_end planned (suc n) plan = elim (plan_over planned plan) [ None ↦ to_the_end planned n (after_advance planned plan) | Some halt ↦ plan ]
+to_the_end planned (suc n) plan =
+    elim (plan_over planned plan) [ None ↦ to_the_end planned n (after_advance planned plan) | Some halt ↦ plan ]
 
 -- the same with as many rounds as suffice, since each makes a call or takes a line
 abbrev pub after_finish : {B : Type 0} → Planned B → Plan B → Plan B
@@ -91,7 +94,8 @@ opening_plan planned left = record { session = opening_session planned.setting; 
 unfoldable pub plan_whole : {B : Type 0} → Planned B → Shelves → Plan B
 plan_whole planned left = after_finish planned (opening_plan planned left)
 
--- what was done so far is the first part of what is done in the end: the first steps, the first takes, and no more calls
+-- what was done so far is the first part of what is done in the end: the first steps, the first takes, and no more
+-- calls
 pub record IsFirstPart {B : Type 0} (plan whole : Plan B) : Type 0 where
   pub rest : List Made
   pub steps : whole.session.steps ≡ plan.session.steps ++ rest

@@ -18,24 +18,32 @@ pub record Takes {B P : Type 0} (next : Next B) (bodies : P → List B) (old new
   pub more : length old.takes ≤ length new.takes
   -- somebody may run still
   pub turn : phase_now next bodies old ≡ phase.Turn → phase_now next bodies new ≡ phase.Turn
-  -- as long as somebody may run, no event waits that didn't; a line that wakes the first one may make trapped events wait
-  pub fewer : IsCalm next bodies old new → (e : ℕ) → is_takeable (session_of next bodies new).live.pod e ≡ true → is_takeable (session_of next bodies old).live.pod e ≡ true
+  -- as long as somebody may run, no event waits that didn't; a line that wakes the first one may make trapped events
+  -- wait
+  pub fewer : IsCalm next bodies old new → (e : ℕ)
+      → is_takeable (session_of next bodies new).live.pod e ≡ true
+      → is_takeable (session_of next bodies old).live.pod e ≡ true
 
 -- an inlet whose event waits still was looked at; and if no line was taken at all, it was found empty
-pub record IsSeen {B P : Type 0} (next : Next B) (bodies : P → List B) (old new : Played P) (t u : Intake) : Type 0 where
+pub record IsSeen {B P : Type 0} (next : Next B) (bodies : P → List B) (old new : Played P)
+    (t u : Intake) : Type 0 where
   pub looked : phase_now next bodies old ≡ phase.Turn → IsWanted next bodies new u → looks t < looks u
-  pub found : length new.takes ≡ length old.takes → IsWanted next bodies new u → (t.finds < u.finds) × (IsInletTold u → IsInletTaken u)
+  pub found : length new.takes ≡ length old.takes → IsWanted next bodies new u
+      → (t.finds < u.finds) × (IsInletTold u → IsInletTaken u)
 
 -- the inlet at this place was served, and no other
-pub record ServesAt {B P : Type 0} (next : Next B) (bodies : P → List B) (i : ℕ) (old new : Played P) (before after : List Intake) : Type 0 where
+pub record ServesAt {B P : Type 0} (next : Next B) (bodies : P → List B) (i : ℕ)
+    (old new : Played P) (before after : List Intake) : Type 0 where
   pub takes : Takes next bodies old new
   pub seen : (d : Intake) → IsSeen next bodies old new (slice_index_or before i d) (slice_index_or after i d)
   pub others : (k : ℕ) (d : Intake) → k ≢ i → slice_index_or after k d ≡ slice_index_or before k d
 
 -- so many inlets were served, from the first on, and no other
-pub record Serves {B P : Type 0} (next : Next B) (bodies : P → List B) (n : ℕ) (old new : Played P) (before after : List Intake) : Type 0 where
+pub record Serves {B P : Type 0} (next : Next B) (bodies : P → List B) (n : ℕ) (old new : Played P)
+    (before after : List Intake) : Type 0 where
   pub takes : Takes next bodies old new
-  pub seen : (k : ℕ) (d : Intake) → k < n → k < length before → IsSeen next bodies old new (slice_index_or before k d) (slice_index_or after k d)
+  pub seen : (k : ℕ) (d : Intake) → k < n → k < length before
+      → IsSeen next bodies old new (slice_index_or before k d) (slice_index_or after k d)
   pub others : (k : ℕ) (d : Intake) → n ≤ k → slice_index_or after k d ≡ slice_index_or before k d
 
 -- the inlets from one place on, up to another, have events below this one

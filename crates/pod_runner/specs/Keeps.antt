@@ -7,9 +7,10 @@ use Rattle.pod_runner.specs.Session.{Live, Setting}
 use Rattle.pod_runner.specs.declared.session.Took.{Took}
 use Rattle.std.specs.Prelude.{Bool, List, false, ℕ, ◌<◌, ◌^◌, ◌≡◌, ◌≤◌}
 
--- the procedures have their names, there is such a session, with no more calls than are allowed, which a u64 can count, and unless the
--- run has failed the parts stand as it does, and have the effects of its last step
-pub record Keeps {B : Type 0} (setting : Setting B) (names procs : List (List ℕ)) (live : Live B) (told : List Effect) (takes : List Took) (calls turns : ℕ) (failed : Bool) : Type 0 where
+-- the procedures have their names, there is such a session, with no more calls than are allowed, which a u64 can count,
+-- and unless the run has failed the parts stand as it does, and have the effects of its last step
+pub record Keeps {B : Type 0} (setting : Setting B) (names procs : List (List ℕ)) (live : Live B)
+    (told : List Effect) (takes : List Took) (calls turns : ℕ) (failed : Bool) : Type 0 where
   pub named : procs ≡ names
   pub made : IsDefined setting takes calls
   pub room : calls ≤ turns

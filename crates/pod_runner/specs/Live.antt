@@ -22,7 +22,8 @@ use Rattle.trace_text.specs.declared.ends.Halt.TheVariants as halts
 -- ---- what a run goes on by
 
 -- a run has gone on by these takes, and calls: what was done before stands first, and each take came behind it
-pub record Extends {B P : Type 0} (next : Next B) (bodies : P → List B) (old new : Played P) (later : List Took) : Type 0 where
+pub record Extends {B P : Type 0} (next : Next B) (bodies : P → List B) (old new : Played P)
+    (later : List Took) : Type 0 where
   pub takes : new.takes ≡ old.takes ++ later
   pub calls_up : old.calls ≤ new.calls
   pub between : All (λ took. (old.calls ≤ took.turn) × (took.turn ≤ new.calls)) later
@@ -51,7 +52,8 @@ may_lose (Err fails.NoMemory) = 1
 may_lose (Err fails.WriteFault) = 0
 
 -- a run has gone on by the lines that its inlets gave, each of which gave those of its event; a lost one doesn't count
-pub record Draws {B P : Type 0} (next : Next B) (bodies : P → List B) (old new : Played P) (before after : List Intake) (most : ℕ) : Type 0 where
+pub record Draws {B P : Type 0} (next : Next B) (bodies : P → List B) (old new : Played P)
+    (before after : List Intake) (most : ℕ) : Type 0 where
   pub later : List Took
   pub lost : List Took
   pub extends : Extends next bodies old new later
@@ -60,7 +62,8 @@ pub record Draws {B P : Type 0} (next : Next B) (bodies : P → List B) (old new
   pub known : All (λ took. HasEvent before took.event) (later ++ lost)
 
 -- what a run, its inlets and a sink come to together
-pub record LivesOn {B P T : Type 0} (next : Next B) (bodies : P → List B) (proc_names : P → List (List ℕ)) (stream : Stream)
+pub record LivesOn {B P T : Type 0} (next : Next B) (bodies : P → List B)
+    (proc_names : P → List (List ℕ)) (stream : Stream)
     (old new : Played P) (before after : List Intake) (result : Result T RunErr) : Type 0 where
   -- it went on, and told its steps
   pub ran : RunsOn next bodies proc_names stream old new result
@@ -79,10 +82,12 @@ armed_count next bodies run e = length (armed_calls (setting_of next bodies run)
 
 -- an inlet was looked at as often, at least, as calls were added before which a line of its event could be taken
 abbrev pub LooksAt : {B P : Type 0} → Next B → (P → List B) → Played P → Played P → Intake → Intake → Type 0
-LooksAt next bodies old new t u = armed_count next bodies new t.event + looks t ≤ armed_count next bodies old t.event + looks u
+LooksAt next bodies old new t u = armed_count next bodies new t.event + looks t
+    ≤ armed_count next bodies old t.event + looks u
 
 -- so it is of each inlet
-abbrev pub LooksAtAll : {B P : Type 0} → Next B → (P → List B) → Played P → Played P → List Intake → List Intake → Type 0
+abbrev pub LooksAtAll : {B P : Type 0} → Next B → (P → List B) → Played P → Played P → List Intake
+    → List Intake → Type 0
 LooksAtAll next bodies old new before after = EachInlet (LooksAt next bodies old new) before after
 
 -- ---- what a live run answers
@@ -97,7 +102,8 @@ NoneComes next bodies run inlets = AllTold inlets × All (λ t. IsWanted next bo
 
 -- the run has ended so, where no line is left that can be delivered; stuck only where none comes
 abbrev pub Halts : {B P : Type 0} → Next B → (P → List B) → Played P → List Intake → Halt → Type 0
-Halts next bodies run inlets halt = EndsAt next bodies run [] halt × (halt ≡ halts.Stuck → NoneComes next bodies run inlets)
+Halts next bodies run inlets halt = EndsAt next bodies run [] halt
+    × (halt ≡ halts.Stuck → NoneComes next bodies run inlets)
 
 -- nobody may run, some pass is still out, and of each event that waits no line was found in this call
 abbrev pub IsQuiet : {B P : Type 0} → Next B → (P → List B) → Played P → List Intake → List Intake → Type 0
@@ -111,6 +117,7 @@ Answers next bodies run before after (live.Halt halt) = Halts next bodies run af
 Answers next bodies run before after live.Quiet = IsQuiet next bodies run before after
 
 -- an answer, if there is one, is right
-abbrev pub AnswersIf : {B P : Type 0} → Next B → (P → List B) → Played P → List Intake → List Intake → Option Live → Type 0
+abbrev pub AnswersIf : {B P : Type 0} → Next B → (P → List B) → Played P → List Intake → List Intake
+    → Option Live → Type 0
 AnswersIf next bodies run before after None = Unit {0}
 AnswersIf next bodies run before after (Some answer) = Answers next bodies run before after answer

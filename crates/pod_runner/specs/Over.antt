@@ -19,11 +19,13 @@ can_take es left e = is_takeable es e && is_some (first_left left e)
 abbrev pub is_wanted : EventState → Shelves → Bool
 is_wanted es left = list_any (λ e. can_take es left e) events
 
--- while the pod goes on: with nobody to run, a session is stuck unless a line can be taken; with somebody, it goes on until all calls allowed were made
+-- while the pod goes on: with nobody to run, a session is stuck unless a line can be taken; with somebody, it goes on
+-- until all calls allowed were made
 abbrev pub halt_if : ℕ → ℕ → Bool → Option ℕ → Option Halt
 halt_if turns calls wanted None = if wanted then None else Some Stuck
 halt_if turns calls wanted (Some t) = if nat_le turns calls then Some Spent else None
 
 -- how a session has ended, if it has: from the calls allowed, the pod, the calls made and the lines left
 abbrev pub over : ℕ → EventState → ℕ → Shelves → Option Halt
-over turns es calls left = if es.state.ended then Some (Ended es.state.status) else halt_if turns calls (is_wanted es left) (choice es.state)
+over turns es calls left = if es.state.ended then Some (Ended es.state.status)
+    else halt_if turns calls (is_wanted es left) (choice es.state)

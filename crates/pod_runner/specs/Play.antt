@@ -11,7 +11,8 @@ session_of_calls setting (suc n) = call_step setting (session_of_calls setting n
 -- after so many calls, if this was the last take, and `before` tells the sessions without it
 abbrev pub with_take : {B : Type 0} → Setting B → Took → (ℕ → Session B) → ℕ → Session B
 with_take setting took before zero = take_step setting took (before 0)
-with_take setting took before (suc n) = if took.turn == suc n then take_step setting took (before (suc n)) else call_step setting (with_take setting took before n)
+with_take setting took before (suc n) = if took.turn == suc n then take_step setting took (before (suc n))
+    else call_step setting (with_take setting took before n)
 
 -- these takes, the newest first, and so many calls
 abbrev pub session_of_takes : {B : Type 0} → Setting B → List Took → ℕ → Session B

@@ -21,7 +21,8 @@ AreRising [] = Unit {0}
 AreRising (row ∷ rows) = AllByRecursion (λ later. row.tid < later.tid) rows × AreRising rows
 
 -- the row's body was polled: it gave this call, and left these rows and names
-pub record Polls {B : Type 0} (next : Next B) (row : Row B) (known : Names) (call : Call) (i : ℕ) (rows left : List (Row B)) (after : Names) : Type 0 where
+pub record Polls {B : Type 0} (next : Next B) (row : Row B) (known : Names) (call : Call) (i : ℕ)
+    (rows left : List (Row B)) (after : Names) : Type 0 where
   pub gives : call ≡ (next row.body known row.answer).0
   pub leaves : left ≡ slice_set rows i (record row { body = (next row.body known row.answer).1 })
   pub names : after ≡ (next row.body known row.answer).2

@@ -63,7 +63,12 @@ planned_of next bodies run = record { setting = setting_of next bodies run; turn
 
 -- how far such a session is, if it is where the run is, and these lines are left
 abbrev pub plan_now : {B P : Type 0} → Next B → (P → List B) → Played P → Shelves → Plan B
-plan_now next bodies run stock = record { session = session_of next bodies run; calls = run.calls; left = stock; takes = run.takes }
+plan_now next bodies run stock = record {
+  session = session_of next bodies run;
+  calls = run.calls;
+  left = stock;
+  takes = run.takes;
+}
 
 -- with these lines left, the run has ended so
 abbrev pub EndsAt : {B P : Type 0} → Next B → (P → List B) → Played P → Shelves → Halt → Type 0
@@ -101,7 +106,8 @@ Writes old new before after = (base : Option (List ℕ)) → old ≡ after_appen
 
 -- the same, but only as far as some prefix of the longer one
 abbrev pub WritesPart : Option (List ℕ) → Option (List ℕ) → List ℕ → List ℕ → Type 0
-WritesPart old new before after = (base : Option (List ℕ)) → old ≡ after_append base before → AppendsPrefix base new after
+WritesPart old new before after = (base : Option (List ℕ)) → old ≡ after_append base before
+    → AppendsPrefix base new after
 
 -- what is told, with the first of these bytes at its end: as many as `least` has, or more, and not all
 pub record AppendsCut (old new : Option (List ℕ)) (least bytes : List ℕ) : Type 0 where
@@ -112,7 +118,8 @@ pub record AppendsCut (old new : Option (List ℕ)) (least bytes : List ℕ) : T
 
 -- what is told goes from a trace to a longer one that is cut off, behind all of `least`
 abbrev pub WritesCut : Option (List ℕ) → Option (List ℕ) → List ℕ → List ℕ → List ℕ → Type 0
-WritesCut old new before least after = (base : Option (List ℕ)) → old ≡ after_append base before → AppendsCut base new least after
+WritesCut old new before least after = (base : Option (List ℕ)) → old ≡ after_append base before
+    → AppendsCut base new least after
 
 -- all was written, from one trace to another, and no fault came
 abbrev pub Wrote : Stream → List ℕ → List ℕ → Type 0
@@ -120,7 +127,8 @@ Wrote stream before after = Writes stream.old stream.new before after × IsFault
 
 -- it broke off behind all of `least`, and a fault came
 abbrev pub Broke : Stream → List ℕ → List ℕ → List ℕ → Type 0
-Broke stream before least after = WritesCut stream.old stream.new before least after × IsFaulty stream × (stream.faults_old ≤ stream.faults_new)
+Broke stream before least after = WritesCut stream.old stream.new before least after
+    × IsFaulty stream × (stream.faults_old ≤ stream.faults_new)
 
 -- by this result, all was written, or it broke off; where memory was wanting, what was done until then was written
 abbrev pub Tells : {T : Type 0} → Stream → List ℕ → List ℕ → List ℕ → Result T RunErr → Type 0

@@ -16,7 +16,8 @@ abbrev pub last_step_effects : {B : Type 0} → RunParts B → List Effect
 last_step_effects parts = with_call_by parts.caller parts.call parts.effects
 
 -- a step was made, in which this line was taken, if any, and these are its lines; the procedures are named so
-pub record Moves {B : Type 0} (procs : List (List ℕ)) (line : Option Line) (move : Move B) (new : Live B) (told : List Effect) (out : List ℕ) : Type 0 where
+pub record Moves {B : Type 0} (procs : List (List ℕ)) (line : Option Line) (move : Move B)
+    (new : Live B) (told : List Effect) (out : List ℕ) : Type 0 where
   pub live : new ≡ move.live
   pub effects : told ≡ move.effects
   pub lines : out ≡ step_lines procs line move.effects

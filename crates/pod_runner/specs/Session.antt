@@ -27,7 +27,8 @@ pub record Setting (B : Type 0) : Type 0 where
   -- the names at the start
   pub names : Names
 
--- how a session stands: the pod with its own events, each live thread's body and what it was answered last, and the names
+-- how a session stands: the pod with its own events, each live thread's body and what it was answered last, and the
+-- names
 pub record Live (B : Type 0) : Type 0 where
   pub pod : EventState
   pub rows : List (Row B)
@@ -125,7 +126,8 @@ call_move bodies live t reply = let out = event_step live.pod reply.0 in record 
 -- the body of a thread is polled, and its call is made
 abbrev pub move_row : {B : Type 0} → Next B → List B → Live B → ℕ → Option (Row B) → Move B
 move_row next bodies live t None = no_move live
-move_row next bodies live t (Some row) = call_move bodies live t (next row.body (names_for_poll t live.names) row.answer)
+move_row next bodies live t (Some row) =
+    call_move bodies live t (next row.body (names_for_poll t live.names) row.answer)
 
 -- the same, of the thread that was chosen, if one was
 abbrev pub move_by : {B : Type 0} → Next B → List B → Live B → Option ℕ → Move B
@@ -148,7 +150,11 @@ take_move bodies took live = let out = take_event live.pod took.event took.line.
 -- the first thread alone, before its first call
 abbrev pub opening_session : {B : Type 0} → Setting B → Session B
 opening_session setting = record {
-  live = record { pod = quiet_events (opening setting.params); rows = rows_of_new 0 (slice_get setting.bodies 0); names = setting.names };
+  live = record {
+    pod = quiet_events (opening setting.params);
+    rows = rows_of_new 0 (slice_get setting.bodies 0);
+    names = setting.names;
+  };
   steps = [];
 }
 

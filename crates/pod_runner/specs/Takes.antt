@@ -5,7 +5,11 @@ use Rattle.std.specs.Prelude.{List, [], ℕ, ◌∷◌}
 
 -- a take, with its text
 abbrev pub take_of : TakeRow → List ℕ → Took
-take_of row text = record { turn = row.turn; line = record { client = row.client; seq = row.seq; text = text }; event = row.event }
+take_of row text = record {
+  turn = row.turn;
+  line = record { client = row.client; seq = row.seq; text = text };
+  event = row.event;
+}
 
 -- the takes of these rows, whose texts are these
 abbrev pub takes_of : List TakeRow → List (List ℕ) → List Took

@@ -24,7 +24,8 @@ schedule_of slots order rows maxpri places = record {
 }
 
 -- list 0 of the slots is of the known threads, and list 1 of the free ones
-pub record IsHeld (slots : Lists) (order : Order) (rows : List Known) (slot_of : ℕ → Option ℕ) (map_len room maxpri places : ℕ) : Type 0 where
+pub record IsHeld (slots : Lists) (order : Order) (rows : List Known) (slot_of : ℕ → Option ℕ)
+    (map_len room maxpri places : ℕ) : Type 0 where
   pub lists : length slots.lists ≡ 256
   pub slot_room : 256 + places ≤ slots.limit
   pub levels : order.levels ≡ 256

@@ -1,4 +1,5 @@
--- A scheduler beside the machine: what it is to know the machine's threads, and that each change of the one is the other's.
+-- A scheduler beside the machine: what it is to know the machine's threads, and that each change of the one is the
+-- other's.
 use Rattle.lwp_types.specs.Choice as choice
 use Rattle.lwp_types.specs.Death as death
 use Rattle.lwp_types.specs.Lawful.{is_same_option}
@@ -16,7 +17,12 @@ use Rattle.std.specs.Prelude.{List, None, Option, Some, false, if◌then◌else�
 
 -- what a scheduler knows of a thread of the machine
 abbrev pub known_of : ThreadRow → Known
-known_of row = record { tid = row.number; prio = row.priority; suspended = row.suspended; blocked = not (is_not_blocked row.block) }
+known_of row = record {
+  tid = row.number;
+  prio = row.priority;
+  suspended = row.suspended;
+  blocked = not (is_not_blocked row.block);
+}
 
 -- what it knows of thread t: the dying one has left it
 abbrev pub known_unless_dying : Option ℕ → State → ℕ → Option Known
@@ -48,19 +54,22 @@ KeepsShown dying change move = (v : Schedule) (s : State) → Shows dying v s �
 
 -- a thread dies: the scheduler forgets it as the machine withdraws it, and has nothing to do as it is buried
 pub record DeathsAreShown : Type 0 where
-  pub begins : (v : Schedule) (s : State) (t : ℕ) → Shows None v s → Shows (Some t) (sched.after_leave v t) (death.withdraw t s).after
+  pub begins : (v : Schedule) (s : State) (t : ℕ) → Shows None v s
+      → Shows (Some t) (sched.after_leave v t) (death.withdraw t s).after
   pub ends : (v : Schedule) (s : State) (t : ℕ) → Shows (Some t) v s → Shows None v (death.bury t s).after
 
 -- threads begin to wait, and go on
 pub record WaitsAreShown (dying : Option ℕ) (t : ℕ) : Type 0 where
-  pub blocked : (b : Block) → is_not_blocked b ≡ false → KeepsShown dying (λ v. sched.after_block v t) (λ s. unblock.after_block s t b)
+  pub blocked : (b : Block) → is_not_blocked b ≡ false
+      → KeepsShown dying (λ v. sched.after_block v t) (λ s. unblock.after_block s t b)
   pub unblocked : KeepsShown dying (λ v. sched.after_unblock v t) (λ s. unblock.after_unblock s t)
 
 -- threads are suspended, resumed and given priorities
 pub record FlagsAreShown (dying : Option ℕ) (t : ℕ) : Type 0 where
   pub suspended : KeepsShown dying (λ v. sched.after_suspend v t) (λ s. threads.after_suspend s t)
   pub resumed : KeepsShown dying (λ v. sched.after_resume v t) (λ s. threads.after_resume s t)
-  pub prioritized : (p : ℕ) → KeepsShown dying (λ v. sched.after_set_priority v t p) (λ s. threads.after_set_priority s t p)
+  pub prioritized : (p : ℕ)
+      → KeepsShown dying (λ v. sched.after_set_priority v t p) (λ s. threads.after_set_priority s t p)
   pub raised : (p : ℕ) → KeepsShown dying (λ v. sched.with_maxpri v p) (λ (s : State). record s { maxpri = p })
 
 -- threads take turns
@@ -71,8 +80,10 @@ pub record TurnsAreShown : Type 0 where
 
 -- a thread is born, where nobody is dying
 abbrev pub BirthsAreShown : Type 0
-BirthsAreShown = (v : Schedule) (s : State) (prio : ℕ) (flags : Flags) → Shows None v s → Shows None (sched.after_admit v s.births prio flags.suspended) (threads.after_create s prio flags)
+BirthsAreShown = (v : Schedule) (s : State) (prio : ℕ) (flags : Flags) → Shows None v s
+    → Shows None (sched.after_admit v s.births prio flags.suspended) (threads.after_create s prio flags)
 
 -- the marks of a thread are no concern of a scheduler
 abbrev pub MarksAreHidden : Type 0
-MarksAreHidden = (dying : Option ℕ) (t : ℕ) (ms : List Mark) (v : Schedule) (s : State) → Shows dying v s → Shows dying v (machine.with_marks_of s t ms)
+MarksAreHidden = (dying : Option ℕ) (t : ℕ) (ms : List Mark) (v : Schedule) (s : State)
+    → Shows dying v s → Shows dying v (machine.with_marks_of s t ms)

@@ -23,7 +23,8 @@ abbrev pub counts_from : ℕ → List ℕ → List Line → List ℕ
 counts_from c [] left = []
 counts_from c (event ∷ clients) left = length (of c left) ∷ counts_from (c + 1) clients left
 
--- a program with its clients: the names of its procedures, each client's event, the lines they post, and how many calls are allowed
+-- a program with its clients: the names of its procedures, each client's event, the lines they post, and how many calls
+-- are allowed
 pub record Asked (B : Type 0) : Type 0 where
   pub setting : Setting B
   pub procs : List (List ℕ)
@@ -41,8 +42,8 @@ pub record Reach : Type 0 where
 abbrev pub opening_reach : {B : Type 0} → Asked B → Reach
 opening_reach asked = record { takes = []; calls = 0; left = asked.posts }
 
--- There is such a session: each take and each call was due, and no more calls were made than are allowed. Of each client, the lines
--- taken are its first, in order, and then come those left.
+-- There is such a session: each take and each call was due, and no more calls were made than are allowed. Of each
+-- client, the lines taken are its first, in order, and then come those left.
 pub record IsReached {B : Type 0} (asked : Asked B) (at : Reach) : Type 0 where
   pub due : IsDefined asked.setting at.takes at.calls
   pub room : at.calls ≤ asked.turns

@@ -1,8 +1,8 @@
 -- What is seen of the recorded bytes while they are followed.
 use Rattle.std.specs.Prelude.{List, [], length, take, ℕ, ◌++◌, ◌∷◌, ◌≡◌, ◌⊎◌}
 
--- what was recorded, how far it was told, of how many lines that is, how often the clock has ticked by then, and what a step has
--- told since
+-- what was recorded, how far it was told, of how many lines that is, how often the clock has ticked by then, and what a
+-- step has told since
 pub record Following : Type 0 where
   pub recorded : List ℕ
   pub at : ℕ

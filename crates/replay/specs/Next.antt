@@ -59,7 +59,9 @@ take_in lines now e c = if event_in lines c == e then take_lines now e (next_in 
 
 -- that of the lowest client of an event of which a line can be taken
 abbrev pub take_at : ClientsLeft → EventState → ℕ → Option (List ℕ)
-take_at lines pod e = if is_takeable pod e then first_result (take_in lines pod.state.now e) (range_with_len 0 (length lines.clients)) else None
+take_at lines pod e = if is_takeable pod e
+    then first_result (take_in lines pod.state.now e) (range_with_len 0 (length lines.clients))
+    else None
 
 -- that of the lowest event
 abbrev pub lowest_in : ClientsLeft → EventState → Option (List ℕ)
@@ -68,7 +70,11 @@ lowest_in lines pod = first_result (take_at lines pod) events
 -- no take is told, and how it goes on by where the session stands
 abbrev pub Goes : ClientsLeft → EventState → ℕ → ℕ → List ℕ → Next → Type 0
 Goes lines pod turns calls rest (next.Take told) = IsTold lines pod rest told.client told.line
-Goes lines pod turns calls rest next.Call = NoneTold lines pod rest (length lines.clients) × (phase_of pod.state turns calls ≡ phase.Turn) × (tells_take rest ≡ true → lowest_in lines pod ≡ None)
-Goes lines pod turns calls rest (next.Over halt) = NoneTold lines pod rest (length lines.clients) × (phase_of pod.state turns calls ≡ phase_of_halt halt) × (halt ≡ halts.Stuck → lowest_in lines pod ≡ None)
-Goes lines pod turns calls rest (next.Missing line) = NoneTold lines pod rest (length lines.clients) × (lowest_in lines pod ≡ Some line.items)
-    × ((phase_of pod.state turns calls ≡ phase.Idle) ⊎ ((phase_of pod.state turns calls ≡ phase.Turn) × (tells_take rest ≡ true)))
+Goes lines pod turns calls rest next.Call = NoneTold lines pod rest (length lines.clients)
+    × (phase_of pod.state turns calls ≡ phase.Turn) × (tells_take rest ≡ true → lowest_in lines pod ≡ None)
+Goes lines pod turns calls rest (next.Over halt) = NoneTold lines pod rest (length lines.clients)
+    × (phase_of pod.state turns calls ≡ phase_of_halt halt) × (halt ≡ halts.Stuck → lowest_in lines pod ≡ None)
+Goes lines pod turns calls rest (next.Missing line) = NoneTold lines pod rest (length lines.clients)
+    × (lowest_in lines pod ≡ Some line.items)
+    × ((phase_of pod.state turns calls ≡ phase.Idle)
+    ⊎ ((phase_of pod.state turns calls ≡ phase.Turn) × (tells_take rest ≡ true)))

@@ -25,7 +25,8 @@ pub record IsMost {B : Type 0} (asked : Asked B) (bytes : List ℕ) (n : ℕ) : 
   pub begun : IsBegun asked bytes n
   pub most : (m : ℕ) → IsBegun asked bytes m → m ≤ n
 
--- the steps of a session are those whose first line is among the first n recorded lines, which are the first n of what it has told
+-- the steps of a session are those whose first line is among the first n recorded lines, which are the first n of what
+-- it has told
 pub record IsFollowed {B : Type 0} (asked : Asked B) (bytes : List ℕ) (n : ℕ) (at : Reach) : Type 0 where
   pub reached : IsReached asked at
   pub agree : Agree n bytes (text_at asked at)
@@ -43,7 +44,8 @@ or_else None other = other
 abbrev pub next_of : ℕ → List Line → Option Line
 next_of c left = slice_get (of c left) 0
 
--- the line that tells of a take, where the clock has ticked so often before it: event 0 is the clock, and its take a tick
+-- the line that tells of a take, where the clock has ticked so often before it: event 0 is the clock, and its take a
+-- tick
 abbrev pub take_text : ℕ → ℕ → Line → List ℕ
 take_text now e line = if e == 0 then ticked_text (now + 1) line else taken_text e line
 
@@ -66,7 +68,9 @@ now_at asked at = (session_at asked at).live.pod.state.now
 
 -- of an event of which a line can be taken, that of its lowest client that has one left
 abbrev pub take_of : {B : Type 0} → Asked B → Reach → ℕ → Option (List ℕ)
-take_of asked at e = if is_takeable (session_at asked at).live.pod e then first_result (take_by asked (now_at asked at) at.left e) (range_with_len 0 (length asked.clients)) else None
+take_of asked at e = if is_takeable (session_at asked at).live.pod e
+    then first_result (take_by asked (now_at asked at) at.left e) (range_with_len 0 (length asked.clients))
+    else None
 
 -- that of the lowest event of which a line can be taken, and that has one left
 abbrev pub lowest_take : {B : Type 0} → Asked B → Reach → Option (List ℕ)
@@ -74,7 +78,8 @@ lowest_take asked at = first_result (take_of asked at) events
 
 -- the lines of the next call step
 abbrev pub call_lines : {B : Type 0} → Asked B → Reach → List ℕ
-call_lines asked at = step_lines asked.procs None (move asked.setting.next asked.setting.bodies (session_at asked at).live).effects
+call_lines asked at = step_lines asked.procs None
+    (move asked.setting.next asked.setting.bodies (session_at asked at).live).effects
 
 -- a line begins so
 abbrev pub begins_with : List ℕ → List ℕ → Bool
@@ -92,27 +97,33 @@ asks_take asked at rest = not (is_some (choice (session_at asked at).live.pod.st
 
 -- the lines of the step that was to come: a take, if one was to come and can be made; else a call
 abbrev pub next_lines : {B : Type 0} → Asked B → Reach → List ℕ → List ℕ
-next_lines asked at rest = unwrap_or (if asks_take asked at rest then lowest_take asked at else None) (call_lines asked at)
+next_lines asked at rest =
+    unwrap_or (if asks_take asked at rest then lowest_take asked at else None) (call_lines asked at)
 
--- at a moment between two steps: where the session is over the next line of its end, if there is one; else that of the next step
+-- at a moment between two steps: where the session is over the next line of its end, if there is one; else that of the
+-- next step
 abbrev pub want_between : {B : Type 0} → Asked B → Reach → ℕ → List ℕ → Option Halt → Option (List ℕ)
 want_between asked at n rest (Some halt) = next_line (behind_lines n (text_at asked at))
 want_between asked at n rest None = next_line (next_lines asked at rest)
 
--- the line that was to come behind the first n, where these bytes were recorded behind them: in the midst of a step its next line
+-- the line that was to come behind the first n, where these bytes were recorded behind them: in the midst of a step its
+-- next line
 abbrev pub want_at : {B : Type 0} → Asked B → Reach → ℕ → List ℕ → Option (List ℕ)
-want_at asked at n rest = or_else (next_line (behind_lines n (lines_at asked at))) (want_between asked at n rest (halt_at asked at))
+want_at asked at n rest =
+    or_else (next_line (behind_lines n (lines_at asked at))) (want_between asked at n rest (halt_at asked at))
 
 -- ---- the verdict
 
 -- the bytes are a trace, of so many lines, with these takes and calls
-pub record IsSame {B : Type 0} (asked : Asked B) (bytes : List ℕ) (lines : ℕ) (takes : List Took) (calls : ℕ) : Type 0 where
+pub record IsSame {B : Type 0} (asked : Asked B) (bytes : List ℕ) (lines : ℕ) (takes : List Took)
+    (calls : ℕ) : Type 0 where
   pub left : List Line
   pub trace : IsTraceAt asked (record { takes = takes; calls = calls; left = left }) bytes
   pub count : lines ≡ line_count bytes
 
 -- they are none, and this is the first line that differs
-pub record IsOther {B : Type 0} (asked : Asked B) (bytes : List ℕ) (line : ℕ) (want got : Option (List ℕ)) (ended : Bool) (takes : List Took) (calls : ℕ) : Type 0 where
+pub record IsOther {B : Type 0} (asked : Asked B) (bytes : List ℕ) (line : ℕ)
+    (want got : Option (List ℕ)) (ended : Bool) (takes : List Took) (calls : ℕ) : Type 0 where
   pub none : IsTrace asked bytes → ⊥
   pub n : ℕ
   pub at : line ≡ n + 1

@@ -98,7 +98,8 @@ is_spoken _ = false
 -- in each call step somebody speaks first
 abbrev pub Speaks : {B : Type 0} → Asked B → Type 0
 Speaks asked = (p : Moment) → IsAt asked.setting p → Due asked.setting p None
-    → (e : Effect) × (es : List Effect) × (move_effects asked.setting asked.procs p None ≡ e ∷ es) × (is_spoken e ≡ true)
+    → (e : Effect) × (es : List Effect) × (move_effects asked.setting asked.procs p None ≡ e ∷ es)
+    × (is_spoken e ≡ true)
 
 -- each procedure has a body, and priorities are in their limits
 pub record IsPeopled {B : Type 0} (setting : Setting B) : Type 0 where
@@ -124,7 +125,8 @@ moment asked at = record { takes = at.takes; calls = at.calls }
 
 -- each session that begins with the first n recorded lines goes through this moment
 abbrev pub Forced : {B : Type 0} → Asked B → List ℕ → ℕ → Moment → Type 0
-Forced asked bytes n p = (at : Reach) → IsReached asked at → Agree n bytes (text_at asked at) → Reaches asked.setting p (moment asked at)
+Forced asked bytes n p = (at : Reach) → IsReached asked at → Agree n bytes (text_at asked at)
+    → Reaches asked.setting p (moment asked at)
 
 -- the recorded lines begin with those that are told until this moment, and no other session does
 pub record Stands {B : Type 0} (asked : Asked B) (bytes : List ℕ) (n : ℕ) (p : Moment) (rest : List ℕ) : Type 0 where
@@ -135,7 +137,8 @@ pub record Stands {B : Type 0} (asked : Asked B) (bytes : List ℕ) (n : ℕ) (p
 
 -- each step has told its first line by then
 abbrev pub IsLast : {B : Type 0} → Asked B → Moment → ℕ → Type 0
-IsLast asked p n = (session_of asked.setting p).steps ≡ [] ⊎ (line_count (lines asked.procs (but_last (session_of asked.setting p).steps)) < n)
+IsLast asked p n = (session_of asked.setting p).steps ≡ []
+    ⊎ (line_count (lines asked.procs (but_last (session_of asked.setting p).steps)) < n)
 
 -- the lines left of each client, by number
 pub record ClientsLeft : Type 0 where
@@ -151,9 +154,10 @@ pub record AreLeft (lines : ClientsLeft) (left : List Line) : Type 0 where
 abbrev pub ticks_after : ℕ → ℕ → ℕ
 ticks_after e ticks = if e == 0 && nat_lt ticks 4294967295 then ticks + 1 else ticks
 
--- a walk between two steps, where these lines are left, and `at` of the recorded bytes, which are n lines, were told; the clock has
--- ticked so often
-pub record Going {B : Type 0} (asked : Asked B) (bytes : List ℕ) (p : Moment) (clients : ClientsLeft) (at n ticks : ℕ) : Type 0 where
+-- a walk between two steps, where these lines are left, and `at` of the recorded bytes, which are n lines, were told;
+-- the clock has ticked so often
+pub record Going {B : Type 0} (asked : Asked B) (bytes : List ℕ) (p : Moment)
+    (clients : ClientsLeft) (at n ticks : ℕ) : Type 0 where
   pub left : List Line
   pub reached : IsReached asked (record { takes = p.takes; calls = p.calls; left = left })
   pub same_clients : clients.clients ≡ asked.clients

@@ -54,7 +54,8 @@ format_of (w ∷ v ∷ ws) = None
 
 -- the source was read to its end, or one byte further than a script may be long, and this holds of what was read
 abbrev pub Says : Stream → (List ℕ → Type 0) → Type 0
-Says source says = IsFaultless source × IsReadUp 16777217 source.old source.new × ((text : List ℕ) × HasFront 16777217 source.old text × says text)
+Says source says = IsFaultless source × IsReadUp 16777217 source.old source.new
+    × ((text : List ℕ) × HasFront 16777217 source.old text × says text)
 
 -- all that is told of the text was written
 abbrev pub IsTold : Format → Stream → Grade → List ℕ → Type 0

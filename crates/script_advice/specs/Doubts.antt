@@ -127,7 +127,11 @@ no_way = record { begun = false; skipped = false; closed = false }
 abbrev pub way_by : Role → Op → Way → Way
 way_by role.Proc o w = record { begun = true; skipped = false; closed = false }
 way_by role.Skip o w = record { begun = w.begun; skipped = true; closed = false }
-way_by role.Statement o w = record { begun = w.begun; skipped = false; closed = sameb op_type o op.Return && not w.skipped }
+way_by role.Statement o w = record {
+  begun = w.begun;
+  skipped = false;
+  closed = sameb op_type o op.Return && not w.skipped;
+}
 way_by _ o w = w
 
 abbrev pub way_behind : Way → Phrase → Way
@@ -181,7 +185,8 @@ ahead_of a (line ∷ lines) = ahead_after_line (phrase_at line) (ahead_of a line
 -- a line enters a monitor that isn't left ahead of it
 abbrev pub keeps : Ahead → Option Phrase → Bool
 keeps a None = false
-keeps a (Some p) = not a.strays && nat_lt 0 (length (monitor_entered p.op p)) && not (contains_name a.left (monitor_entered p.op p))
+keeps a (Some p) = not a.strays && nat_lt 0 (length (monitor_entered p.op p))
+    && not (contains_name a.left (monitor_entered p.op p))
 
 -- which of these lines keep a monitor, the last line first
 abbrev pub keeping : Ahead → List (List ℕ) → List Bool
@@ -229,7 +234,8 @@ or_words (b ∷ v) w = b ∷ v
 
 -- the line from the doubtful word on
 abbrev pub doubted_words : Doubt → Op → List ℕ → List ℕ
-doubted_words doubt.Thread o line = or_words (slot_at o kind.Who line) (or_words (slot_at o kind.Source line) (slot_at o kind.Built line))
+doubted_words doubt.Thread o line =
+    or_words (slot_at o kind.Who line) (or_words (slot_at o kind.Source line) (slot_at o kind.Built line))
 doubted_words doubt.Monitor o line = slot_at o kind.Monitor line
 doubted_words doubt.Kept o line = slot_at o kind.Monitor line
 doubted_words doubt.Condition o line = slot_at o kind.Condition line
@@ -273,7 +279,9 @@ with_doubts s w k n line (Some p) others = with_doubt s n line p (doubt_of s w k
 -- the doubts of these lines, of which the first has this number and stands on this way
 abbrev pub doubts_from : Sets → Way → ℕ → List (List ℕ) → List Remark
 doubts_from s w n [] = []
-doubts_from s w n (line ∷ lines) = with_doubts s w (keeps (ahead_of no_ahead lines) (phrase_at line)) n line (phrase_at line) (doubts_from s (way_after_line w (phrase_at line)) (suc n) lines)
+doubts_from s w n (line ∷ lines) =
+    with_doubts s w (keeps (ahead_of no_ahead lines) (phrase_at line)) n line (phrase_at line)
+    (doubts_from s (way_after_line w (phrase_at line)) (suc n) lines)
 
 -- the warnings of a text that spells a script
 abbrev pub doubts : List ℕ → List Remark

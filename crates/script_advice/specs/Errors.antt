@@ -14,8 +14,8 @@ use Rattle.script_advice.specs.Remarks.{Remark, remark_of}
 
 -- ---- A line by itself.
 
--- a line that says this is bad where it starts a procedure that nothing declares; one that says nothing is bad for the reason that it
--- would have among statements
+-- a line that says this is bad where it starts a procedure that nothing declares; one that says nothing is bad for the
+-- reason that it would have among statements
 abbrev pub reason_alone : Declared → List ℕ → Option Phrase → Option Reason
 reason_alone d line None = Some (reason_of stage.Calling line)
 reason_alone d line (Some p) = if is_declared d p then None else Some reason.Statement

@@ -26,7 +26,8 @@ fault_at rest w = record { left = length rest; what = w }
 abbrev pub is_upper : ℕ → Bool
 is_upper b = nat_le 65 b && nat_le b 90
 
--- A word that is empty stands between two spaces. One with an upper-case letter is told by that, and any other by what it isn't.
+-- A word that is empty stands between two spaces. One with an upper-case letter is told by that, and any other by what
+-- it isn't.
 abbrev pub what_of : What → List ℕ → What
 what_of other [] = what.Space
 what_of other (b ∷ bs) = if list_any is_upper (b ∷ bs) then what.UpperCase else other

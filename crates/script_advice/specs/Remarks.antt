@@ -25,8 +25,8 @@ use Rattle.script_advice.specs.declared.remarks.Place.{Place}
 use Rattle.script_advice.specs.declared.remarks.Why.{Why}
 use Rattle.script_advice.specs.declared.remarks.Why.TheVariants as why
 
--- What is told of a line: its number, why it is told, the line, where in it what is wrong, the kind of line whose form is told, and
--- the word that the wrong one is nearly; empty, where it is nearly none.
+-- What is told of a line: its number, why it is told, the line, where in it what is wrong, the kind of line whose form
+-- is told, and the word that the wrong one is nearly; empty, where it is nearly none.
 pub record Remark : Type 0 where
   pub line : ℕ
   pub cause : Cause
@@ -60,9 +60,11 @@ rule_text reason.Header = codes "the first line is lwp 1"
 rule_text reason.Pod = codes "the second line is pod and a number from 1 to 255"
 rule_text reason.Limit = codes "a limit is the third line, and at least 1"
 rule_text reason.Client = codes "clients stand before all procedures, and are counted from 0"
-rule_text reason.Native = codes "a built-in procedure stands behind the clients and before all other procedures, and its name is new"
+rule_text reason.Native =
+    codes "a built-in procedure stands behind the clients and before all other procedures, and its name is new"
 rule_text reason.Proc = codes "a procedure stands before all posts, and its name is new"
-rule_text reason.Post = codes "a post stands behind all procedures, is one of a client above, and of at most 20000 of that client"
+rule_text reason.Post =
+    codes "a post stands behind all procedures, is one of a client above, and of at most 20000 of that client"
 rule_text reason.Again = codes "an again ends its procedure, which doesn't begin with a skip or an again"
 rule_text reason.Statement = codes "a statement stands in a procedure"
 rule_text reason.Missing = codes "the script ends too early: lwp 1, a pod and a procedure have to be there"
@@ -161,7 +163,8 @@ near_key line (Some o) = []
 -- the declared procedure that is nearly the one that the line starts
 abbrev pub near_procedure : Declared → Option Phrase → List ℕ
 near_procedure d None = []
-near_procedure d (Some p) = word_or_none (or_else (nearest (some_names d.procs) p.procedure) (if starts_any p.op then nearest (some_names d.natives) p.procedure else None))
+near_procedure d (Some p) = word_or_none (or_else (nearest (some_names d.procs) p.procedure)
+    (if starts_any p.op then nearest (some_names d.natives) p.procedure else None))
 
 -- the word that the wrong one is nearly, if that is wrong
 unfoldable pub near_of : Declared → Why → List ℕ → List ℕ

@@ -35,17 +35,20 @@ under b = 32
 -- the line, and a caret behind so many bytes of the next; nothing, where the line is empty
 abbrev pub line_with_caret : List ℕ → ℕ → List ℕ
 line_with_caret [] at = []
-line_with_caret (b ∷ bs) at = codes "  " ++ (map shown_byte (b ∷ bs) ++ (codes "\n  " ++ (map under (take at (b ∷ bs)) ++ codes "^\n")))
+line_with_caret (b ∷ bs) at = codes "  "
+    ++ (map shown_byte (b ∷ bs) ++ (codes "\n  " ++ (map under (take at (b ∷ bs)) ++ codes "^\n")))
 
 -- whether it is an error, the number of its line, and why it is told
 unfoldable pub head_text : Remark → List ℕ
-head_text r = severity_text r.cause ++ (codes " line " ++ (decimal r.line ++ (codes ": " ++ (cause_text r.cause ++ codes "\n"))))
+head_text r = severity_text r.cause
+    ++ (codes " line " ++ (decimal r.line ++ (codes ": " ++ (cause_text r.cause ++ codes "\n"))))
 
 -- what is wrong, what may stand there, and what nearly does
 unfoldable pub advice_text : Remark → List ℕ
 advice_text r =
     with_label (codes "here: ") (why_text r.place.why) (codes "\n")
-    ++ (labelled_form (codes "expected: ") r.form (codes "\n") ++ with_label (codes "did you mean: ") r.near (codes "\n"))
+    ++ (labelled_form (codes "expected: ") r.form (codes "\n")
+    ++ with_label (codes "did you mean: ") r.near (codes "\n"))
 
 abbrev pub plain_text : Remark → List ℕ
 plain_text r = head_text r ++ (line_with_caret r.text (column r) ++ advice_text r)
@@ -56,12 +59,14 @@ unfoldable pub json_place : Remark → List ℕ
 json_place r = codes "{\"line\":" ++ (decimal r.line ++ (codes ",\"column\":" ++ decimal (column r + 1)))
 
 unfoldable pub json_reason : Remark → List ℕ
-json_reason r = codes ",\"severity\":\"" ++ (severity_text r.cause ++ (codes "\",\"reason\":\"" ++ (cause_text r.cause ++ codes "\"")))
+json_reason r = codes ",\"severity\":\""
+    ++ (severity_text r.cause ++ (codes "\",\"reason\":\"" ++ (cause_text r.cause ++ codes "\"")))
 
 unfoldable pub json_advice : Remark → List ℕ
 json_advice r =
     with_label (codes ",\"what\":\"") (why_text r.place.why) (codes "\"")
-    ++ (labelled_form (codes ",\"expected\":\"") r.form (codes "\"") ++ with_label (codes ",\"suggestion\":\"") r.near (codes "\""))
+    ++ (labelled_form (codes ",\"expected\":\"") r.form (codes "\"")
+    ++ with_label (codes ",\"suggestion\":\"") r.near (codes "\""))
 
 abbrev pub json_text : Remark → List ℕ
 json_text r = json_place r ++ (json_reason r ++ (json_advice r ++ codes "}\n"))

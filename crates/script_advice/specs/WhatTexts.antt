@@ -7,12 +7,16 @@ use Rattle.script_advice.specs.declared.faults.What.TheVariants as what
 
 -- what may stand in a slot, where something else stands
 abbrev pub kind_text : Kind → List ℕ
-kind_text kind.Thread = codes "no name: 1 to 16 of a to z, digits and _, a letter first, and none of self, first, sender, none and any"
+kind_text kind.Thread =
+    codes "no name: 1 to 16 of a to z, digits and _, a letter first, and none of self, first, sender, none and any"
 kind_text kind.Who = codes "no thread: a name, self, first, sender or none"
 kind_text kind.Source = codes "no thread: a name, self, first, sender, none or any"
-kind_text kind.Procedure = codes "no name: 1 to 16 of a to z, digits and _, a letter first, and none of self, first, sender, none and any"
-kind_text kind.Monitor = codes "no name: 1 to 16 of a to z, digits and _, a letter first, and none of self, first, sender, none and any"
-kind_text kind.Condition = codes "no name: 1 to 16 of a to z, digits and _, a letter first, and none of self, first, sender, none and any"
+kind_text kind.Procedure =
+    codes "no name: 1 to 16 of a to z, digits and _, a letter first, and none of self, first, sender, none and any"
+kind_text kind.Monitor =
+    codes "no name: 1 to 16 of a to z, digits and _, a letter first, and none of self, first, sender, none and any"
+kind_text kind.Condition =
+    codes "no name: 1 to 16 of a to z, digits and _, a letter first, and none of self, first, sender, none and any"
 kind_text kind.Number = codes "no number: decimal, no zeros in front, at most 4294967295"
 kind_text kind.Priority = codes "no number: decimal, no zeros in front, at most 4294967295"
 kind_text kind.Room = codes "no room: a number of at most 240"

@@ -68,9 +68,13 @@ nothing_known = record { agents = []; replies = [] }
 
 -- the same, behind one call more
 abbrev pub known_after_call : Option ℕ → Known → Option Made → Known
-known_after_call event known made = record { agents = agents_after event known.agents made; replies = known.replies ++ texts_told known.agents made }
+known_after_call event known made = record {
+  agents = agents_after event known.agents made;
+  replies = known.replies ++ texts_told known.agents made;
+}
 
--- the call of a step, if it is one: in a step in which a line was taken nobody calls. The result of an exit procedure is no call.
+-- the call of a step, if it is one: in a step in which a line was taken nobody calls. The result of an exit procedure
+-- is no call.
 abbrev pub call_in : Option Took → List Effect → Option Made
 call_in None effects = call_of_effects effects
 call_in (Some took) effects = None

@@ -24,7 +24,8 @@ HasBad (Some told) part = parts_of told ≡ Err part
 -- what the source had left, if it tells, has these parts, and the report on them is this one
 abbrev pub Reports : ℕ → Option (List ℕ) → List ℕ → Type 0
 Reports turns None report = Unit {0}
-Reports turns (Some told) report = (parts : List Part) × (parts_of told ≡ Ok parts) × (report ≡ report_of turns told parts)
+Reports turns (Some told) report = (parts : List Part) × (parts_of told ≡ Ok parts)
+    × (report ≡ report_of turns told parts)
 
 -- this text was read, and has these parts; where the source tells, it is all that there was
 abbrev pub IsInput : Option (List ℕ) → List ℕ → List Part → Type 0
@@ -35,7 +36,8 @@ IsInput (Some told) text parts = (told ≡ text) × (parts_of text ≡ Ok parts)
 abbrev pub IsNoInput : Stream → SessionEnd → Type 0
 IsNoInput source end.ReadFault = IsFaulty source × IsReadWithin most_read source.old source.new
 IsNoInput source end.NoMemory = IsFaultless source × IsReadWithin most_read source.old source.new
-IsNoInput source (end.Input part) = IsFaultless source × IsReadUp most_read source.old source.new × HasBad source.old part
+IsNoInput source (end.Input part) = IsFaultless source × IsReadUp most_read source.old source.new
+    × HasBad source.old part
 IsNoInput source _ = ⊥
 
 -- the whole report was written
@@ -52,11 +54,14 @@ IsCut turns source sink =
 
 -- what each end says
 abbrev pub BatchSays : ℕ → Stream → Stream → SessionEnd → Type 0
-BatchSays turns source sink end.ReadFault = IsFaulty source × IsReadWithin most_read source.old source.new × IsQuiet sink
-BatchSays turns source sink (end.Input part) = IsFaultless source × IsReadUp most_read source.old source.new × HasBad source.old part × IsQuiet sink
+BatchSays turns source sink end.ReadFault = IsFaulty source
+    × IsReadWithin most_read source.old source.new × IsQuiet sink
+BatchSays turns source sink (end.Input part) = IsFaultless source
+    × IsReadUp most_read source.old source.new × HasBad source.old part × IsQuiet sink
 BatchSays turns source sink end.Reported = IsReported turns source sink
 BatchSays turns source sink end.WriteFault = IsCut turns source sink
-BatchSays turns source sink end.NoMemory = IsFaultless source × IsReadWithin most_read source.old source.new × IsQuiet sink
+BatchSays turns source sink end.NoMemory = IsFaultless source
+    × IsReadWithin most_read source.old source.new × IsQuiet sink
 BatchSays turns source sink _ = ⊥
 
 -- what a session of `batch` says: no line is told as taken and no call as made, since there are many sessions

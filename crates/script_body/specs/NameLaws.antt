@@ -35,10 +35,12 @@ by_last : (a : Answer) (last : Option Stmt) (names : Names) → KeepsLengths nam
 by_last a None names = same names
 by_last a (Some s) names = by_stmt a s names
 
-by_taken : (body : ScriptBody) (names : Names) (a : Answer) (now : Option ScriptBody) → KeepsLengths names (poll_of_answer body names a now).2
+by_taken : (body : ScriptBody) (names : Names) (a : Answer) (now : Option ScriptBody)
+    → KeepsLengths names (poll_of_answer body names a now).2
 by_taken body names a None = same names
 by_taken body names a (Some now) = by_last a body.last names
 
-pub script_next-keeps_lengths : (body : ScriptBody) (names : Names) (a : Answer) → KeepsLengths names (script_next body names a).2
+pub script_next-keeps_lengths : (body : ScriptBody) (names : Names) (a : Answer)
+    → KeepsLengths names (script_next body names a).2
 unfolding script_next
 script_next-keeps_lengths body names a = by_taken body names a (after_take body a)

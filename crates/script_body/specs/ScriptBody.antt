@@ -27,7 +27,13 @@ pub record ScriptBody : Type 0 where
 
 -- a thread at the start of a procedure
 abbrev pub script_opening : Script → ℕ → ScriptBody
-script_opening script number = record { script = script; top = opening_frame number; below = []; sender = null_id; last = None }
+script_opening script number = record {
+  script = script;
+  top = opening_frame number;
+  below = [];
+  sender = null_id;
+  last = None;
+}
 
 -- ---- catches
 
@@ -37,7 +43,10 @@ frame_above body depth = slice_index_or body.below depth body.top
 
 -- it is the present one again, and goes on at this place, with so many of its handlers
 abbrev pub back_at : ScriptBody → ℕ → ℕ → ℕ → ScriptBody
-back_at body depth mark place = record body { top = with_caught mark place (frame_above body depth); below = take depth body.below }
+back_at body depth mark place = record body {
+  top = with_caught mark place (frame_above body depth);
+  below = take depth body.below;
+}
 
 -- the same, if its handler of that number is there
 abbrev pub caught_at : ScriptBody → ℕ → ℕ → Option ℕ → Option ScriptBody
@@ -66,7 +75,10 @@ with_frame body number = record body { top = opening_frame number; below = body.
 -- the present procedure has returned, if there is one to return to
 abbrev pub after_return : ScriptBody → Option ScriptBody
 after_return body = if length body.below == 0 then None
-    else Some (record body { top = frame_above body (length body.below - 1); below = take (length body.below - 1) body.below })
+    else Some (record body {
+      top = frame_above body (length body.below - 1);
+      below = take (length body.below - 1) body.below;
+    })
 
 -- the sender is known, if a letter was received
 abbrev pub with_sender_by : Answer → ScriptBody → ScriptBody
@@ -106,7 +118,8 @@ after_take body a = after_take_plain body a body.last
 -- the next statement of a thread that makes a call; past the last one it returns
 abbrev pub stmt_after : Answer → ScriptBody → At
 stmt_after a body =
-    next_stmt a (stmts_at body.script body.top.number) false body.top.place (drop body.top.place (stmts_at body.script body.top.number))
+    next_stmt a (stmts_at body.script body.top.number) false body.top.place
+    (drop body.top.place (stmts_at body.script body.top.number))
 
 -- the thread goes on behind a statement
 abbrev pub behind : ScriptBody → At → ScriptBody

@@ -35,7 +35,8 @@ abbrev pub first_stmt : List Stmt → At
 first_stmt [] = record { stmt = stmt.Return; place = 0 }
 first_stmt (s ∷ rest) = record { stmt = s; place = 1 }
 
--- the next statement that makes a call, from `place` on, where these are left of all; the first of them is passed over, or not
+-- the next statement that makes a call, from `place` on, where these are left of all; the first of them is passed over,
+-- or not
 abbrev pub next_stmt : Answer → List Stmt → Bool → ℕ → List Stmt → At
 next_stmt a all over place [] = record { stmt = stmt.Return; place = place }
 next_stmt a all true place (s ∷ rest) = next_stmt a all false (place + 1) rest

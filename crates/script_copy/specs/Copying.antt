@@ -36,9 +36,11 @@ Holds (Some told) script = Spells told script
 
 -- behind what was written stands the printed text of the script that the source held
 abbrev pub Copies : Option (List ℕ) → Option (List ℕ) → Option (List ℕ) → Type 0
-Copies source before after = (script : Script) × Holds source script × (after ≡ after_append before (text_of_script script))
+Copies source before after = (script : Script) × Holds source script
+    × (after ≡ after_append before (text_of_script script))
 
--- where the failure names a line, it is the first bad one of the bytes that the source had left, with the first reason that fits
+-- where the failure names a line, it is the first bad one of the bytes that the source had left, with the first reason
+-- that fits
 abbrev pub Refuses : Option (List ℕ) → CopyFailure → Type 0
 Refuses (Some told) (failure.Script line why) = verdict told ≡ Err (line, why)
 Refuses (Some told) _ = Unit {0}

@@ -27,7 +27,9 @@ flags_by s n v = record { suspended = s; nolastrites = n; server = v }
 
 -- all flags that there are
 abbrev pub all_flags : List Flags
-all_flags = flags_by false false false ∷ flags_by true false false ∷ flags_by false true false ∷ flags_by true true false ∷ flags_by false false true ∷ flags_by true false true ∷ flags_by false true true ∷ flags_by true true true ∷ []
+all_flags = flags_by false false false ∷ flags_by true false false ∷ flags_by false true false
+    ∷ flags_by true true false ∷ flags_by false false true ∷ flags_by true false true
+    ∷ flags_by false true true ∷ flags_by true true true ∷ []
 
 -- the first of these flags that are written so
 abbrev pub flags_in : List Flags → List ℕ → Option Flags
@@ -43,7 +45,9 @@ abbrev pub value_at : List ℕ → Option Test
 value_at [] = None
 value_at (a ∷ []) = None
 value_at (a ∷ b ∷ []) = None
-value_at (a ∷ b ∷ c ∷ digits) = if a == 105 && b == 115 && c == 32 then option_map (λ n. test.Value n) (number_at digits) else None
+value_at (a ∷ b ∷ c ∷ digits) = if a == 105 && b == 115 && c == 32
+    then option_map (λ n. test.Value n) (number_at digits)
+    else None
 
 -- the test that is written so
 abbrev pub test_at : List ℕ → Option Test
@@ -63,7 +67,9 @@ room_at w = option_and_then within_room (number_at w)
 
 -- whether to wait and for how many ticks, written so
 abbrev pub mode_at : List ℕ → Option Mode
-mode_at w = if bytes_eq w (codes "poll") then Some mode.Poll else if bytes_eq w (codes "wait") then Some mode.Block else option_map (λ ticks. mode.Until ticks) (number_at w)
+mode_at w = if bytes_eq w (codes "poll") then Some mode.Poll
+    else if bytes_eq w (codes "wait") then Some mode.Block
+    else option_map (λ ticks. mode.Until ticks) (number_at w)
 
 -- a client that is written so
 abbrev pub client_at : List ℕ → Option ℕ
@@ -83,7 +89,10 @@ pattern_at w = if bytes_eq w (codes "all") then Some pattern.All else option_map
 
 -- the function of a handler that is written so
 abbrev pub func_at : List ℕ → Option Func
-func_at w = if bytes_eq w (codes "-") then Some func.Nothing else if bytes_eq w (codes "give") then Some func.Give else if bytes_eq w (codes "sum") then Some func.Sum else None
+func_at w = if bytes_eq w (codes "-") then Some func.Nothing
+    else if bytes_eq w (codes "give") then Some func.Give
+    else if bytes_eq w (codes "sum") then Some func.Sum
+    else None
 
 -- what a word is that means a thread, and its bytes if it is a name
 abbrev pub who_at : List ℕ → Option (Whom × List ℕ)
@@ -141,21 +150,28 @@ spaced_name (b ∷ bs) = if b == 32 then name_in bs else None
 
 -- the event and the name of a session: two words, with one space between them
 abbrev pub session_at : List ℕ → Option (ℕ × List ℕ)
-session_at w = option_and_then (λ event. option_map (λ name. (event, name)) (spaced_name (drop (reach 32 w) w))) (agent_event_at (take (reach 32 w) w))
+session_at w = option_and_then
+    (λ event. option_map (λ name. (event, name)) (spaced_name (drop (reach 32 w) w)))
+    (agent_event_at (take (reach 32 w) w))
 
 -- what a built-in procedure is, written so: a store has no event
 abbrev pub built_at : List ℕ → Option (ℕ × List ℕ)
-built_at w = if bytes_eq w (codes "store") then Some (0, []) else if bytes_eq (take 8 w) (codes "session ") then session_at (drop 8 w) else None
+built_at w = if bytes_eq w (codes "store") then Some (0, [])
+    else if bytes_eq (take 8 w) (codes "session ") then session_at (drop 8 w)
+    else None
 
 -- p with what its procedure is filled by all that is left behind one space
 abbrev pub fill_built : Phrase → List ℕ → Option (Phrase × List ℕ)
 fill_built p [] = None
-fill_built p (b ∷ bs) = if b == 32 then option_map (λ x. (record p { event = x.0; thread = x.1 }, [])) (built_at bs) else None
+fill_built p (b ∷ bs) = if b == 32 then option_map (λ x. (record p { event = x.0; thread = x.1 }, [])) (built_at bs)
+    else None
 
 -- p with a slot filled by the word behind one space, and what is left behind the word
 abbrev pub fill_spaced : Kind → Phrase → List ℕ → Option (Phrase × List ℕ)
 fill_spaced k p [] = None
-fill_spaced k p (b ∷ bs) = if b == 32 then option_map (λ q. (q, drop (reach 32 bs) bs)) (fill_word k p (take (reach 32 bs) bs)) else None
+fill_spaced k p (b ∷ bs) = if b == 32
+    then option_map (λ q. (q, drop (reach 32 bs) bs)) (fill_word k p (take (reach 32 bs) bs))
+    else None
 
 -- p with the next slot filled, and what is left
 abbrev pub slot_at : Kind → Phrase → List ℕ → Option (Phrase × List ℕ)

@@ -1,4 +1,5 @@
--- The table of lines: how each kind of line begins, the part that it plays in a script, and its slots. A new kind of line is one row.
+-- The table of lines: how each kind of line begins, the part that it plays in a script, and its slots. A new kind of
+-- line is one row.
 use Rattle.std.specs.Prelude.{ℕ, suc, ◌+◌, Bool, true, ◌&&◌, ◌||◌, List, [], ◌∷◌, nat_le, get_or, map, take, drop, Option, Some, None, codes, if◌then◌else◌}
 use Rattle.std.specs.List.{list_any}
 use Rattle.std.specs.Str.{bytes_eq}
@@ -16,8 +17,8 @@ use Rattle.script_lines.specs.declared.table.Kind.{Kind}
 use Rattle.script_lines.specs.declared.table.Kind.TheVariants as kind
 use Rattle.script_lines.specs.Words.{reach}
 
--- a row of the table: an operation, the word or the two words with which its line begins, the part that the line plays, and what stands
--- behind these words
+-- a row of the table: an operation, the word or the two words with which its line begins, the part that the line plays,
+-- and what stands behind these words
 pub record Row : Type 0 where
   pub op : Op
   pub key : List ℕ
@@ -169,4 +170,6 @@ is_half w = bytes_eq w (codes "limit") || bytes_eq w (codes "onexit")
 
 -- how long the first word is, or the first two where both are the key
 abbrev pub key_length : List ℕ → ℕ
-key_length line = if is_half (take (reach 32 line) line) then suc (reach 32 line) + reach 32 (drop (suc (reach 32 line)) line) else reach 32 line
+key_length line = if is_half (take (reach 32 line) line)
+    then suc (reach 32 line) + reach 32 (drop (suc (reach 32 line)) line)
+    else reach 32 line

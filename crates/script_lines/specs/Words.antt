@@ -25,7 +25,8 @@ is_name_byte b = is_lowercase b || is_ascii_digit b || b == 95
 
 -- the words that mean a thread, or any, without naming one
 abbrev pub is_reserved : List ℕ → Bool
-is_reserved w = bytes_eq w (codes "self") || bytes_eq w (codes "first") || bytes_eq w (codes "sender") || bytes_eq w (codes "none") || bytes_eq w (codes "any")
+is_reserved w = bytes_eq w (codes "self") || bytes_eq w (codes "first")
+    || bytes_eq w (codes "sender") || bytes_eq w (codes "none") || bytes_eq w (codes "any")
 
 -- 1 to 16 bytes, a letter first, and not reserved
 abbrev pub is_name : List ℕ → Bool

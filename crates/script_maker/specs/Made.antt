@@ -22,11 +22,13 @@ client_line line.Quit c = codes "post " ++ (decimal c ++ codes " quit\n")
 
 -- the pod, its clients, the store, and a session for each client
 abbrev pub declarations : ℕ → List ℕ
-declarations threads = codes "lwp 1\npod 2\n" ++ (each (client_line line.Client) threads ++ (codes "native db store\n" ++ each (client_line line.Native) threads))
+declarations threads = codes "lwp 1\npod 2\n"
+    ++ (each (client_line line.Client) threads ++ (codes "native db store\n" ++ each (client_line line.Native) threads))
 
 -- the one procedure: it starts the store and the sessions, and waits for the end of each session
 abbrev pub procedure : ℕ → List ℕ
-procedure threads = codes "proc main\ncreate db db 2 v\n" ++ (each (client_line line.Create) threads ++ each (client_line line.Join) threads)
+procedure threads = codes "proc main\ncreate db db 2 v\n"
+    ++ (each (client_line line.Create) threads ++ each (client_line line.Join) threads)
 
 -- ---- Posts.
 
@@ -39,7 +41,8 @@ command (suc (suc (suc n))) k i = codes "bogus"
 
 -- line i of client c, from this state: a key is drawn from 50, and then a kind from 4
 abbrev pub post_line : ℕ → ℕ → ℕ → List ℕ
-post_line x i c = codes "post " ++ (decimal c ++ (codes " " ++ (command (draw_below 4 (next (next x))) (draw_below 50 (next x)) i ++ codes "\n")))
+post_line x i c = codes "post "
+    ++ (decimal c ++ (codes " " ++ (command (draw_below 4 (next (next x))) (draw_below 50 (next x)) i ++ codes "\n")))
 
 -- the state behind n posts: two numbers are drawn for each
 abbrev pub past : ℕ → ℕ → ℕ
@@ -58,4 +61,5 @@ rounds seed threads n = each (λ i. round threads (past seed (i * threads)) i) n
 
 -- the script that is made from a seed, with so many clients, each of which posts so many lines and then quits
 unfoldable pub made_script : ℕ → ℕ → ℕ → List ℕ
-made_script seed threads lines = declarations threads ++ (procedure threads ++ (rounds seed threads lines ++ each (client_line line.Quit) threads))
+made_script seed threads lines = declarations threads
+    ++ (procedure threads ++ (rounds seed threads lines ++ each (client_line line.Quit) threads))

@@ -34,4 +34,6 @@ order seed threads lines = record { seed = seed; threads = threads; lines = line
 -- what three words ask for
 abbrev pub order_at : List ℕ → List ℕ → List ℕ → Option Order
 order_at seed threads lines =
-    option_and_then (λ s. option_and_then (λ t. option_map (λ l. order s t l) (count_at 10000 lines)) (count_at 16 threads)) (seed_at seed)
+    option_and_then
+    (λ s. option_and_then (λ t. option_map (λ l. order s t l) (count_at 10000 lines)) (count_at 16 threads))
+    (seed_at seed)

@@ -3,8 +3,8 @@ use Rattle.std.specs.Prelude.{ℕ, List, ◌++◌, codes}
 use Rattle.std.specs.Fmt.{decimal}
 use Rattle.script_maker.specs.declared.summary.Summary.{Summary}
 
--- five lines: how long the script is; how many calls were made; how many posts were taken, and how many are left; how long the
--- trace is; and the status
+-- five lines: how long the script is; how many calls were made; how many posts were taken, and how many are left; how
+-- long the trace is; and the status
 unfoldable pub summary_text : Summary → List ℕ
 summary_text s = codes "script " ++ (decimal s.script
     ++ (codes "\ncalls " ++ (decimal s.calls

@@ -83,8 +83,8 @@ is_over end.Reported = false
 is_over end.Same = false
 is_over (end.Differs line) = false
 
--- it tells of the whole session of the script: of all its calls and takes. Each of them was due; of each client, the lines taken are
--- its first, in order, and then come those left.
+-- it tells of the whole session of the script: of all its calls and takes. Each of them was due; of each client, the
+-- lines taken are its first, in order, and then come those left.
 pub record TellsAll (script : Script) (session : Session) : Type 0 where
   pub calls : session.turns ≡ calls_of script make_turns
   pub taken : Tells session (takes_of script make_turns)
@@ -123,8 +123,8 @@ pub record IsCutOff (summary : List ℕ) (script : Script) (sink : Stream) (sess
   pub faulty : IsFaulty sink
   pub all : TellsAll script session
 
--- What each end says. Nothing is written where memory was wanting. That answer stands too for a trace of 2 ^ 64 bytes or more, which
--- can't be counted.
+-- What each end says. Nothing is written where memory was wanting. That answer stands too for a trace of 2 ^ 64 bytes
+-- or more, which can't be counted.
 abbrev pub MakeSays : List ℕ → Script → Stream → Session → SessionEnd → Type 0
 MakeSays summary script sink session (end.Ended status) = IsSummedUp summary script sink session
 MakeSays summary script sink session end.Stuck = IsSummedUp summary script sink session
@@ -136,4 +136,5 @@ MakeSays summary script sink session _ = ⊥
 -- what a session of `make` says: the text that is made spells a script, and this holds of it
 pub record IsMake (seed threads lines : ℕ) (sink : Stream) (session : Session) : Type 0 where
   pub status : session.status ≡ status_of session.end
-  pub says : Says (Some (made_script seed threads lines)) (λ script. MakeSays (summary_of seed threads lines script) script sink session session.end)
+  pub says : Says (Some (made_script seed threads lines))
+      (λ script. MakeSays (summary_of seed threads lines script) script sink session session.end)

@@ -57,7 +57,12 @@ cv_create_line cond mon = record (blank op.CvCreate) { condition = cond; monitor
 
 -- a new thread
 abbrev pub create_line : List ℕ → List ℕ → ℕ → Flags → Phrase
-create_line name procedure prio flags = record (blank op.Create) { thread = name; procedure = procedure; number = prio; flags = flags }
+create_line name procedure prio flags = record (blank op.Create) {
+  thread = name;
+  procedure = procedure;
+  number = prio;
+  flags = flags;
+}
 
 -- a new agent
 abbrev pub agent_line : List ℕ → ℕ → Phrase

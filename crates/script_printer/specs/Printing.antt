@@ -64,7 +64,11 @@ plain_line names texts stmt.Receivers = blank op.Receivers
 plain_line names texts stmt.Monitors = blank op.Monitors
 plain_line names texts stmt.Conditions = blank op.Conditions
 plain_line names texts stmt.Return = blank op.Return
-plain_line names texts (stmt.Handle pattern func arg) = record (blank op.Handle) { pattern = pattern; func = func; number = arg }
+plain_line names texts (stmt.Handle pattern func arg) = record (blank op.Handle) {
+  pattern = pattern;
+  func = func;
+  number = arg;
+}
 plain_line names texts stmt.Unhandle = blank op.Unhandle
 plain_line names texts (stmt.Raise pattern) = number_line op.Raise pattern
 plain_line names texts (stmt.ExcNotify pattern) = number_line op.ExcNotify pattern
@@ -80,7 +84,10 @@ plain_line names texts _ = blank op.Again
 -- the same, or a statement that names a monitor or a condition
 abbrev pub lock_line : Names → List (List ℕ) → Stmt → Phrase
 lock_line names texts (stmt.MonCreate m) = mon_line op.MonCreate (name_at names.mons m)
-lock_line names texts (stmt.CvCreate c m) = record (blank op.CvCreate) { condition = name_at names.conds c; monitor = name_at names.mons m }
+lock_line names texts (stmt.CvCreate c m) = record (blank op.CvCreate) {
+  condition = name_at names.conds c;
+  monitor = name_at names.mons m;
+}
 lock_line names texts (stmt.MonDestroy m) = mon_line op.MonDestroy (name_at names.mons m)
 lock_line names texts (stmt.Enter m) = mon_line op.Enter (name_at names.mons m)
 lock_line names texts (stmt.CondEnter m) = mon_line op.CondEnter (name_at names.mons m)
@@ -97,7 +104,12 @@ lock_line names texts s = plain_line names texts s
 
 -- the line of a statement
 abbrev pub stmt_line : Names → List (List ℕ) → Stmt → Phrase
-stmt_line names texts (stmt.Create n q prio flags) = record (blank op.Create) { thread = name_at names.threads n; procedure = name_at names.procs q; number = prio; flags = flags }
+stmt_line names texts (stmt.Create n q prio flags) = record (blank op.Create) {
+  thread = name_at names.threads n;
+  procedure = name_at names.procs q;
+  number = prio;
+  flags = flags;
+}
 stmt_line names texts (stmt.Destroy w) = with_who names w (blank op.Destroy)
 stmt_line names texts (stmt.Ping w) = with_who names w (blank op.Ping)
 stmt_line names texts (stmt.Yield to) = with_who names to (blank op.Yield)
@@ -105,11 +117,15 @@ stmt_line names texts (stmt.Suspend w) = with_who names w (blank op.Suspend)
 stmt_line names texts (stmt.Resume w) = with_who names w (blank op.Resume)
 stmt_line names texts (stmt.Join w) = with_who names w (blank op.Join)
 stmt_line names texts (stmt.SetPri w prio) = with_who names w (number_line op.SetPri prio)
-stmt_line names texts (stmt.Send to room t) = with_who names to (record (blank op.Send) { room = room; text = text_at texts t })
+stmt_line names texts (stmt.Send to room t) =
+    with_who names to (record (blank op.Send) { room = room; text = text_at texts t })
 stmt_line names texts (stmt.Recv from mode) = with_source names from (record (blank op.Recv) { mode = mode })
 stmt_line names texts (stmt.Reply to t) = with_who names to (text_line op.Reply (text_at texts t))
 stmt_line names texts (stmt.CallProc q) = proc_line op.CallProc (name_at names.procs q)
-stmt_line names texts (stmt.Agent n event) = record (blank op.Agent) { thread = name_at names.threads n; number = event }
+stmt_line names texts (stmt.Agent n event) = record (blank op.Agent) {
+  thread = name_at names.threads n;
+  number = event;
+}
 stmt_line names texts s = lock_line names texts s
 
 -- ---- The other lines.
@@ -149,11 +165,13 @@ post_line texts post = record (blank op.Post) { client = post.client; text = tex
 -- the lines behind those of the header, the pod and the limit
 abbrev pub body_lines : Names → List (List ℕ) → List ℕ → List Native → List Proc → List Post → List Phrase
 body_lines names texts clients natives procs posts =
-    client_lines 0 clients ++ (map (native_line names) natives ++ (flat_map (proc_lines names texts) procs ++ map (post_line texts) posts))
+    client_lines 0 clients
+    ++ (map (native_line names) natives ++ (flat_map (proc_lines names texts) procs ++ map (post_line texts) posts))
 
 -- all lines of a script
 abbrev pub lines_of : Script → List Phrase
-lines_of s = number_line op.Lwp 1 ∷ number_line op.Pod s.maxpri ∷ (limit_lines s.births ++ body_lines s.names s.texts s.clients s.natives s.procs s.posts)
+lines_of s = number_line op.Lwp 1 ∷ number_line op.Pod s.maxpri
+    ∷ (limit_lines s.births ++ body_lines s.names s.texts s.clients s.natives s.procs s.posts)
 
 -- the text of a script
 unfoldable pub text_of_script : Script → List ℕ

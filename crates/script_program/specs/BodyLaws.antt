@@ -14,7 +14,8 @@ use Rattle.script_text.specs.Script.{proc_names, proc_places}
 use Rattle.script_text.specs.declared.script.Proc.{Proc}
 use Rattle.script_text.specs.declared.script.Script.{Script}
 
-pub body_next-keeps_lengths : (body : ThreadBody) (names : Names) (a : Answer) → KeepsLengths names (body_next body names a).2
+pub body_next-keeps_lengths : (body : ThreadBody) (names : Names) (a : Answer)
+    → KeepsLengths names (body_next body names a).2
 body_next-keeps_lengths (Scripted body) names a = script_next-keeps_lengths body names a
 body_next-keeps_lengths (Serving body) names a = session_next-keeps_lengths body names a
 body_next-keeps_lengths (Storing body) names a = store_next-keeps_lengths body names a

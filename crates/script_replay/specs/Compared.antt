@@ -16,7 +16,15 @@ params_for script procs = record { maxpri = script.maxpri; births = script.birth
 -- a run of a program before its first call
 abbrev pub opening_of : {B P : Type 0} → (P → List B) → Script → P → Names → ℕ → Played P
 opening_of bodies script program names turns =
-    record { program = program; params = params_for script (length (bodies program)); names = names; turns = turns; calls = 0; takes = []; failed = false }
+    record {
+      program = program;
+      params = params_for script (length (bodies program));
+      names = names;
+      turns = turns;
+      calls = 0;
+      takes = [];
+      failed = false;
+    }
 
 -- that program, with the clients of the script and the lines that they post
 abbrev pub asked_for : {B P : Type 0} → Next B → (P → List B) → (P → List (List ℕ)) → Script → P → Names → ℕ → Asked B

@@ -24,18 +24,21 @@ IsInput (Some told) text part = (told ≡ text) × (script_in text ≡ Some part
 abbrev pub IsNoInput : Stream → SessionEnd → Type 0
 IsNoInput source end.ReadFault = IsFaulty source × IsReadWithin most_read source.old source.new
 IsNoInput source end.NoMemory = IsFaultless source × IsReadWithin most_read source.old source.new
-IsNoInput source (end.Input part) = (part ≡ 0) × IsFaultless source × IsReadUp most_read source.old source.new × HoldsNone source.old
+IsNoInput source (end.Input part) = (part ≡ 0) × IsFaultless source
+    × IsReadUp most_read source.old source.new × HoldsNone source.old
 IsNoInput source _ = ⊥
 
 -- this end and this text tell of a right verdict on recorded bytes, with these takes and calls
-pub record IsTold (turns : ℕ) (script : Script) (recorded : List ℕ) (e : SessionEnd) (text : List ℕ) (takes : List Took) (calls : ℕ) : Type 0 where
+pub record IsTold (turns : ℕ) (script : Script) (recorded : List ℕ) (e : SessionEnd) (text : List ℕ)
+    (takes : List Took) (calls : ℕ) : Type 0 where
   pub verdict : Verdict
   pub right : Says (asked_of script turns) recorded verdict takes calls
   pub ended : e ≡ end_of verdict
   pub told : text ≡ text_of verdict
 
 -- the same, of the script and the recorded bytes of a text
-pub record IsToldOf (turns : ℕ) (text : List ℕ) (part : Part) (e : SessionEnd) (said : List ℕ) (takes : List Took) (calls : ℕ) : Type 0 where
+pub record IsToldOf (turns : ℕ) (text : List ℕ) (part : Part) (e : SessionEnd) (said : List ℕ)
+    (takes : List Took) (calls : ℕ) : Type 0 where
   pub script : Script
   pub spelt : verdict (content text part) ≡ Ok script
   pub told : IsTold turns script (recorded_in text part) e said takes calls

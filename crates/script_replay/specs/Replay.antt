@@ -30,8 +30,8 @@ use Rattle.whole_streams.specs.Writing.{AppendsPart}
 abbrev pub most_read : ℕ
 most_read = 268435457
 
--- the sessions of a script that its recorded trace is compared with: of the script's own program and names, whatever the order of
--- their takes, and of at most so many calls
+-- the sessions of a script that its recorded trace is compared with: of the script's own program and names, whatever
+-- the order of their takes, and of at most so many calls
 abbrev pub asked_of : Script → ℕ → Asked ThreadBody
 asked_of script turns = asked_for body_next bodies_of proc_names script script (opening_names script) turns
 
@@ -40,12 +40,14 @@ asked_of script turns = asked_for body_next bodies_of proc_names script script (
 -- what the source had left is the input of this script and of these recorded bytes, if it tells
 abbrev pub Holds : Option (List ℕ) → Script → List ℕ → Type 0
 Holds None script recorded = Unit {0}
-Holds (Some told) script recorded = (part : Part) × (script_in told ≡ Some part) × (verdict (content told part) ≡ Ok script) × (recorded ≡ recorded_in told part)
+Holds (Some told) script recorded = (part : Part) × (script_in told ≡ Some part)
+    × (verdict (content told part) ≡ Ok script) × (recorded ≡ recorded_in told part)
 
 -- it is an input, but its script is none: this is the first bad line, and why
 abbrev pub HoldsBad : Option (List ℕ) → ℕ → Reason → Type 0
 HoldsBad None line why = Unit {0}
-HoldsBad (Some told) line why = (part : Part) × (script_in told ≡ Some part) × (verdict (content told part) ≡ Err (line, why))
+HoldsBad (Some told) line why = (part : Part) × (script_in told ≡ Some part)
+    × (verdict (content told part) ≡ Err (line, why))
 
 -- it is no input
 abbrev pub HoldsNone : Option (List ℕ) → Type 0
@@ -54,8 +56,8 @@ HoldsNone (Some told) = script_in told ≡ None
 
 -- ---- what came of it
 
--- A verdict on the recorded bytes was found, which is right, and this text and this end tell of it. The session tells of the takes
--- and calls of the verdict.
+-- A verdict on the recorded bytes was found, which is right, and this text and this end tell of it. The session tells
+-- of the takes and calls of the verdict.
 pub record IsFound (turns : ℕ) (source : Stream) (session : Session) (e : SessionEnd) (text : List ℕ) : Type 0 where
   pub faultless : IsFaultless source
   pub up : IsReadUp most_read source.old source.new
@@ -71,21 +73,27 @@ pub record IsFound (turns : ℕ) (source : Stream) (session : Session) (e : Sess
 
 -- all of it was written
 abbrev pub IsWritten : ℕ → Stream → Stream → Session → SessionEnd → Type 0
-IsWritten turns source sink session e = IsFaultless sink × ((text : List ℕ) × IsFound turns source session e text × (sink.new ≡ after_append sink.old text))
+IsWritten turns source sink session e = IsFaultless sink
+    × ((text : List ℕ) × IsFound turns source session e text × (sink.new ≡ after_append sink.old text))
 
 -- a write failed, and not all of it was written
 abbrev pub IsCut : ℕ → Stream → Stream → Session → Type 0
 IsCut turns source sink session =
-    IsFaulty sink × ((e : SessionEnd) × (text : List ℕ) × IsFound turns source session e text × AppendsPart sink.old sink.new text)
+    IsFaulty sink
+    × ((e : SessionEnd) × (text : List ℕ) × IsFound turns source session e text
+    × AppendsPart sink.old sink.new text)
 
 -- what each end says: that the recorded bytes are a trace, or from which line on they differ; or what was in the way
 abbrev pub ReplaySays : ℕ → Stream → Stream → Session → SessionEnd → Type 0
-ReplaySays turns source sink session end.ReadFault = IsFaulty source × IsReadWithin most_read source.old source.new × IsUnread sink session
+ReplaySays turns source sink session end.ReadFault = IsFaulty source
+    × IsReadWithin most_read source.old source.new × IsUnread sink session
 ReplaySays turns source sink session (end.Input part) =
-    (part ≡ 0) × IsFaultless source × IsReadUp most_read source.old source.new × HoldsNone source.old × IsUnread sink session
+    (part ≡ 0) × IsFaultless source × IsReadUp most_read source.old source.new
+    × HoldsNone source.old × IsUnread sink session
 ReplaySays turns source sink session (end.Script line why) =
     IsFaultless source × IsReadUp most_read source.old source.new × HoldsBad source.old line why × IsUnread sink session
-ReplaySays turns source sink session end.NoMemory = IsFaultless source × IsReadWithin most_read source.old source.new × IsUnread sink session
+ReplaySays turns source sink session end.NoMemory = IsFaultless source
+    × IsReadWithin most_read source.old source.new × IsUnread sink session
 ReplaySays turns source sink session end.Same = IsWritten turns source sink session end.Same
 ReplaySays turns source sink session (end.Differs line) = IsWritten turns source sink session (end.Differs line)
 ReplaySays turns source sink session end.WriteFault = IsCut turns source sink session

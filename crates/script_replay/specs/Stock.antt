@@ -24,4 +24,5 @@ without_first client all = set all client (drop 1 (slice_index_or all client [])
 
 -- of the lines from a place on, each client has the places of its own, in order
 abbrev pub AreFrom : List Line → ℕ → List (List ℕ) → Type 0
-AreFrom posts place all = (c : ℕ) → c < length all → map (line_at posts) (slice_index_or all c []) ≡ of c (drop place posts)
+AreFrom posts place all = (c : ℕ) → c < length all
+    → map (line_at posts) (slice_index_or all c []) ≡ of c (drop place posts)

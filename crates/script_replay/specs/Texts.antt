@@ -21,12 +21,14 @@ same_text lines = codes "same " ++ (decimal lines ++ codes "\n")
 -- this line is the first that differs; this one was to come there, and this one was recorded
 unfoldable pub differs_text : ℕ → Option (List ℕ) → Option (List ℕ) → Bool → List ℕ
 differs_text line want got ended =
-    codes "differs " ++ (decimal line ++ (codes "\n" ++ (line_text (codes "want") want ++ line_text (got_word ended) got)))
+    codes "differs "
+    ++ (decimal line ++ (codes "\n" ++ (line_text (codes "want") want ++ line_text (got_word ended) got)))
 
 -- what is written of a verdict
 abbrev pub text_of : Verdict → List ℕ
 text_of (verdict.Same lines) = same_text lines
-text_of (verdict.Differs line want got ended) = differs_text line (option_map (λ v. v.items) want) (option_map (λ v. v.items) got) ended
+text_of (verdict.Differs line want got ended) =
+    differs_text line (option_map (λ v. v.items) want) (option_map (λ v. v.items) got) ended
 
 -- how a session with this verdict ends
 abbrev pub end_of : Verdict → SessionEnd

@@ -23,8 +23,8 @@ use Rattle.std.specs.Prelude.{List, Option, Some, false, length, ℕ, ◌++◌, 
 
 -- ---- a session so far
 
--- There is a session of the script with these takes and calls: each was due, and no more calls were made than are allowed. Of each
--- client, the lines taken are its first, in order, and then come those left.
+-- There is a session of the script with these takes and calls: each was due, and no more calls were made than are
+-- allowed. Of each client, the lines taken are its first, in order, and then come those left.
 pub record IsSoFar (turns : ℕ) (script : Script) (takes : List Took) (calls : ℕ) (left : List Line) : Type 0 where
   pub due : AreDue script takes calls
   pub room : calls ≤ turns
@@ -32,20 +32,26 @@ pub record IsSoFar (turns : ℕ) (script : Script) (takes : List Took) (calls : 
 
 -- with these lines left it is over, and has ended so
 abbrev pub EndsSo : ℕ → Script → List Took → ℕ → List Line → Halt → Type 0
-EndsSo turns script takes calls left halt = over turns (session_at script takes calls).live.pod calls (full_shelves script.clients left) ≡ Some halt
+EndsSo turns script takes calls left halt =
+    over turns (session_at script takes calls).live.pod calls (full_shelves script.clients left)
+    ≡ Some halt
 
 -- no event that can be delivered has one of these lines
 abbrev pub WantsNoneOf : Script → List Took → ℕ → List Line → Type 0
-WantsNoneOf script takes calls left = is_wanted (session_at script takes calls).live.pod (full_shelves script.clients left) ≡ false
+WantsNoneOf script takes calls left =
+    is_wanted (session_at script takes calls).live.pod (full_shelves script.clients left)
+    ≡ false
 
 -- the lines of its takes and calls, and then its end, with how many lines of each client are left
 abbrev pub bytes_to_end : ℕ → Script → List Took → ℕ → List Line → Halt → List ℕ
-bytes_to_end turns script takes calls left halt = lines_after script takes calls ++ end_text turns (counts_from 0 script.clients left) halt
+bytes_to_end turns script takes calls left halt = lines_after script takes calls
+    ++ end_text turns (counts_from 0 script.clients left) halt
 
 -- ---- what was told before and is told now
 
 -- a session to its end, whole and nothing else
-pub record IsLived (turns : ℕ) (script : Script) (old new : Option (List ℕ)) (takes : List Took) (calls : ℕ) (halt : Halt) : Type 0 where
+pub record IsLived (turns : ℕ) (script : Script) (old new : Option (List ℕ)) (takes : List Took)
+    (calls : ℕ) (halt : Halt) : Type 0 where
   pub left : List Line
   pub so_far : IsSoFar turns script takes calls left
   pub halted : EndsSo turns script takes calls left halt
@@ -53,22 +59,27 @@ pub record IsLived (turns : ℕ) (script : Script) (old new : Option (List ℕ))
   pub stuck : halt ≡ halts.Stuck → WantsNoneOf script takes calls left
 
 -- it stopped between two steps, or behind the last one: the lines of its takes and calls
-pub record IsLiveStopped (turns : ℕ) (script : Script) (old new : Option (List ℕ)) (takes : List Took) (calls : ℕ) : Type 0 where
+pub record IsLiveStopped (turns : ℕ) (script : Script) (old new : Option (List ℕ))
+    (takes : List Took) (calls : ℕ) : Type 0 where
   pub left : List Line
   pub so_far : IsSoFar turns script takes calls left
   pub written : new ≡ after_append old (lines_after script takes calls)
 
 -- it was over, and not all that stands behind its steps was written
-pub record IsCutBehind (turns : ℕ) (script : Script) (old new : Option (List ℕ)) (takes : List Took) (calls : ℕ) (left : List Line) : Type 0 where
+pub record IsCutBehind (turns : ℕ) (script : Script) (old new : Option (List ℕ)) (takes : List Took)
+    (calls : ℕ) (left : List Line) : Type 0 where
   pub halt : Halt
   pub halted : EndsSo turns script takes calls left halt
   pub cut : AppendsCut old new (lines_after script takes calls) (bytes_to_end turns script takes calls left halt)
 
--- it broke off in a write: the lines of all steps but the last were written, and not all of the last one's; or it broke off behind them
-pub record IsLiveBroken (turns : ℕ) (script : Script) (old new : Option (List ℕ)) (takes : List Took) (calls : ℕ) : Type 0 where
+-- it broke off in a write: the lines of all steps but the last were written, and not all of the last one's; or it broke
+-- off behind them
+pub record IsLiveBroken (turns : ℕ) (script : Script) (old new : Option (List ℕ))
+    (takes : List Took) (calls : ℕ) : Type 0 where
   pub left : List Line
   pub so_far : IsSoFar turns script takes calls left
-  pub cut : AppendsCut old new (lines_before script takes calls) (lines_after script takes calls) ⊎ IsCutBehind turns script old new takes calls left
+  pub cut : AppendsCut old new (lines_before script takes calls) (lines_after script takes calls)
+      ⊎ IsCutBehind turns script old new takes calls left
 
 -- ---- what a session says
 
@@ -76,7 +87,8 @@ pub record IsLiveBroken (turns : ℕ) (script : Script) (old new : Option (List 
 abbrev pub IsLiveRun : ℕ → Script → Stream → Session → Type 0
 IsLiveRun turns script sink session =
     IsFaultless sink
-    × ((halt : Halt) × (takes : List Took) × (session.end ≡ end_of halt) × Tells session takes × IsLived turns script sink.old sink.new takes session.turns halt)
+    × ((halt : Halt) × (takes : List Took) × (session.end ≡ end_of halt) × Tells session takes
+    × IsLived turns script sink.old sink.new takes session.turns halt)
 
 -- a session as far as it came, where a write failed
 abbrev pub IsLiveRunBroken : ℕ → Script → Stream → Session → Type 0
@@ -94,7 +106,8 @@ LiveSays turns script sink session (end.Ended status) = IsLiveRun turns script s
 LiveSays turns script sink session end.Stuck = IsLiveRun turns script sink session
 LiveSays turns script sink session end.Spent = IsLiveRun turns script sink session
 LiveSays turns script sink session end.WriteFault = IsFaulty sink × IsLiveRunBroken turns script sink session
-LiveSays turns script sink session end.NoMemory = IsFaultless sink × (IsUnread sink session ⊎ IsLiveRunStopped turns script sink session)
+LiveSays turns script sink session end.NoMemory = IsFaultless sink
+    × (IsUnread sink session ⊎ IsLiveRunStopped turns script sink session)
 LiveSays turns script sink session _ = ⊥
 
 -- what a session says of a script that was read
@@ -102,7 +115,8 @@ pub record IsLivePlayed (turns : ℕ) (script : Script) (sink : Stream) (session
   pub status : session.status ≡ status_of session.end
   pub says : LiveSays turns script sink session session.end
 
--- what a session of `run` says, with so many turns allowed: the same as one of `plan`, but of a session with some takes, which it tells
+-- what a session of `run` says, with so many turns allowed: the same as one of `plan`, but of a session with some
+-- takes, which it tells
 abbrev pub IsLive : ℕ → Stream → Stream → Session → Type 0
 IsLive turns source sink session = IsOf (λ script. LiveSays turns script sink session) source sink session
 
@@ -121,4 +135,5 @@ PostsSay script posted _ = Unit {0}
 
 -- what a session of `run` says, and what is said of the posts of the same script
 abbrev pub LivePosts : ℕ → Stream → Stream → LiveSession → Type 0
-LivePosts turns source sink live = IsOf (λ script e. LiveSays turns script sink live.session e × PostsSay script live.posted e) source sink live.session
+LivePosts turns source sink live = IsOf
+    (λ script e. LiveSays turns script sink live.session e × PostsSay script live.posted e) source sink live.session

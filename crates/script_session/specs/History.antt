@@ -9,7 +9,13 @@ use Rattle.std.specs.Prelude.{List, [], length, map, ℕ, ◌+◌, ◌∷◌}
 
 -- a take, as a session tells it
 abbrev pub taken_of : Took → Taken
-taken_of took = record { turn = took.turn; event = took.event; client = took.line.client; seq = took.line.seq; text = took.line.text }
+taken_of took = record {
+  turn = took.turn;
+  event = took.event;
+  client = took.line.client;
+  seq = took.line.seq;
+  text = took.line.text;
+}
 
 -- its event and its line
 abbrev pub pair_of : Took → ℕ × Line

@@ -14,10 +14,12 @@ use Rattle.script_text.specs.declared.script.Script.{Script}
 use Rattle.pod_runner.specs.declared.session.Took.{Took}
 use Rattle.std.specs.Prelude.{List, Option, None, Some, Err, [], map, ℕ, ◌≡◌, ◌⊎◌}
 
--- what the source had left spells a script, and this holds of whatever script it spells; of a source that doesn't tell, some script
+-- what the source had left spells a script, and this holds of whatever script it spells; of a source that doesn't tell,
+-- some script
 abbrev pub Says : Option (List ℕ) → (Script → Type 0) → Type 0
 Says None says = (script : Script) × says script
-Says (Some told) says = ((script : Script) × Spells told script) × ((script : Script) → Spells told script → says script)
+Says (Some told) says = ((script : Script) × Spells told script)
+    × ((script : Script) → Spells told script → says script)
 
 -- it spells no script, and these are its first bad line and the first reason that fits
 abbrev pub Refuses : Option (List ℕ) → ℕ → Reason → Type 0
@@ -42,7 +44,8 @@ SourceSays source says = IsFaultless source × Says source.old says
 abbrev pub EndsBy : (Script → SessionEnd → Type 0) → Stream → Stream → Session → SessionEnd → Type 0
 EndsBy ran source sink session end.Usage = ⊥
 EndsBy ran source sink session end.ReadFault = IsFaulty source × IsUnread sink session
-EndsBy ran source sink session (end.Script line reason) = IsFaultless source × Refuses source.old line reason × IsUnread sink session
+EndsBy ran source sink session (end.Script line reason) = IsFaultless source
+    × Refuses source.old line reason × IsUnread sink session
 EndsBy ran source sink session end.NoMemory =
     IsFaultless source × IsUnread sink session ⊎ SourceSays source (λ script. ran script end.NoMemory)
 EndsBy ran source sink session (end.Input part) = ⊥
@@ -51,8 +54,8 @@ EndsBy ran source sink session end.Same = ⊥
 EndsBy ran source sink session (end.Differs line) = ⊥
 EndsBy ran source sink session e = SourceSays source (λ script. ran script e)
 
--- how far each end has read the source: to its end for a script that was run; for bytes that are none, to their end too, unless they
--- are too many; and never further than one byte past what a script may have
+-- how far each end has read the source: to its end for a script that was run; for bytes that are none, to their end
+-- too, unless they are too many; and never further than one byte past what a script may have
 abbrev pub ReadSays : Stream → SessionEnd → Type 0
 ReadSays source end.Usage = ⊥
 ReadSays source end.ReadFault = IsReadPart source.old source.new
@@ -86,5 +89,6 @@ pub record IsRead (source : Stream) (script : Script) : Type 0 where
 abbrev pub IsNotRead : Stream → SessionEnd → Type 0
 IsNotRead source end.ReadFault = IsFaulty source × IsReadPart source.old source.new
 IsNotRead source end.NoMemory = IsFaultless source × IsReadPart source.old source.new
-IsNotRead source (end.Script line reason) = IsFaultless source × Refuses source.old line reason × IsReadUp source.old source.new
+IsNotRead source (end.Script line reason) = IsFaultless source × Refuses source.old line reason
+    × IsReadUp source.old source.new
 IsNotRead source _ = ⊥

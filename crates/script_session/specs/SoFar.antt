@@ -29,7 +29,8 @@ setting_of script = record {
 abbrev pub session_at : Script → List Took → ℕ → Sessions.Session ThreadBody
 session_at script takes n = play (setting_of script) takes n
 
--- there is such a session: at each call somebody's turn had come and the pod had not ended, at each take the event could be delivered
+-- there is such a session: at each call somebody's turn had come and the pod had not ended, at each take the event
+-- could be delivered
 abbrev pub AreDue : Script → List Took → ℕ → Type 0
 AreDue script takes n = IsDefined (setting_of script) takes n
 
@@ -52,4 +53,12 @@ opening_names script = null_names (length script.names.threads) (length script.n
 -- the run, with so many turns allowed
 abbrev pub opening_run : Script → ℕ → Played Script
 opening_run script turns =
-    record { program = script; params = params_of script; names = opening_names script; turns = turns; calls = 0; takes = []; failed = false }
+    record {
+      program = script;
+      params = params_of script;
+      names = opening_names script;
+      turns = turns;
+      calls = 0;
+      takes = [];
+      failed = false;
+    }

@@ -27,7 +27,8 @@ fault_text (end.Ended status) = []
 fault_text end.Usage = codes "lwpserve: usage: run [TURNS] | plan [TURNS] | make SEED THREADS LINES\n"
 fault_text end.ReadFault = codes "lwpserve: read fault\n"
 fault_text end.WriteFault = codes "lwpserve: write fault\n"
-fault_text (end.Script line why) = codes "lwpserve: script line " ++ decimal line ++ codes ": " ++ reason_text why ++ codes "\n"
+fault_text (end.Script line why) = codes "lwpserve: script line " ++ decimal line ++ codes ": "
+    ++ reason_text why ++ codes "\n"
 fault_text end.Stuck = []
 fault_text end.Spent = []
 fault_text end.NoMemory = codes "lwpserve: no memory\n"

@@ -37,7 +37,8 @@ abbrev pub stage_of : List Phrase → Stage
 stage_of lines = fold (λ s p. stage_after s (role_of p.op)) stage.Start lines
 
 -- The header comes first and once, then the pod, then at most one limit, then clients, then built-in procedures; then
--- procedures, each with its statements behind it; then posts. An `again` ends a procedure whose first statement makes a call.
+-- procedures, each with its statements behind it; then posts. An `again` ends a procedure whose first statement makes a
+-- call.
 abbrev pub follows : Stage → Role → Bool
 follows stage.Start role.Header = true
 follows stage.Header role.Pod = true
@@ -90,8 +91,8 @@ has d any w = contains_name d.procs w || (any && contains_name d.natives w)
 abbrev pub posted_of : List Phrase → List ℕ
 posted_of lines = (draft_of lines).posted
 
--- version 1; a greatest priority from 1 to 255; some birth is allowed; clients count from 0; a procedure that isn't declared
--- yet; a client that is declared posts at most 20,000 lines
+-- version 1; a greatest priority from 1 to 255; some birth is allowed; clients count from 0; a procedure that isn't
+-- declared yet; a client that is declared posts at most 20,000 lines
 abbrev pub keeps_rule : Declared → List ℕ → Role → Phrase → Bool
 keeps_rule d posted role.Header p = p.number == 1
 keeps_rule d posted role.Pod p = nat_le 1 p.number && nat_le p.number 255
@@ -125,8 +126,8 @@ is_declared d p = if starts p.op then has d (starts_any p.op) p.procedure else t
 abbrev pub spelling : List Phrase → List ℕ
 spelling lines = flat_map (λ p. with_newline (phrase_text p)) lines
 
--- The text is these lines, which keep every rule, and the script is what they say. A procedure may be declared behind the
--- line that starts it.
+-- The text is these lines, which keep every rule, and the script is what they say. A procedure may be declared behind
+-- the line that starts it.
 pub record SpelledBy (text : List ℕ) (script : Script) (lines : List Phrase) : Type 0 where
   pub text_is : text ≡ spelling lines
   pub short : length text ≤ 16777216

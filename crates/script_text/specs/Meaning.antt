@@ -53,7 +53,12 @@ place_of names (b ∷ bs) = place names (b ∷ bs)
 
 -- the names, and those of one more line
 abbrev pub after_name : Names → Phrase → Names
-after_name names p = record { procs = enter names.procs p.procedure; threads = enter names.threads p.thread; mons = enter names.mons p.monitor; conds = enter names.conds p.condition }
+after_name names p = record {
+  procs = enter names.procs p.procedure;
+  threads = enter names.threads p.thread;
+  mons = enter names.mons p.monitor;
+  conds = enter names.conds p.condition;
+}
 
 -- the texts, and that of one more line
 abbrev pub with_text_of : List (List ℕ) → Phrase → List (List ℕ)
@@ -166,7 +171,8 @@ thread_statement _ at p = None
 
 -- the statement of a line whose names and text stand so, if its row is one of a statement
 abbrev pub statement_of : Op → Places → Phrase → Option Stmt
-statement_of o at p = option_or (thread_statement o at p) (option_or (lock_statement o at p) (option_or (plain_statement o p) (option_map (λ x. stmt.OnExit x) (exit_statement o at p))))
+statement_of o at p = option_or (thread_statement o at p) (option_or (lock_statement o at p)
+    (option_or (plain_statement o p) (option_map (λ x. stmt.OnExit x) (exit_statement o at p))))
 
 -- the procedure with one more statement
 abbrev pub with_statement : Option Stmt → Option Proc → Option Proc
@@ -183,7 +189,16 @@ empty_names = record { procs = []; threads = []; mons = []; conds = [] }
 -- the script of no lines; the limit on births is the greatest, unless a line says another
 abbrev pub empty_draft : Draft
 empty_draft = record {
-  script = record { maxpri = 0; births = 4294967295; clients = []; natives = []; procs = []; posts = []; names = empty_names; texts = [] };
+  script = record {
+    maxpri = 0;
+    births = 4294967295;
+    clients = [];
+    natives = [];
+    procs = [];
+    posts = [];
+    names = empty_names;
+    texts = [];
+  };
   current = None;
   posted = [];
 }
@@ -194,7 +209,9 @@ with_last_procedure d = record d.script { procs = d.script.procs ++ option_to_li
 
 -- the names and the text of a line are entered before it is added
 abbrev pub after_enter : Draft → Phrase → Draft
-after_enter d p = record d { script = record d.script { names = after_name d.script.names p; texts = with_text_of d.script.texts p } }
+after_enter d p = record d {
+  script = record d.script { names = after_name d.script.names p; texts = with_text_of d.script.texts p };
+}
 
 -- one more statement of the procedure
 abbrev pub after_push : Places → Draft → Phrase → Draft
@@ -216,16 +233,31 @@ with_text d text = record d { script = record d.script { texts = d.script.texts 
 
 -- one more line of this client, whose text stands there
 abbrev pub with_post : ℕ → ℕ → Draft → Draft
-with_post client text d = record d { script = record d.script { posts = d.script.posts ++ record { client = client; seq = slice_index_or d.posted client 0; text = text } ∷ [] }; posted = after_raise client d.posted }
+with_post client text d = record d {
+  script = record d.script {
+    posts = d.script.posts ++ record { client = client; seq = slice_index_or d.posted client 0; text = text } ∷ [];
+  };
+  posted = after_raise client d.posted;
+}
 
 -- a line by the part it plays: a procedure ends where the next one begins
 abbrev pub after_add_at : Role → Places → Draft → Phrase → Draft
 after_add_at role.Header at d p = d
 after_add_at role.Pod at d p = record d { script = record d.script { maxpri = p.number } }
 after_add_at role.Limit at d p = record d { script = record d.script { births = p.number } }
-after_add_at role.Client at d p = record d { script = record d.script { clients = d.script.clients ++ p.event ∷ [] }; posted = d.posted ++ 0 ∷ [] }
-after_add_at role.Native at d p = record d { script = record d.script { natives = d.script.natives ++ record { name = at.procedure; kind = native_kind p.event at.thread } ∷ [] } }
-after_add_at role.Proc at d p = record d { script = with_last_procedure d; current = Some (record { name = at.procedure; stmts = [] }) }
+after_add_at role.Client at d p = record d {
+  script = record d.script { clients = d.script.clients ++ p.event ∷ [] };
+  posted = d.posted ++ 0 ∷ [];
+}
+after_add_at role.Native at d p = record d {
+  script = record d.script {
+    natives = d.script.natives ++ record { name = at.procedure; kind = native_kind p.event at.thread } ∷ [];
+  };
+}
+after_add_at role.Proc at d p = record d {
+  script = with_last_procedure d;
+  current = Some (record { name = at.procedure; stmts = [] });
+}
 after_add_at role.Post at d p = with_post p.client at.text d
 after_add_at role.Statement at d p = after_push at d p
 after_add_at role.Skip at d p = after_push at d p
@@ -233,7 +265,8 @@ after_add_at role.Again at d p = after_push at d p
 
 -- one more line
 abbrev pub after_add : Draft → Phrase → Draft
-after_add d p = after_add_at (role_of p.op) (places_of (after_name d.script.names p) d.script.texts p) (after_enter d p) p
+after_add d p = after_add_at (role_of p.op)
+    (places_of (after_name d.script.names p) d.script.texts p) (after_enter d p) p
 
 -- what these lines have made
 abbrev pub draft_of : List Phrase → Draft

@@ -32,7 +32,11 @@ standing false false so_far = Reads so_far
 
 -- of a line that hasn't ended no more than 1,025 bytes are kept
 abbrev pub so_far : List ℕ → SoFar
-so_far text = record { total = length text; lines = fold step start (line_cut text).0; tail = kept_bytes (line_cut text).1 }
+so_far text = record {
+  total = length text;
+  lines = fold step start (line_cut text).0;
+  tail = kept_bytes (line_cut text).1;
+}
 
 -- how a reader stands once it was fed this text
 abbrev pub standing_after : List ℕ → Standing

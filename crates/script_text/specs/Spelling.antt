@@ -73,7 +73,8 @@ reason_behind s word said = later_reason s word said
 
 -- the reason of a bad line of printable bytes at this stage
 abbrev pub reason_of : Stage → List ℕ → Reason
-reason_of s line = reason_behind s (word_reason (first_word line)) (option_map (λ (p : Phrase). role_of p.op) (phrase_at line))
+reason_of s line = reason_behind s (word_reason (first_word line))
+    (option_map (λ (p : Phrase). role_of p.op) (phrase_at line))
 
 -- the reason of a bad line of printable bytes behind these lines
 abbrev pub reason_at : List Phrase → List ℕ → Reason
@@ -84,21 +85,25 @@ reason_at before line = reason_of (stage_of before) line
 -- a line by what it says, if it says anything
 abbrev pub judge_phrase : Declared → List Phrase → List ℕ → Option Phrase → Result Phrase Reason
 judge_phrase declared before line None = Err (reason_at before line)
-judge_phrase declared before line (Some p) = if may_stand before p && is_declared declared p then Ok p else Err (reason_at before line)
+judge_phrase declared before line (Some p) = if may_stand before p && is_declared declared p then Ok p
+    else Err (reason_at before line)
 
 -- what a line says behind these lines, in a text that declares these procedures, or why it is bad
 abbrev pub judge : Declared → List Phrase → List ℕ → Result Phrase Reason
-judge declared before line = if is_printable line then judge_phrase declared before line (phrase_at line) else Err reason.Bytes
+judge declared before line = if is_printable line then judge_phrase declared before line (phrase_at line)
+    else Err reason.Bytes
 
 -- goes on behind a good line, and stops at a bad one with its number
-abbrev pub at_line : ℕ → Result Phrase Reason → (Phrase → Result (List Phrase) (ℕ × Reason)) → Result (List Phrase) (ℕ × Reason)
+abbrev pub at_line : ℕ → Result Phrase Reason → (Phrase → Result (List Phrase) (ℕ × Reason))
+    → Result (List Phrase) (ℕ × Reason)
 at_line k (Ok p) f = f p
 at_line k (Err why) f = Err (k, why)
 
 -- what lines say that come behind others, up to the first that is bad
 abbrev pub read_on : Declared → List Phrase → List (List ℕ) → Result (List Phrase) (ℕ × Reason)
 read_on declared before [] = Ok before
-read_on declared before (line ∷ lines) = at_line (suc (length before)) (judge declared before line) (λ p. read_on declared (before ++ p ∷ []) lines)
+read_on declared before (line ∷ lines) =
+    at_line (suc (length before)) (judge declared before line) (λ p. read_on declared (before ++ p ∷ []) lines)
 
 -- the procedures declared so far, and those of one more line
 abbrev pub after_note : Declared → List ℕ → Declared

@@ -25,11 +25,14 @@ judge_phrase_at s known posted line (Some p) = if may_stand_at s known posted p 
 
 -- what a line says, or why it is bad whatever the lines behind it declare
 abbrev pub judge_alone : Stage → Declared → List ℕ → List ℕ → Result Phrase Reason
-judge_alone s known posted line = if is_printable line then judge_phrase_at s known posted line (phrase_at line) else Err reason.Bytes
+judge_alone s known posted line = if is_printable line then judge_phrase_at s known posted line (phrase_at line)
+    else Err reason.Bytes
 
 -- the mention of a procedure that a line starts
 abbrev pub mention_of : ℕ → List (List ℕ) → Phrase → List Mention
-mention_of line names p = if starts p.op then record { line = line; name = place_of names p.procedure; any = starts_any p.op } ∷ [] else []
+mention_of line names p = if starts p.op
+    then record { line = line; name = place_of names p.procedure; any = starts_any p.op } ∷ []
+    else []
 
 -- a reader with one more line that may stand
 abbrev pub after_take : Reader → Phrase → Reader
@@ -73,7 +76,9 @@ name_at names n = slice_index_or names n []
 -- the line of the first mention of a procedure that isn't declared
 abbrev pub first_missing : Declared → List (List ℕ) → List Mention → Option ℕ
 first_missing declared names [] = None
-first_missing declared names (m ∷ ms) = if has declared m.any (name_at names m.name) then first_missing declared names ms else Some m.line
+first_missing declared names (m ∷ ms) = if has declared m.any (name_at names m.name)
+    then first_missing declared names ms
+    else Some m.line
 
 -- where every line that has ended is good
 abbrev pub answer_fine : Reader → List ℕ → Result Script (ℕ × Reason)

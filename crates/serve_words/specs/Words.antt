@@ -98,9 +98,9 @@ abbrev pub command_if : List ℕ → Option ℕ → Option Command
 command_if word None = None
 command_if word (Some turns) = command_by word turns
 
--- the command of these words, if they are one: `run`, `plan` or `replay`, and behind it perhaps how many calls; or `make`, and what is
--- to be made; or `batch`, how many threads, and behind that perhaps how many calls; or `answers`, which client, and behind that
--- perhaps how many calls
+-- the command of these words, if they are one: `run`, `plan` or `replay`, and behind it perhaps how many calls; or
+-- `make`, and what is to be made; or `batch`, how many threads, and behind that perhaps how many calls; or `answers`,
+-- which client, and behind that perhaps how many calls
 abbrev pub command_of : List (List ℕ) → Option Command
 command_of [] = None
 command_of (word ∷ []) = command_by word default_turns
@@ -110,7 +110,9 @@ command_of (word ∷ number ∷ []) = if is_batch word then batch_by (threads_of
 command_of (word ∷ threads ∷ turns ∷ []) = if is_batch word then batch_by (threads_of threads) (turns_of turns)
     else if is_answers word then answers_by (client_of threads) (turns_of turns)
     else None
-command_of (word ∷ seed ∷ threads ∷ lines ∷ []) = if is_make word then option_map command.Make (order_at seed threads lines) else None
+command_of (word ∷ seed ∷ threads ∷ lines ∷ []) = if is_make word
+    then option_map command.Make (order_at seed threads lines)
+    else None
 command_of (word ∷ seed ∷ threads ∷ lines ∷ other ∷ words) = None
 
 -- what it asks for may be had
@@ -122,14 +124,15 @@ MayBe (command.Make order) = IsAllowed order.threads order.lines
 MayBe (command.Batch threads turns) = ((1 ≤ threads) × (threads ≤ 16)) × ((1 ≤ turns) × (turns ≤ 1000000))
 MayBe (command.Answers client turns) = (client ≤ 15) × ((1 ≤ turns) × (turns ≤ 1000000))
 
--- What a session of these words says: a run's, a plan's or a replay's; or that of what is made, which reads nothing; or that of many
--- scripts, whatever the number of threads; or that of one client; or else that they are no command, and then nothing was read or
--- written.
+-- What a session of these words says: a run's, a plan's or a replay's; or that of what is made, which reads nothing; or
+-- that of many scripts, whatever the number of threads; or that of one client; or else that they are no command, and
+-- then nothing was read or written.
 abbrev pub TopSays : Option Command → Stream → Stream → Session → Type 0
 TopSays None source sink session = (session ≡ outcome_of end.Usage [] 0) × IsQuiet source × IsQuiet sink
 TopSays (Some (command.Run turns)) source sink session = IsLive turns source sink session
 TopSays (Some (command.Plan turns)) source sink session = IsPlan turns source sink session
 TopSays (Some (command.Replay turns)) source sink session = IsReplay turns source sink session
-TopSays (Some (command.Make order)) source sink session = IsQuiet source × IsMake order.seed order.threads order.lines sink session
+TopSays (Some (command.Make order)) source sink session = IsQuiet source
+    × IsMake order.seed order.threads order.lines sink session
 TopSays (Some (command.Batch threads turns)) source sink session = IsBatch turns source sink session
 TopSays (Some (command.Answers client turns)) source sink session = IsAnswers client turns source sink session

@@ -20,4 +20,5 @@ EachDiesOnce session = (n : ℕ) → deaths n session.steps ≤ 1
 
 -- where u has died in the first m steps, none of the others runs an exit procedure of u
 abbrev pub TheDeadRunNothing : {B : Type 0} → Session B → Type 0
-TheDeadRunNothing session = (u m : ℕ) → 1 ≤ deaths u (take m session.steps) → (p : ExitTest) → exits_run (is_set_by u p) (drop m session.steps) ≡ 0
+TheDeadRunNothing session = (u m : ℕ) → 1 ≤ deaths u (take m session.steps) → (p : ExitTest)
+    → exits_run (is_set_by u p) (drop m session.steps) ≡ 0

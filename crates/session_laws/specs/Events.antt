@@ -17,14 +17,16 @@ pub record IsExact (start pod : EventState) (steps : List Made) : Type 0 where
   pub can : CanMove moves start
   pub pod_is : pod ≡ after_moves moves start
   pub effects_are : effects_in steps ≡ effects_of moves start
-  -- As long as event 32 has an agent, each death of an unmarked thread is reported once, in the order of deaths, or waits: from any
-  -- point on, what waited then and who died since are who was reported since, and what waits now.
+  -- As long as event 32 has an agent, each death of an unmarked thread is reported once, in the order of deaths, or
+  -- waits: from any point on, what waited then and who died since are who was reported since, and what waits now.
   pub reports : (before later : List EventMove) → moves ≡ before ++ later → AlwaysHeard later (after_moves before start)
-      → (after_moves before start).reports ++ reports_due later (after_moves before start) ≡ reports_of_moves later (after_moves before start) ++ pod.reports
+      → (after_moves before start).reports ++ reports_due later (after_moves before start)
+      ≡ reports_of_moves later (after_moves before start) ++ pod.reports
   -- Of each event: each line of it that was taken as a trap was raised once, or is to be.
   pub traps : (e : ℕ) → count_by (is_raised e) (effects_in steps) + pends e pod ≡ traps_in e moves start
 
 -- whatever bodies do, and whenever lines are taken
 abbrev pub PodEventsAreExact : Type 0 → Type 0
-PodEventsAreExact B = (setting : Setting B) → 1 ≤ setting.params.maxpri → setting.params.maxpri ≤ 255 → (takes : List Took) (n : ℕ) → IsDefined setting takes n
+PodEventsAreExact B = (setting : Setting B) → 1 ≤ setting.params.maxpri
+    → setting.params.maxpri ≤ 255 → (takes : List Took) (n : ℕ) → IsDefined setting takes n
     → IsExact (quiet_events (opening setting.params)) (play setting takes n).live.pod (play setting takes n).steps

@@ -14,11 +14,13 @@ any_exit t n x = true
 
 -- the number that the next one gets is one more after a step that sets one, and else the same
 abbrev pub StepsNumberExits : Type 0
-StepsNumberExits = (s : State) (c : Call) → (step s c).after.next_registration ≡ s.next_registration + sets_of_step any_exit s (choice s) c
+StepsNumberExits = (s : State) (c : Call)
+    → (step s c).after.next_registration ≡ s.next_registration + sets_of_step any_exit s (choice s) c
 
 -- no delivery sets one
 abbrev pub DeliveriesNumberNone : Type 0
-DeliveriesNumberNone = (s : State) (e : ℕ) (text : List ℕ) → (deliver s e text).after.next_registration ≡ s.next_registration
+DeliveriesNumberNone = (s : State) (e : ℕ) (text : List ℕ)
+    → (deliver s e text).after.next_registration ≡ s.next_registration
 
 -- no call makes the clock tick
 abbrev pub StepsKeepTheClock : Type 0
@@ -26,7 +28,8 @@ StepsKeepTheClock = (s : State) (c : Call) → (step s c).after.now ≡ s.now
 
 -- a line of event 0 makes it tick once, and no other does
 abbrev pub DeliveriesTick : Type 0
-DeliveriesTick = (s : State) (e : ℕ) (text : List ℕ) → (deliver s e text).after.now ≡ (if e == 0 then s.now + 1 else s.now)
+DeliveriesTick = (s : State) (e : ℕ) (text : List ℕ)
+    → (deliver s e text).after.now ≡ (if e == 0 then s.now + 1 else s.now)
 
 -- a thread or an agent may be born by the call
 abbrev pub bears : Call → Bool

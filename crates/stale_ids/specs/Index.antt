@@ -38,7 +38,8 @@ module _ {T : Type 0} where
   AreFull slots es = AllByRecursion (λ e. IsSome (slice_index_or slots e.slot None)) es
 
   -- slots, index and counts belong together, and both lists have the room that was asked for
-  pub record IsSound (slots : List (Option T)) (capacity : ℕ) (es : List Place) (room births limit places : ℕ) : Type 0 where
+  pub record IsSound (slots : List (Option T)) (capacity : ℕ) (es : List Place)
+      (room births limit places : ℕ) : Type 0 where
     pub rising : IsRising es
     pub full : AreFull slots es
     pub born : AllByRecursion (λ e. e.number < births) es

@@ -6,7 +6,8 @@ abbrev pub onto_first : ℕ → List (List ℕ) → List (List ℕ)
 onto_first b [] = (b ∷ []) ∷ []
 onto_first b (l ∷ ls) = (b ∷ l) ∷ ls
 
--- the lines of a text, each with the newline that ends it; what stands behind the last newline is a line too, if there is any
+-- the lines of a text, each with the newline that ends it; what stands behind the last newline is a line too, if there
+-- is any
 abbrev pub lines : List ℕ → List (List ℕ)
 lines [] = []
 lines (b ∷ bs) = if b == 10 then (b ∷ []) ∷ lines bs else onto_first b (lines bs)
@@ -25,7 +26,8 @@ first_of (l ∷ ls) = l
 abbrev pub line_behind : ℕ → List (List ℕ) → List ℕ
 line_behind n ls = first_of (drop n ls)
 
--- this line, counted from 1, is one thing in the one text and another in the other, and all lines before it are the same
+-- this line, counted from 1, is one thing in the one text and another in the other, and all lines before it are the
+-- same
 pub record IsFirstDifference (number : ℕ) (one other : List ℕ) (found wanted : List (List ℕ)) : Type 0 where
   pub counted : 1 ≤ number
   pub before : take (number - 1) found ≡ take (number - 1) wanted

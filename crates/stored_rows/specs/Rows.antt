@@ -15,5 +15,7 @@ ending n text = if begins_line (length text - n) text then drop (length text - n
 -- what is said of a status and a text, by those that are wanted
 abbrev pub Says : ℕ → List ℕ → ℕ → List ℕ → Verdict → Type 0
 Says status text wanted_status wanted verdict.Same = (text ≡ wanted) × (status ≡ wanted_status)
-Says status text wanted_status wanted (verdict.Status found) = (text ≡ wanted) × (found ≡ status) × ((status == wanted_status) ≡ false)
-Says status text wanted_status wanted (verdict.Line d) = IsFirstDifference d.number d.found.now d.wanted.now (lines text) (lines wanted)
+Says status text wanted_status wanted (verdict.Status found) = (text ≡ wanted) × (found ≡ status)
+    × ((status == wanted_status) ≡ false)
+Says status text wanted_status wanted (verdict.Line d) =
+    IsFirstDifference d.number d.found.now d.wanted.now (lines text) (lines wanted)

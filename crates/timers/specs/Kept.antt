@@ -1,4 +1,5 @@
--- How the leaves are kept: a tree has their ticks, and an index the leaf of each thread. No public clause cites this module.
+-- How the leaves are kept: a tree has their ticks, and an index the leaf of each thread. No public clause cites this
+-- module.
 use Rattle.lwp_types.specs.Unblock.{is_timer_of}
 use Rattle.lwp_types.specs.declared.rows.TimerRow.{TimerRow}
 use Rattle.std.specs.Prelude.{List, Option, length, slice_index_or, ℕ, ◌≡◌, ◌≤◌}

@@ -1,5 +1,5 @@
--- The leaves: each has a timer or is empty, and those that have one are the timers in the order of their arrival. No public
--- clause cites this module.
+-- The leaves: each has a timer or is empty, and those that have one are the timers in the order of their arrival. No
+-- public clause cites this module.
 use Rattle.lwp_types.specs.Counts.{timers_of}
 use Rattle.lwp_types.specs.State.{passes}
 use Rattle.lwp_types.specs.declared.rows.TimerRow.{TimerRow}

@@ -42,8 +42,8 @@ abbrev pub key_verb : Option Op → Option Verb
 key_verb None = None
 key_verb (Some o) = line_verb (role_of o) o
 
--- the call of a word, if it is one: a trace has the words of a script's statements, `onexit` for all that set an exit procedure, and `note`,
--- which an exit procedure alone does
+-- the call of a word, if it is one: a trace has the words of a script's statements, `onexit` for all that set an exit
+-- procedure, and `note`, which an exit procedure alone does
 abbrev pub verb_of : List ℕ → Option Verb
 verb_of w =
     if bytes_eq w (codes "onexit") then Some verb.OnExit
@@ -129,12 +129,15 @@ thread_entry (Some tid) text = if starts (codes ": ") text then call_entry tid (
 -- an exit procedure, and what became of it: it was refused, unless its line ends with a 0
 abbrev pub exit_entry_by : ℕ → List ℕ → Option Verb → Option Entry
 exit_entry_by reg text None = None
-exit_entry_by reg text (Some v) = Some (entry.Exited reg v (target_of v null_id (rest text)) (not (ends (codes " = 0") text)))
+exit_entry_by reg text (Some v) =
+    Some (entry.Exited reg v (target_of v null_id (rest text)) (not (ends (codes " = 0") text)))
 
 -- the line of an exit procedure, behind its number
 abbrev pub exit_entry : Option ℕ → List ℕ → Option Entry
 exit_entry None text = None
-exit_entry (Some reg) text = if starts (codes " ") text then exit_entry_by reg (drop 1 text) (verb_of (word (drop 1 text))) else None
+exit_entry (Some reg) text = if starts (codes " ") text
+    then exit_entry_by reg (drop 1 text) (verb_of (word (drop 1 text)))
+    else None
 
 abbrev pub client_and_number : ℕ → Option ℕ → Option (ℕ × ℕ)
 client_and_number client None = None
@@ -142,11 +145,13 @@ client_and_number client (Some seq) = Some (client, seq)
 
 abbrev pub taken_post_of : Option ℕ → List ℕ → Option (ℕ × ℕ)
 taken_post_of None text = None
-taken_post_of (Some client) text = if starts (codes " seq ") text then client_and_number client (number (drop 5 text)) else None
+taken_post_of (Some client) text = if starts (codes " seq ") text then client_and_number client (number (drop 5 text))
+    else None
 
 -- whose line was taken, and its number
 abbrev pub taken_post : List ℕ → Option (ℕ × ℕ)
-taken_post text = if starts (codes " client ") text then taken_post_of (number (drop 8 text)) (behind (drop 8 text)) else None
+taken_post text = if starts (codes " client ") text then taken_post_of (number (drop 8 text)) (behind (drop 8 text))
+    else None
 
 abbrev pub event_entry_by : ℕ → Option (ℕ × ℕ) → Option Entry
 event_entry_by event None = None
@@ -172,7 +177,8 @@ rites_entry_by dead (Some agent) = Some (entry.Rites agent dead)
 -- the line of a report, behind the letter of the dead: its number, and the agent that hears of it
 abbrev pub rites_entry : Option ℕ → List ℕ → Option Entry
 rites_entry None text = None
-rites_entry (Some dead) text = if starts (codes " to t") text then rites_entry_by dead (whole_number (drop 5 text)) else None
+rites_entry (Some dead) text = if starts (codes " to t") text then rites_entry_by dead (whole_number (drop 5 text))
+    else None
 
 abbrev pub tick_entry_by : ℕ → Option (ℕ × ℕ) → Option Entry
 tick_entry_by now None = None
@@ -185,7 +191,8 @@ tick_entry (Some now) text = tick_entry_by now (taken_post text)
 
 -- whether the line stands behind the last step
 abbrev pub is_closing : List ℕ → Bool
-is_closing line = starts (codes "pod ends ") line || bytes_eq line (codes "stuck") || starts (codes "spent ") line || starts (codes "left client ") line
+is_closing line = starts (codes "pod ends ") line || bytes_eq line (codes "stuck")
+    || starts (codes "spent ") line || starts (codes "left client ") line
 
 -- what a line tells, without its newline
 abbrev pub entry_of : List ℕ → Option Entry

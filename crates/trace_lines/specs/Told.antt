@@ -76,7 +76,8 @@ IsPrinted procs c = target_of_call c ≤ null_id
 -- a call of a thread is read back
 abbrev pub CallsAreRead : List (List ℕ) → Option Line → ℕ → Call → Type 0
 CallsAreRead procs took t c = t < null_id → IsPrinted procs c
-    → entry_of (line_text procs took (effect.Called t c)) ≡ Some (entry.Called t (verb_of_call c) (target_of_call c) (is_created_suspended c))
+    → entry_of (line_text procs took (effect.Called t c))
+    ≡ Some (entry.Called t (verb_of_call c) (target_of_call c) (is_created_suspended c))
 
 abbrev pub gain_in_value : ℤ → Gain
 gain_in_value (pos n) = gain.Value n
@@ -101,7 +102,8 @@ IsAnswer _ = Unit {0}
 
 -- an answer is read back
 abbrev pub AnswersAreRead : List (List ℕ) → Option Line → ℕ → Answer → Type 0
-AnswersAreRead procs took t a = t < null_id → IsAnswer a → entry_of (line_text procs took (effect.Answered t a)) ≡ Some (entry.Answered t (gain_in_answer a))
+AnswersAreRead procs took t a = t < null_id → IsAnswer a
+    → entry_of (line_text procs took (effect.Answered t a)) ≡ Some (entry.Answered t (gain_in_answer a))
 
 -- a death is read back
 abbrev pub DeathsAreRead : List (List ℕ) → Option Line → ℕ → Type 0
@@ -133,7 +135,8 @@ is_outcome _ = false
 -- an exit procedure is read back, with what becomes of it
 abbrev pub ExitsAreRead : List (List ℕ) → Option Line → ℕ → ℕ → ExitCall → Answer → Type 0
 ExitsAreRead procs took t reg x a = reg < 2 ^ 64 → exit_target x ≤ null_id → IsTrue (is_outcome a)
-    → entry_of (line_text procs took (effect.Exited t reg x a)) ≡ Some (entry.Exited reg (exit_verb x) (exit_target x) (is_refused a))
+    → entry_of (line_text procs took (effect.Exited t reg x a))
+    ≡ Some (entry.Exited reg (exit_verb x) (exit_target x) (is_refused a))
 
 -- a line that was taken is read back
 abbrev pub EventsAreRead : List (List ℕ) → Line → ℕ → ℕ → Type 0
@@ -142,7 +145,8 @@ EventsAreRead procs line agent e = e < 2 ^ 8 → line.client < 2 ^ 8 → line.se
 
 -- a later delivery of a step is read back as its agent
 abbrev pub AlsoIsRead : List (List ℕ) → ℕ → ℕ → Type 0
-AlsoIsRead procs agent e = agent < null_id → entry_of (line_text procs None (effect.Delivered agent e)) ≡ Some (entry.Also agent)
+AlsoIsRead procs agent e = agent < null_id
+    → entry_of (line_text procs None (effect.Delivered agent e)) ≡ Some (entry.Also agent)
 
 -- a tick is read back, with the line that was taken for it
 abbrev pub TicksAreRead : List (List ℕ) → Line → ℕ → Type 0
@@ -151,15 +155,19 @@ TicksAreRead procs line now = now < 2 ^ 64 → line.client < 2 ^ 8 → line.seq 
 
 -- a trap that is raised is read back
 abbrev pub TrapsAreRead : List (List ℕ) → Option Line → ℕ → ℕ → Type 0
-TrapsAreRead procs took t e = t < null_id → e < 2 ^ 8 → entry_of (line_text procs took (effect.Trapped t e)) ≡ Some (entry.Trapped t e)
+TrapsAreRead procs took t e = t < null_id → e < 2 ^ 8
+    → entry_of (line_text procs took (effect.Trapped t e)) ≡ Some (entry.Trapped t e)
 
 -- a report is read back as its agent and the dead
 abbrev pub RitesAreRead : List (List ℕ) → Option Line → ℕ → ℕ → Type 0
-RitesAreRead procs took agent dead = agent < null_id → dead < null_id → entry_of (line_text procs took (effect.Rites agent dead)) ≡ Some (entry.Rites agent dead)
+RitesAreRead procs took agent dead = agent < null_id → dead < null_id
+    → entry_of (line_text procs took (effect.Rites agent dead)) ≡ Some (entry.Rites agent dead)
 
 -- the lines behind the last step are read back; each is what `end_text` prints, without its newline
 pub record EndsAreRead : Type 0 where
-  pub pod : (procs : List (List ℕ)) (took : Option Line) (status : ℕ) → entry_of (line_text procs took (effect.Ended status)) ≡ Some entry.Closing
+  pub pod : (procs : List (List ℕ)) (took : Option Line) (status : ℕ)
+      → entry_of (line_text procs took (effect.Ended status)) ≡ Some entry.Closing
   pub stuck : entry_of (codes "stuck") ≡ Some entry.Closing
   pub spent : (turns : ℕ) → entry_of (codes "spent " ++ decimal turns) ≡ Some entry.Closing
-  pub left : (client count : ℕ) → entry_of (codes "left client " ++ (decimal client ++ (codes " " ++ decimal count))) ≡ Some entry.Closing
+  pub left : (client count : ℕ)
+      → entry_of (codes "left client " ++ (decimal client ++ (codes " " ++ decimal count))) ≡ Some entry.Closing

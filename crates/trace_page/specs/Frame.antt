@@ -132,7 +132,8 @@ procedure_words (b ∷ bs) = codes " " ++ escaped_text (b ∷ bs)
 
 -- the name of a lane
 unfoldable pub name_words : Seen → Lane → List ℕ
-name_words s lane = codes "t" ++ (decimal lane.id ++ (event_words lane.event ++ procedure_words (procedure_of lane.id s.names)))
+name_words s lane = codes "t"
+    ++ (decimal lane.id ++ (event_words lane.event ++ procedure_words (procedure_of lane.id s.names)))
 
 unfoldable pub name_text : Seen → Lane → List ℕ
 name_text s lane = label_text (codes "name") 4 (y_of s lane.id + foot) ++ (name_words s lane ++ name_closed)
@@ -151,7 +152,8 @@ abbrev pub tenth : Seen → ℕ → ℕ
 tenth s n = min (10 * (s.base / 10 + 1 + n)) (2 ^ 64 - 1)
 
 unfoldable pub number_text : Seen → ℕ → List ℕ
-number_text s n = label_text (codes "number") (x_of s (record { call = tenth s n; late = false })) 12 ++ (decimal (tenth s n) ++ name_closed)
+number_text s n = label_text (codes "number") (x_of s (record { call = tenth s n; late = false })) 12
+    ++ (decimal (tenth s n) ++ name_closed)
 
 -- how many tenth calls are drawn
 abbrev pub tenths : Seen → ℕ
@@ -169,7 +171,9 @@ abbrev pub height_of : Seen → ℕ
 height_of s = y_of s null_id + 8
 
 unfoldable pub size_text : Seen → List ℕ
-size_text s = size_open ++ (decimal (width_of s) ++ (height_open ++ (decimal (height_of s) ++ (paper_open ++ (decimal (height_of s) ++ size_closed)))))
+size_text s = size_open
+    ++ (decimal (width_of s)
+    ++ (height_open ++ (decimal (height_of s) ++ (paper_open ++ (decimal (height_of s) ++ size_closed)))))
 
 -- the whole picture once more, on a strip
 unfoldable pub strip_text : Seen → List ℕ
@@ -177,7 +181,9 @@ strip_text s = strip_open ++ (decimal (width_of s) ++ (codes " " ++ (decimal (he
 
 -- the whole picture for print, where time goes down: what is higher than a sheet of paper goes on on the next
 unfoldable pub sheet_text : Seen → List ℕ
-sheet_text s = sheet_open ++ (decimal (height_of s) ++ (codes " " ++ (decimal (width_of s + names_width) ++ (sheet_turned ++ (decimal (height_of s) ++ sheet_closed)))))
+sheet_text s = sheet_open
+    ++ (decimal (height_of s)
+    ++ (codes " " ++ (decimal (width_of s + names_width) ++ (sheet_turned ++ (decimal (height_of s) ++ sheet_closed)))))
 
 -- says so, where calls behind the last aren't drawn
 unfoldable pub more_text : Seen → List ℕ

@@ -59,21 +59,27 @@ behind_whole_tag (name ∷ names) = at Outside names
 
 -- a byte in a tag, behind its name or behind a value
 abbrev pub inside : ℕ → List (List ℕ) → Reader
-inside b names = if b == 62 then behind_start_tag names else at (if b == 47 then Slashed else if b == 32 then Spaced else Lost) names
+inside b names = if b == 62 then behind_start_tag names
+    else at (if b == 47 then Slashed else if b == 32 then Spaced else Lost) names
 
--- a reader has read a byte more; 60 and 62 are angle brackets, 34 and 39 quotes, and the others are /, !, =, - and a space
+-- a reader has read a byte more; 60 and 62 are angle brackets, 34 and 39 quotes, and the others are /, !, =, - and a
+-- space
 unfoldable pub after_byte : Place → List (List ℕ) → ℕ → Reader
 after_byte Outside names b = at (if b == 60 then Begun else if b == 62 then Lost else Outside) names
-after_byte Begun names b = at (if b == 47 then Closing [] else if b == 33 then Declared else if is_letter b then Opening (b ∷ []) else Lost) names
+after_byte Begun names b = at
+    (if b == 47 then Closing [] else if b == 33 then Declared else if is_letter b then Opening (b ∷ []) else Lost) names
 after_byte (Opening name) names b = if is_letter b then at (Opening (name ++ b ∷ [])) names else inside b (name ∷ names)
-after_byte (Closing name) names b = if b == 62 then behind_end_tag name names else at (if is_letter b then Closing (name ++ b ∷ []) else Lost) names
+after_byte (Closing name) names b = if b == 62 then behind_end_tag name names
+    else at (if is_letter b then Closing (name ++ b ∷ []) else Lost) names
 after_byte Inside names b = inside b names
 after_byte Spaced names b = at (if is_letter b then Attribute else Lost) names
-after_byte Attribute names b = at (if b == 61 then Equals else if is_letter b || (b == 45) then Attribute else Lost) names
+after_byte Attribute names b =
+    at (if b == 61 then Equals else if is_letter b || (b == 45) then Attribute else Lost) names
 after_byte Equals names b = at (if (b == 34) || (b == 39) then Quoted b else Lost) names
 after_byte (Quoted quote) names b = at (if b == quote then Inside else Quoted quote) names
 after_byte Slashed names b = if b == 62 then behind_whole_tag names else at Lost names
-after_byte Declared names b = at (if b == 62 then Outside else if is_letter b || (b == 32) then Declared else Lost) names
+after_byte Declared names b =
+    at (if b == 62 then Outside else if is_letter b || (b == 32) then Declared else Lost) names
 after_byte Lost names b = at Lost names
 
 -- behind all these bytes

@@ -23,7 +23,8 @@ is_whole [] = true
 is_whole (b ∷ []) = b == 10
 is_whole (b ∷ c ∷ bs) = is_whole (c ∷ bs)
 
--- the first of these that is no line of a trace, where the first has this number; or the one behind them, where there is more
+-- the first of these that is no line of a trace, where the first has this number; or the one behind them, where there
+-- is more
 abbrev pub bad_from : ℕ → Bool → List (List ℕ) → Option ℕ
 bad_from n whole [] = if whole then None else Some n
 bad_from n whole (l ∷ ls) = if is_some (entry_of l) then bad_from (n + 1) whole ls else Some n
@@ -60,4 +61,5 @@ groups s (l ∷ ls) = group_if_shown (after_line l s) l ++ groups (after_line l 
 
 -- the page of the calls behind `base`, up to `last`
 abbrev pub page : ℕ → ℕ → List (List ℕ) → List ℕ
-page base last lines = head ++ (groups (opening base last) lines ++ tail (after_finish (after_lines (opening base last) lines)))
+page base last lines = head
+    ++ (groups (opening base last) lines ++ tail (after_finish (after_lines (opening base last) lines)))

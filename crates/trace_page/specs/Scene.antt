@@ -13,9 +13,9 @@ use Rattle.trace_page.specs.declared.scene.Setting.{Setting}
 use Rattle.trace_page.specs.declared.scene.Shape.{Shape}
 use Rattle.trace_page.specs.declared.scene.Span.{Span}
 
--- The calls behind `base`, up to `last`, are drawn; there are more where a call came behind the last. `time` is when the last line
--- happened, the caller who made the last call, and the agent who sent the last letter. The words are what the last call says, or the
--- procedure of the thread that it creates. Lanes stand in the order of birth.
+-- The calls behind `base`, up to `last`, are drawn; there are more where a call came behind the last. `time` is when
+-- the last line happened, the caller who made the last call, and the agent who sent the last letter. The words are what
+-- the last call says, or the procedure of the thread that it creates. Lanes stand in the order of birth.
 pub record Seen : Type 0 where
   pub base : ℕ
   pub last : ℕ
@@ -92,7 +92,16 @@ need_of verb.Other = need.Nothing
 
 -- a lane that has called nothing yet
 abbrev pub blank : ℕ → ℕ → Moment → Lane
-blank id event now = record { id = id; event = event; verb = verb.Other; target = null_id; suspended = false; since = now; waits = false; clear = 0 }
+blank id event now = record {
+  id = id;
+  event = event;
+  verb = verb.Other;
+  target = null_id;
+  suspended = false;
+  since = now;
+  waits = false;
+  clear = 0;
+}
 
 -- the lane of a thread or an agent
 abbrev pub lane_of : Seen → ℕ → Lane
@@ -112,4 +121,6 @@ after_begin span s = record s { spans = s.spans ++ span ∷ [] }
 
 -- a lane more, which lives from now on
 abbrev pub with_lane : ℕ → ℕ → ℕ → Seen → Seen
-with_lane id event owner s = after_begin (record { tid = id; kind = kind.Life; of = owner; since = s.time; level = 0; event = event }) (record s { lanes = s.lanes ++ blank id event s.time ∷ [] })
+with_lane id event owner s =
+    after_begin (record { tid = id; kind = kind.Life; of = owner; since = s.time; level = 0; event = event })
+    (record s { lanes = s.lanes ++ blank id event s.time ∷ [] })

@@ -23,7 +23,12 @@ use Rattle.trace_page.specs.declared.scene.Way.TheVariants as way
 
 -- a byte that would begin or end something is written by its name
 abbrev pub escaped_byte : ℕ → List ℕ
-escaped_byte b = if b == 38 then codes "&amp;" else if b == 60 then codes "&lt;" else if b == 62 then codes "&gt;" else if b == 34 then codes "&quot;" else if b == 39 then codes "&#39;" else b ∷ []
+escaped_byte b = if b == 38 then codes "&amp;"
+    else if b == 60 then codes "&lt;"
+    else if b == 62 then codes "&gt;"
+    else if b == 34 then codes "&quot;"
+    else if b == 39 then codes "&#39;"
+    else b ∷ []
 
 -- a text of the trace, as it stands in the page
 abbrev pub escaped_text : List ℕ → List ℕ
@@ -79,14 +84,19 @@ use_text sign x y = sign_open sign ++ (value_text (codes "x") x ++ (value_text (
 
 unfoldable pub rect_text : List ℕ → ℕ → ℕ → ℕ → ℕ → List ℕ
 rect_text class x y width height =
-    class_text (codes "rect") class ++ (value_text (codes "x") x ++ (value_text (codes "y") y ++ (value_text (codes "width") width ++ (value_text (codes "height") height ++ element_closed))))
+    class_text (codes "rect") class
+    ++ (value_text (codes "x") x
+    ++ (value_text (codes "y") y
+    ++ (value_text (codes "width") width ++ (value_text (codes "height") height ++ element_closed))))
 
 unfoldable pub path_text : List ℕ → ℕ → ℕ → ℕ → ℕ → List ℕ
-path_text class x y to_x to_y = class_text (codes "path") class ++ (move_text x y ++ (line_text to_x to_y ++ element_closed))
+path_text class x y to_x to_y = class_text (codes "path") class
+    ++ (move_text x y ++ (line_text to_x to_y ++ element_closed))
 
 -- a label, before its words
 unfoldable pub label_text : List ℕ → ℕ → ℕ → List ℕ
-label_text class x y = class_text (codes "text") class ++ (value_text (codes "x") x ++ (value_text (codes "y") y ++ codes "'>"))
+label_text class x y = class_text (codes "text") class
+    ++ (value_text (codes "x") x ++ (value_text (codes "y") y ++ codes "'>"))
 
 -- ---- shapes
 
@@ -121,7 +131,8 @@ wait_class need.Clock = codes "sleep"
 wait_class need.Nothing = codes "other"
 
 unfoldable pub wait_text : Seen → Lane → Moment → List ℕ
-wait_text s lane to = rect_text (wait_class (need_of lane.verb)) (x_of s lane.since) (y_of s lane.id + 4) (x_of s to - x_of s lane.since) 12
+wait_text s lane to = rect_text (wait_class (need_of lane.verb)) (x_of s lane.since)
+    (y_of s lane.id + 4) (x_of s to - x_of s lane.since) 12
 
 -- how far down the bar of a monitor is: below those that were acquired before, of which three show apart
 unfoldable pub deep : ℕ → ℕ
@@ -136,7 +147,8 @@ held_text s span to =
     ++ tag_text (x_of s span.since + 3) (y_of s span.tid + deep span.level + 6) span.of
 
 unfoldable pub band_text : Seen → List ℕ → ℕ → ℕ → Span → Moment → List ℕ
-band_text s class down height span to = rect_text class (x_of s span.since) (y_of s span.tid + down) (x_of s to - x_of s span.since) height
+band_text s class down height span to =
+    rect_text class (x_of s span.since) (y_of s span.tid + down) (x_of s to - x_of s span.since) height
 
 unfoldable pub bar_text : Seen → Kind → Span → Moment → List ℕ
 bar_text s kind.Life span to = band_text s (codes "life") 9 2 span to
@@ -151,7 +163,8 @@ way_class way.Wake = codes "woken"
 way_class way.Also = codes "event"
 
 unfoldable pub arrow_text : Seen → Way → ℕ → Moment → ℕ → Moment → List ℕ
-arrow_text s way from left to at = path_text (way_class way) (x_of s left) (y_of s from + middle) (x_of s at) (y_of s to + middle)
+arrow_text s way from left to at =
+    path_text (way_class way) (x_of s left) (y_of s from + middle) (x_of s at) (y_of s to + middle)
 
 -- a client and the number of its line
 unfoldable pub posted_text : ℕ → ℕ → List ℕ
@@ -159,7 +172,9 @@ posted_text client seq = decimal client ++ (codes ":" ++ decimal seq)
 
 unfoldable pub event_text : Seen → ℕ → ℕ → ℕ → ℕ → Moment → List ℕ
 event_text s client seq nth agent at =
-    label_text (codes "event") (x_of s at) (outside_row nth) ++ (posted_text client seq ++ (label_closed ++ path_text (codes "event") (x_of s at) below_rows (x_of s at) (y_of s agent + middle)))
+    label_text (codes "event") (x_of s at) (outside_row nth)
+    ++ (posted_text client seq
+    ++ (label_closed ++ path_text (codes "event") (x_of s at) below_rows (x_of s at) (y_of s agent + middle)))
 
 -- a trap comes from above
 unfoldable pub trap_text : Seen → ℕ → Moment → List ℕ
@@ -167,10 +182,12 @@ trap_text s tid at = path_text (codes "woken") (x_of s at) below_rows (x_of s at
 
 -- a tick has its number above, and a rule from there down through all lanes
 unfoldable pub clock_text : Seen → ℕ → ℕ → Moment → List ℕ
-clock_text s now nth at = label_text (codes "clock") (x_of s at) (outside_row nth) ++ (decimal now ++ (label_closed ++ use_text (codes "#clock") (x_of s at) tick_spot))
+clock_text s now nth at = label_text (codes "clock") (x_of s at) (outside_row nth)
+    ++ (decimal now ++ (label_closed ++ use_text (codes "#clock") (x_of s at) tick_spot))
 
 unfoldable pub closing_text : Seen → List ℕ → ℕ → Moment → List ℕ
-closing_text s line nth at = label_text (codes "end") (x_of s at + 24) (end_row nth) ++ (escaped_text line ++ label_closed)
+closing_text s line nth at = label_text (codes "end") (x_of s at + 24) (end_row nth)
+    ++ (escaped_text line ++ label_closed)
 
 -- what it waits for, in words
 unfoldable pub wanted_text : Need → List ℕ
@@ -200,7 +217,8 @@ unfoldable pub waits_text : Need → ℕ → List ℕ
 waits_text need target = codes "waits for " ++ (wanted_text need ++ named_text need target)
 
 unfoldable pub due_text : Seen → Lane → Moment → List ℕ
-due_text s lane at = label_text (codes "due") (x_of s at + 6) (y_of s lane.id + foot) ++ (waits_text (need_of lane.verb) lane.target ++ label_closed)
+due_text s lane at = label_text (codes "due") (x_of s at + 6) (y_of s lane.id + foot)
+    ++ (waits_text (need_of lane.verb) lane.target ++ label_closed)
 
 -- a shape of a line
 unfoldable pub shape_text : Seen → List ℕ → Shape → List ℕ

@@ -106,13 +106,22 @@ top_from level t (span ∷ spans) = top_from (greater_level (is_owned t span) le
 -- the greatest level at which it holds this monitor
 abbrev pub level_from : ℕ → ℕ → ℕ → List Span → ℕ
 level_from level t m [] = level
-level_from level t m (span ∷ spans) = level_from (greater_level (is_owned t span && (span.of == m)) level span) t m spans
+level_from level t m (span ∷ spans) =
+    level_from (greater_level (is_owned t span && (span.of == m)) level span) t m spans
 
 -- the monitor that a thread has acquired last
 abbrev pub last_from : ℕ → ℕ → ℕ → List Span → ℕ
 last_from found t level [] = found
-last_from found t level (span ∷ spans) = last_from (if is_owned t span && (span.level == level) then span.of else found) t level spans
+last_from found t level (span ∷ spans) =
+    last_from (if is_owned t span && (span.level == level) then span.of else found) t level spans
 
 -- a thread holds a monitor from now on, above those that it holds
 abbrev pub next_hold : ℕ → ℕ → Seen → Span
-next_hold t m s = record { tid = t; kind = kind.Held; of = m; since = s.time; level = one_more (top_from 0 t s.spans); event = 0 }
+next_hold t m s = record {
+  tid = t;
+  kind = kind.Held;
+  of = m;
+  since = s.time;
+  level = one_more (top_from 0 t s.spans);
+  event = 0;
+}

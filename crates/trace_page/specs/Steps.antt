@@ -38,11 +38,13 @@ after_count tid s = record s { time = record { call = one_more s.time.call; late
 
 -- the thread waits for the answer
 abbrev pub asking : ℕ → Verb → ℕ → Bool → Seen → Seen
-asking tid v target suspended s = after_put (record (lane_of s tid) { verb = v; target = target; suspended = suspended; since = s.time; waits = true }) s
+asking tid v target suspended s = after_put
+    (record (lane_of s tid) { verb = v; target = target; suspended = suspended; since = s.time; waits = true }) s
 
 -- a wait gives up the monitor that was acquired last
 abbrev pub after_give_up : ℕ → Verb → Seen → Seen
-after_give_up tid verb.Wait s = after_change (change.GivesUp tid (last_from null_id tid (top_from 0 tid s.spans) s.spans)) s
+after_give_up tid verb.Wait s =
+    after_change (change.GivesUp tid (last_from null_id tid (top_from 0 tid s.spans) s.spans)) s
 after_give_up tid verb.Create s = s
 after_give_up tid verb.Destroy s = s
 after_give_up tid verb.Suspend s = s
@@ -66,7 +68,8 @@ room s = min (s.time.call + (2 + length s.words / 3)) (2 ^ 64 - 1)
 
 -- words are drawn where those before leave room
 abbrev pub after_say : ℕ → Seen → Seen
-after_say tid s = if nat_lt s.time.call (lane_of s tid).clear then s else after_draw (shape.Said tid s.time) (after_put (record (lane_of s tid) { clear = room s }) s)
+after_say tid s = if nat_lt s.time.call (lane_of s tid).clear then s
+    else after_draw (shape.Said tid s.time) (after_put (record (lane_of s tid) { clear = room s }) s)
 
 abbrev pub after_speak : ℕ → Verb → Seen → Seen
 after_speak tid verb.Say s = after_say tid s
@@ -90,7 +93,8 @@ after_speak tid verb.Other s = s
 abbrev pub after_call : ℕ → Verb → ℕ → Bool → Seen → Seen
 after_call tid v target suspended s =
     let begins = after_meet_thread tid (after_count tid s) in
-    after_give_up tid v (after_speak tid v (after_draw (shape.Tick tid begins.time) (asking tid v target suspended begins)))
+    after_give_up tid v (after_speak tid v
+    (after_draw (shape.Tick tid begins.time) (asking tid v target suspended begins)))
 
 -- ---- an answer
 
@@ -113,7 +117,9 @@ wait_shapes lane now = if has_waited lane now && may_wait (need_of lane.verb) th
 
 -- who has woken it, unless the clock has: not itself, and only where it has waited
 abbrev pub wake_shapes : Lane → ℕ → Moment → List Shape
-wake_shapes lane caller now = if has_waited lane now && not (caller == lane.id || (caller == null_id)) then shape.Arrow way.Wake caller now lane.id now ∷ [] else []
+wake_shapes lane caller now = if has_waited lane now && not (caller == lane.id || (caller == null_id))
+    then shape.Arrow way.Wake caller now lane.id now ∷ []
+    else []
 
 -- what came to it with the answer
 abbrev pub arrival_shapes : Lane → Gain → Seen → List Shape
@@ -126,11 +132,14 @@ arrival_shapes lane gain.Refused s = wake_shapes lane s.caller s.time
 arrival_shapes lane gain.Other s = wake_shapes lane s.caller s.time
 
 abbrev pub after_show_answer : Lane → Gain → Seen → Seen
-after_show_answer lane g s = after_draw (shape.Answer lane.id g s.time) (record s { shapes = s.shapes ++ (wait_shapes lane s.time ++ arrival_shapes lane g s) })
+after_show_answer lane g s = after_draw (shape.Answer lane.id g s.time)
+    (record s { shapes = s.shapes ++ (wait_shapes lane s.time ++ arrival_shapes lane g s) })
 
 -- a new thread begins suspended
 abbrev pub after_park : Bool → ℕ → Seen → Seen
-after_park suspended id s = if suspended then after_begin (record { tid = id; kind = kind.Parked; of = null_id; since = s.time; level = 0; event = 0 }) s else s
+after_park suspended id s = if suspended
+    then after_begin (record { tid = id; kind = kind.Parked; of = null_id; since = s.time; level = 0; event = 0 }) s
+    else s
 
 -- a thread has its procedure's name
 abbrev pub after_name : ℕ → Seen → Seen
@@ -241,7 +250,8 @@ after_die tid s =
     let begins = after_meet_thread tid s in
     let lane = lane_of begins tid in
     let ends = record begins { shapes = begins.shapes ++ wait_shapes lane begins.time } in
-    after_change (change.Dies tid) (after_draw (shape.Death tid begins.time) (after_put (record lane { waits = false }) ends))
+    after_change (change.Dies tid) (after_draw (shape.Death tid begins.time)
+    (after_put (record lane { waits = false }) ends))
 
 -- the agent has sent its letter
 abbrev pub after_send : ℕ → Seen → Seen

@@ -17,14 +17,17 @@ Says source says = IsFaultless source × ((text : List ℕ) × HasRead source.ol
 -- the page of a trace was written
 abbrev pub IsShown : Window → Stream → List ℕ → Type 0
 IsShown window sink text =
-    (bad_line text ≡ None) × (sink.new ≡ after_append sink.old (page window.base window.last (whole_lines text))) × IsFaultless sink
+    (bad_line text ≡ None)
+    × (sink.new ≡ after_append sink.old (page window.base window.last (whole_lines text))) × IsFaultless sink
 
 -- the first bytes of the page were written, and a write failed before the last
 abbrev pub IsCut : Window → Stream → List ℕ → Type 0
 IsCut window sink text =
-    (bad_line text ≡ None) × AppendsPart sink.old sink.new (page window.base window.last (whole_lines text)) × IsFaulty sink
+    (bad_line text ≡ None)
+    × AppendsPart sink.old sink.new (page window.base window.last (whole_lines text)) × IsFaulty sink
 
--- what each end says, where so many calls are asked for; want of memory is the one free answer, and no read or write has failed then
+-- what each end says, where so many calls are asked for; want of memory is the one free answer, and no read or write
+-- has failed then
 abbrev pub EndSays : Window → Stream → Stream → ViewEnd → Type 0
 EndSays window source sink end.Shown = Says source (IsShown window sink)
 EndSays window source sink end.Usage = ⊥

@@ -14,7 +14,8 @@ call_of word = call_by (whole_number word)
 
 -- the calls from this one to that one, and of more than 5,000 the first 5,000
 abbrev pub from_to : ℕ → ℕ → Option Window
-from_to from to = if nat_lt to from then None else Some (record { base = from - 1; last = if nat_lt to (from + 4999) then to else from + 4999 })
+from_to from to = if nat_lt to from then None
+    else Some (record { base = from - 1; last = if nat_lt to (from + 4999) then to else from + 4999 })
 
 abbrev pub window_by : Option ℕ → Option ℕ → Option Window
 window_by None to = None

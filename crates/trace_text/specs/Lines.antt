@@ -64,7 +64,8 @@ letter_if false letter = []
 -- the flags of a new thread
 abbrev pub flags_text : Flags → List ℕ
 flags_text flags = if flags.suspended || (flags.nolastrites || flags.server)
-    then letter_if flags.suspended (codes "s") ++ (letter_if flags.nolastrites (codes "n") ++ letter_if flags.server (codes "v"))
+    then letter_if flags.suspended (codes "s")
+    ++ (letter_if flags.nolastrites (codes "n") ++ letter_if flags.server (codes "v"))
     else codes "-"
 
 abbrev pub mode_text : Mode → List ℕ
@@ -101,7 +102,8 @@ exit_text me (exit.Note text) = codes "note" ++ with_space text
 
 -- a call, written like its statement, but with numbers for names and without the name that it sets
 abbrev pub call_text : List (List ℕ) → Option ℕ → Call → List ℕ
-call_text procs me (call.Create number prio flags) = codes "create " ++ (proc_text procs number ++ (codes " " ++ (decimal prio ++ (codes " " ++ flags_text flags))))
+call_text procs me (call.Create number prio flags) = codes "create "
+    ++ (proc_text procs number ++ (codes " " ++ (decimal prio ++ (codes " " ++ flags_text flags))))
 call_text procs me (call.Destroy t) = codes "destroy " ++ who_text me t
 call_text procs me (call.Ping t) = codes "ping " ++ who_text me t
 call_text procs me (call.Yield t) = codes "yield " ++ who_text me t
@@ -117,7 +119,8 @@ call_text procs me (call.SetExit code) = codes "setexit " ++ decimal code
 call_text procs me call.GetExit = codes "getexit"
 call_text procs me (call.PodExit code) = codes "podexit " ++ decimal code
 call_text procs me call.Threads = codes "threads"
-call_text procs me (call.Send t room text) = codes "send " ++ (who_text me t ++ (codes " " ++ (decimal room ++ with_space text)))
+call_text procs me (call.Send t room text) = codes "send "
+    ++ (who_text me t ++ (codes " " ++ (decimal room ++ with_space text)))
 call_text procs me (call.Recv from mode) = codes "recv " ++ (source_text me from ++ (codes " " ++ mode_text mode))
 call_text procs me (call.Reply t text) = codes "reply " ++ (who_text me t ++ with_space text)
 call_text procs me call.Senders = codes "senders"
@@ -140,7 +143,8 @@ call_text procs me call.Conditions = codes "conditions"
 call_text procs me (call.CvWaiters c) = codes "cvwaiters " ++ condition_text c
 call_text procs me (call.CallProc number) = codes "call " ++ proc_text procs number
 call_text procs me call.Return = codes "return"
-call_text procs me (call.Handle pat func arg) = codes "handle " ++ (pattern_text pat ++ (codes " " ++ (func_text func ++ (codes " " ++ decimal arg))))
+call_text procs me (call.Handle pat func arg) = codes "handle "
+    ++ (pattern_text pat ++ (codes " " ++ (func_text func ++ (codes " " ++ decimal arg))))
 call_text procs me call.Unhandle = codes "unhandle"
 call_text procs me (call.OnExit x) = codes "onexit " ++ exit_text me x
 call_text procs me (call.Raise p) = codes "raise " ++ decimal p
@@ -176,7 +180,8 @@ answer_text (answer.Value v) = codes " = " ++ signed_decimal v
 answer_text (answer.Thread t) = codes " = " ++ thread_text t
 answer_text (answer.Monitor m) = codes " = " ++ monitor_text m
 answer_text (answer.Condition c) = codes " = " ++ condition_text c
-answer_text (answer.Letter from text room) = codes " = letter " ++ (thread_text from ++ (codes " " ++ (decimal room ++ with_space text)))
+answer_text (answer.Letter from text room) = codes " = letter "
+    ++ (thread_text from ++ (codes " " ++ (decimal room ++ with_space text)))
 answer_text (answer.Reply text) = codes " = reply" ++ with_space text
 answer_text (answer.Bound func arg) = codes " = bound " ++ (func_text func ++ (codes " " ++ decimal arg))
 answer_text (answer.Caught depth mark p) = codes " caught " ++ decimal p
@@ -185,7 +190,8 @@ answer_text (answer.Refused e) = codes " ! " ++ error_text e
 
 -- a line that a client has posted
 abbrev pub posted_text : Line → List ℕ
-posted_text line = codes " client " ++ (decimal line.client ++ (codes " seq " ++ (decimal line.seq ++ with_space line.text)))
+posted_text line = codes " client "
+    ++ (decimal line.client ++ (codes " seq " ++ (decimal line.seq ++ with_space line.text)))
 
 -- the same, at its event
 abbrev pub taken_text : ℕ → Line → List ℕ
@@ -217,7 +223,8 @@ rites_text agent dead = codes "rites " ++ (thread_text dead ++ (codes " to " ++ 
 abbrev pub line_text : List (List ℕ) → Option Line → Effect → List ℕ
 line_text procs took (effect.Called t c) = thread_text t ++ (codes ": " ++ call_text procs (Some t) c)
 line_text procs took (effect.Answered t a) = thread_text t ++ answer_text a
-line_text procs took (effect.Exited t reg x a) = codes "exit x" ++ (decimal reg ++ (codes " " ++ (exit_text None x ++ answer_text a)))
+line_text procs took (effect.Exited t reg x a) = codes "exit x"
+    ++ (decimal reg ++ (codes " " ++ (exit_text None x ++ answer_text a)))
 line_text procs took (effect.Died t) = thread_text t ++ codes " dies"
 line_text procs took (effect.Delivered agent e) = delivered_text agent e took
 line_text procs took (effect.Ticked now) = tick_text now took
@@ -246,7 +253,8 @@ halt_text turns Spent = codes "spent " ++ (decimal turns ++ codes "\n")
 
 -- the line of a client that has lines left
 abbrev pub left_text : ℕ → ℕ → List ℕ
-left_text c count = if count == 0 then [] else codes "left client " ++ (decimal c ++ (codes " " ++ (decimal count ++ codes "\n")))
+left_text c count = if count == 0 then []
+    else codes "left client " ++ (decimal c ++ (codes " " ++ (decimal count ++ codes "\n")))
 
 -- the same of all clients, counted from c
 abbrev pub left_texts : ℕ → List ℕ → List ℕ

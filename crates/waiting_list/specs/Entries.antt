@@ -77,7 +77,9 @@ pub record IsThreadAt (t : ℕ) (es : List Entry) (i : ℕ) : Type 0 where
 -- whoever stands there is the first of the greatest priority of those that wait for n
 pub record IsBestAt (n : ℕ) (es : List Entry) (i : ℕ) : Type 0 where
   pub within : i < length es
-  pub best : (d : Entry) → best_by (λ (w : Waiting). w.prio) (filter (is_for n) (map waiting_of es)) ≡ Some (waiting_of (slice_index_or es i d))
+  pub best : (d : Entry)
+      → best_by (λ (w : Waiting). w.prio) (filter (is_for n) (map waiting_of es))
+      ≡ Some (waiting_of (slice_index_or es i d))
 
 -- whoever stands there came first of those that wait for n
 pub record IsFirstAt (n : ℕ) (es : List Entry) (i : ℕ) : Type 0 where
@@ -97,9 +99,11 @@ AreAlike (e ∷ es) = AllByRecursion (λ f. (f.what ≡ e.what) × (f.prio ≡ e
 
 -- e waits for the same with the same priority as whoever came first
 abbrev pub IsLike : Entry → List Entry → Type 0
-IsLike e es = (d : Entry) → 0 < length es → (e.what ≡ (slice_index_or es 0 d).what) × (e.prio ≡ (slice_index_or es 0 d).prio)
+IsLike e es = (d : Entry) → 0 < length es
+    → (e.what ≡ (slice_index_or es 0 d).what) × (e.prio ≡ (slice_index_or es 0 d).prio)
 
--- all are alike where there are no keys, and else they are found by their keys as the best and as the first for what they wait for
+-- all are alike where there are no keys, and else they are found by their keys as the best and as the first for what
+-- they wait for
 abbrev pub IsSortedOut : List Entry → List Key → List Key → Type 0
 IsSortedOut es [] arrived = AreAlike es × (arrived ≡ [])
 IsSortedOut es (k ∷ ks) arrived = IsFiled rank_of es (k ∷ ks) × IsFiled arrival_key es arrived
@@ -116,7 +120,8 @@ pub record IsFrontAt (n : ℕ) (es : List Entry) (i : ℕ) : Type 0 where
 
 -- whoever stands there has this priority, and another guess where its rank stands
 abbrev pub IsPrioritized : ℕ → ℕ → List Entry → List Entry → Type 0
-IsPrioritized i p es es' = (e : Entry) → e ≡ slice_index_or es i e → es' ≡ slice_set es i (record e { prio = p; filed = (slice_index_or es' i e).filed })
+IsPrioritized i p es es' = (e : Entry) → e ≡ slice_index_or es i e
+    → es' ≡ slice_set es i (record e { prio = p; filed = (slice_index_or es' i e).filed })
 
 -- nobody waits twice
 abbrev pub IsOnce : List Entry → Type 0

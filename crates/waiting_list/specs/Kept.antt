@@ -6,7 +6,8 @@ use Rattle.waiting_list.specs.declared.keys.Key.{Key}
 use Rattle.waiting_list.specs.declared.rows.Entry.{Entry}
 
 -- nobody waits twice, all are found by their keys and their threads, and there is room for as many as there are places
-pub record IsKept (es : List Entry) (ranks arrived : List Key) (index : Found) (room rank_room arrived_room places : ℕ) : Type 0 where
+pub record IsKept (es : List Entry) (ranks arrived : List Key) (index : Found)
+    (room rank_room arrived_room places : ℕ) : Type 0 where
   pub once : IsOnce es
   pub indexed : IsIndexed es ranks arrived
   pub known : IsKnown es index

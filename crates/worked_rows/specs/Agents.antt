@@ -17,7 +17,8 @@ abbrev pub agent_without_reply : Row
 agent_without_reply = record {
   script = posted (5 ∷ []) (line 0 0 (codes "one") ∷ line 0 1 (codes "two") ∷ [])
       (pod 1 (named (codes "main" ∷ []) (codes "g" ∷ []) [] [])
-      (procedure 0 (stmt.Agent 0 5 ∷ stmt.Recv (Some (who.Named 0)) mode.Block ∷ stmt.Recv (Some (who.Named 0)) mode.Block ∷ [])
+      (procedure 0 (stmt.Agent 0 5 ∷ stmt.Recv (Some (who.Named 0)) mode.Block
+      ∷ stmt.Recv (Some (who.Named 0)) mode.Block ∷ [])
       ∷ []));
   turns = 100000;
   trace = codes "t0: agent 5\nt0 = t1\nevent 5 client 0 seq 0 one\nt0: recv t1 wait\nt0 = letter t1 240 one\nt0: recv t1 wait\nstuck\nleft client 0 1\n";
@@ -141,7 +142,8 @@ taken_though_nobody_reads = record {
 --   post 0 a / post 1 b / post 2 c / post 2 d
 abbrev pub left_of_each_client : Row
 left_of_each_client = record {
-  script = posted (5 ∷ 6 ∷ 7 ∷ []) (line 0 0 (codes "a") ∷ line 1 0 (codes "b") ∷ line 2 0 (codes "c") ∷ line 2 1 (codes "d") ∷ [])
+  script = posted (5 ∷ 6 ∷ 7 ∷ [])
+      (line 0 0 (codes "a") ∷ line 1 0 (codes "b") ∷ line 2 0 (codes "c") ∷ line 2 1 (codes "d") ∷ [])
       (pod 1 (named (codes "main" ∷ []) (codes "g" ∷ []) [] [])
       (procedure 0 (stmt.Agent 0 6 ∷ [])
       ∷ []));
@@ -160,8 +162,10 @@ left_of_each_client = record {
 --   post 0 one / post 0 two / post 1 uno / post 1 due
 abbrev pub events_in_rising_order : Row
 events_in_rising_order = record {
-  script = posted (9 ∷ 4 ∷ []) (line 0 0 (codes "one") ∷ line 0 1 (codes "two") ∷ line 1 0 (codes "uno") ∷ line 1 1 (codes "due") ∷ [])
-      (speaking (codes "a" ∷ codes "b" ∷ []) (pod 1 (named (codes "main" ∷ codes "p" ∷ []) (codes "g" ∷ codes "h" ∷ []) [] [])
+  script = posted (9 ∷ 4 ∷ []) (line 0 0 (codes "one") ∷ line 0 1 (codes "two")
+      ∷ line 1 0 (codes "uno") ∷ line 1 1 (codes "due") ∷ [])
+      (speaking (codes "a" ∷ codes "b" ∷ [])
+      (pod 1 (named (codes "main" ∷ codes "p" ∷ []) (codes "g" ∷ codes "h" ∷ []) [] [])
       (procedure 0 (stmt.Agent 0 9 ∷ stmt.Agent 1 4 ∷ stmt.CallProc 1 ∷ stmt.Recv None mode.Block ∷ [])
       ∷ procedure 1 (stmt.Recv (Some (who.Named 0)) mode.Block ∷ stmt.Recv (Some (who.Named 1)) mode.Block
       ∷ stmt.OnExit (exit_stmt.Reply (who.Named 0) 0)
@@ -212,15 +216,17 @@ agent_dies_with_owner = record {
   takes = [];
 }
 
--- Events are 1 to 32, and any number of agents may have the same; the list has the agents of all threads. The agent of event 32 that
--- outlives the first thread hears of its death.
+-- Events are 1 to 32, and any number of agents may have the same; the list has the agents of all threads. The agent of
+-- event 32 that outlives the first thread hears of its death.
 --   lwp 1 / pod 1
 --   proc main / agent a 0 / agent b 33 / agent c 1 / agent d 32 / agent e 1 / create f w 1 - / yield self / agents
 --   proc w / agent g 2 / agent h 32 / yield self
 abbrev pub events_at_both_ends : Row
 events_at_both_ends = record {
-  script = pod 1 (named (codes "main" ∷ codes "w" ∷ []) (codes "a" ∷ codes "b" ∷ codes "c" ∷ codes "d" ∷ codes "e" ∷ codes "f" ∷ codes "g" ∷ codes "h" ∷ []) [] [])
-      (procedure 0 (stmt.Agent 0 0 ∷ stmt.Agent 1 33 ∷ stmt.Agent 2 1 ∷ stmt.Agent 3 32 ∷ stmt.Agent 4 1 ∷ stmt.Create 5 1 1 plain
+  script = pod 1 (named (codes "main" ∷ codes "w" ∷ [])
+      (codes "a" ∷ codes "b" ∷ codes "c" ∷ codes "d" ∷ codes "e" ∷ codes "f" ∷ codes "g" ∷ codes "h" ∷ []) [] [])
+      (procedure 0 (stmt.Agent 0 0 ∷ stmt.Agent 1 33 ∷ stmt.Agent 2 1 ∷ stmt.Agent 3 32
+      ∷ stmt.Agent 4 1 ∷ stmt.Create 5 1 1 plain
       ∷ stmt.Yield who.Me ∷ stmt.Agents ∷ [])
       ∷ procedure 1 (stmt.Agent 6 2 ∷ stmt.Agent 7 32 ∷ stmt.Yield who.Me ∷ [])
       ∷ []);
@@ -278,7 +284,11 @@ the_longest_reply_to_an_agent = record {
       (procedure 0 (stmt.Agent 0 31 ∷ stmt.Recv (Some (who.Named 0)) mode.Block ∷ stmt.Reply (who.Named 0) 0 ∷ [])
       ∷ [])));
   turns = 100000;
-  trace = codes "t0: agent 31\nt0 = t1\nevent 31 client 0 seq 0 " ++ (longest_x ++ (codes "\nt0: recv t1 wait\nt0 = letter t1 240 " ++ (longest_x ++ (codes "\nt0: reply t1 " ++ (longest_y ++ codes "\nt0 = 0\nt0: return\nt0 dies\npod ends 0\n")))));
+  trace = codes "t0: agent 31\nt0 = t1\nevent 31 client 0 seq 0 "
+      ++ (longest_x
+      ++ (codes "\nt0: recv t1 wait\nt0 = letter t1 240 "
+      ++ (longest_x
+      ++ (codes "\nt0: reply t1 " ++ (longest_y ++ codes "\nt0 = 0\nt0: return\nt0 dies\npod ends 0\n")))));
   halt = Ended 0;
   calls = 4;
   takes = took 1 31 (line 0 0 longest_x) ∷ [];
@@ -356,8 +366,10 @@ an_owner_dies_with_a_message = record {
 abbrev pub letters_of_threads_and_agents : Row
 letters_of_threads_and_agents = record {
   script = posted (5 ∷ []) (line 0 0 (codes "ho") ∷ [])
-      (speaking (codes "one" ∷ codes "two" ∷ codes "hi" ∷ []) (pod 1 (named (codes "main" ∷ codes "s" ∷ []) (codes "a" ∷ codes "g" ∷ []) [] [])
-      (procedure 0 (stmt.Create 0 1 1 plain ∷ stmt.Yield who.Me ∷ stmt.Agent 1 5 ∷ stmt.Senders ∷ stmt.Recv None mode.Block
+      (speaking (codes "one" ∷ codes "two" ∷ codes "hi" ∷ [])
+      (pod 1 (named (codes "main" ∷ codes "s" ∷ []) (codes "a" ∷ codes "g" ∷ []) [] [])
+      (procedure 0 (stmt.Create 0 1 1 plain ∷ stmt.Yield who.Me ∷ stmt.Agent 1 5 ∷ stmt.Senders
+      ∷ stmt.Recv None mode.Block
       ∷ stmt.Recv None mode.Block ∷ stmt.Reply (who.Named 0) 0 ∷ stmt.Reply (who.Named 1) 1
       ∷ [])
       ∷ procedure 1 (stmt.Send who.First 9 2 ∷ [])
@@ -378,9 +390,12 @@ letters_of_threads_and_agents = record {
 abbrev pub several_agents : Row
 several_agents = record {
   script = posted (5 ∷ []) (line 0 0 (codes "one") ∷ line 0 1 (codes "two") ∷ [])
-      (speaking (codes "ok" ∷ []) (pod 1 (named (codes "main" ∷ codes "w" ∷ []) (codes "a" ∷ codes "g" ∷ codes "h" ∷ []) [] [])
-      (procedure 0 (stmt.Create 0 1 1 plain ∷ stmt.Yield who.Me ∷ stmt.Agent 1 5 ∷ stmt.Yield who.Me ∷ stmt.Recv (Some (who.Named 1)) mode.Block ∷ stmt.Reply (who.Named 1) 0 ∷ [])
-      ∷ procedure 1 (stmt.Agent 2 5 ∷ stmt.Recv (Some (who.Named 2)) mode.Block ∷ stmt.Yield who.Me ∷ stmt.Reply (who.Named 2) 0 ∷ stmt.Recv (Some (who.Named 2)) mode.Block ∷ stmt.Reply (who.Named 2) 0 ∷ [])
+      (speaking (codes "ok" ∷ []) (pod 1
+      (named (codes "main" ∷ codes "w" ∷ []) (codes "a" ∷ codes "g" ∷ codes "h" ∷ []) [] [])
+      (procedure 0 (stmt.Create 0 1 1 plain ∷ stmt.Yield who.Me ∷ stmt.Agent 1 5 ∷ stmt.Yield who.Me
+      ∷ stmt.Recv (Some (who.Named 1)) mode.Block ∷ stmt.Reply (who.Named 1) 0 ∷ [])
+      ∷ procedure 1 (stmt.Agent 2 5 ∷ stmt.Recv (Some (who.Named 2)) mode.Block ∷ stmt.Yield who.Me
+      ∷ stmt.Reply (who.Named 2) 0 ∷ stmt.Recv (Some (who.Named 2)) mode.Block ∷ stmt.Reply (who.Named 2) 0 ∷ [])
       ∷ [])));
   turns = 100000;
   trace = codes "t0: create w 1 -\nt0 = t1\nt0: yield self\nt0 = 0\nt1: agent 5\nt1 = t2\nevent 5 client 0 seq 0 one\nt1: recv t2 wait\nt1 = letter t2 240 one\nt1: yield self\nt1 = 0\nt0: agent 5\nt0 = t3\nt0: yield self\nt0 = 0\nt1: reply t2 ok\nt1 = 0\nevent 5 client 0 seq 1 two\nalso t3\nt1: recv t2 wait\nt1 = letter t2 240 two\nt1: reply t2 ok\nt1 = 0\nt1: return\nt1 dies\nt0: recv t3 wait\nt0 = letter t3 240 two\nt0: reply t3 ok\nt0 = 0\nt0: return\nt0 dies\npod ends 0\n";
@@ -392,13 +407,16 @@ several_agents = record {
 -- An owner of two agents has a letter of each; the event waits for both replies.
 --   lwp 1 / pod 1
 --   client 0 5
---   proc main / agent g 5 / agent h 5 / recv any wait / reply g ok / recv any wait / recv any wait / reply h ok / reply g ok
+--   proc main / agent g 5 / agent h 5 / recv any wait / reply g ok / recv any wait / recv any wait / reply h ok /
+--     reply g ok
 --   post 0 x / post 0 y
 abbrev pub two_agents_of_one_owner : Row
 two_agents_of_one_owner = record {
   script = posted (5 ∷ []) (line 0 0 (codes "x") ∷ line 0 1 (codes "y") ∷ [])
       (speaking (codes "ok" ∷ []) (pod 1 (named (codes "main" ∷ []) (codes "g" ∷ codes "h" ∷ []) [] [])
-      (procedure 0 (stmt.Agent 0 5 ∷ stmt.Agent 1 5 ∷ stmt.Recv None mode.Block ∷ stmt.Reply (who.Named 0) 0 ∷ stmt.Recv None mode.Block ∷ stmt.Recv None mode.Block ∷ stmt.Reply (who.Named 1) 0 ∷ stmt.Reply (who.Named 0) 0 ∷ [])
+      (procedure 0 (stmt.Agent 0 5 ∷ stmt.Agent 1 5 ∷ stmt.Recv None mode.Block
+      ∷ stmt.Reply (who.Named 0) 0 ∷ stmt.Recv None mode.Block ∷ stmt.Recv None mode.Block
+      ∷ stmt.Reply (who.Named 1) 0 ∷ stmt.Reply (who.Named 0) 0 ∷ [])
       ∷ [])));
   turns = 100000;
   trace = codes "t0: agent 5\nt0 = t1\nevent 5 client 0 seq 0 x\nt0: agent 5\nt0 = t2\nt0: recv any wait\nt0 = letter t1 240 x\nt0: reply t1 ok\nt0 = 0\nevent 5 client 0 seq 1 y\nalso t2\nt0: recv any wait\nt0 = letter t1 240 y\nt0: recv any wait\nt0 = letter t2 240 y\nt0: reply t2 ok\nt0 = 0\nt0: reply t1 ok\nt0 = 0\nt0: return\nt0 dies\npod ends 0\n";
@@ -416,8 +434,11 @@ two_agents_of_one_owner = record {
 abbrev pub an_owner_waits_for_the_second : Row
 an_owner_waits_for_the_second = record {
   script = posted (5 ∷ []) (line 0 0 (codes "x") ∷ line 0 1 (codes "y") ∷ [])
-      (speaking (codes "ok" ∷ []) (pod 1 (named (codes "main" ∷ codes "w" ∷ []) (codes "g" ∷ codes "a" ∷ codes "h" ∷ []) [] [])
-      (procedure 0 (stmt.Agent 0 5 ∷ stmt.Recv (Some (who.Named 0)) mode.Block ∷ stmt.Create 1 1 1 plain ∷ stmt.Yield who.Me ∷ stmt.Reply (who.Named 0) 0 ∷ stmt.Recv (Some (who.Named 0)) mode.Block ∷ stmt.Reply (who.Named 0) 0 ∷ [])
+      (speaking (codes "ok" ∷ []) (pod 1
+      (named (codes "main" ∷ codes "w" ∷ []) (codes "g" ∷ codes "a" ∷ codes "h" ∷ []) [] [])
+      (procedure 0 (stmt.Agent 0 5 ∷ stmt.Recv (Some (who.Named 0)) mode.Block
+      ∷ stmt.Create 1 1 1 plain ∷ stmt.Yield who.Me ∷ stmt.Reply (who.Named 0) 0
+      ∷ stmt.Recv (Some (who.Named 0)) mode.Block ∷ stmt.Reply (who.Named 0) 0 ∷ [])
       ∷ procedure 1 (stmt.Agent 2 5 ∷ stmt.Recv (Some (who.Named 2)) mode.Block ∷ stmt.Reply (who.Named 2) 0 ∷ [])
       ∷ [])));
   turns = 100000;

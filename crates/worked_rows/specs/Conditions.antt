@@ -11,7 +11,8 @@ use Rattle.script_text.specs.declared.script.Stmt.TheVariants as stmt
 abbrev pub condition_of_outer_monitor : Row
 condition_of_outer_monitor = record {
   script = pod 1 (named (codes "main" ∷ []) [] (codes "m" ∷ codes "n" ∷ []) (codes "c" ∷ []))
-      (procedure 0 (stmt.MonCreate 0 ∷ stmt.MonCreate 1 ∷ stmt.CvCreate 0 0 ∷ stmt.Enter 0 ∷ stmt.Enter 1 ∷ stmt.Wait 0 ∷ [])
+      (procedure 0 (stmt.MonCreate 0 ∷ stmt.MonCreate 1 ∷ stmt.CvCreate 0 0 ∷ stmt.Enter 0
+      ∷ stmt.Enter 1 ∷ stmt.Wait 0 ∷ [])
       ∷ []);
   turns = 100000;
   trace = codes "t0: moncreate\nt0 = m0\nt0: moncreate\nt0 = m1\nt0: cvcreate m0\nt0 = c0\nt0: enter m0\nt0 = 0\nt0: enter m1\nt0 = 0\nt0: wait c0\nt0 ! LE_NOTOWNED\nt0: return\nt0 dies\npod ends 0\n";
@@ -62,7 +63,8 @@ without_the_lock = record {
 abbrev pub the_lock_acquired_last : Row
 the_lock_acquired_last = record {
   script = pod 1 (named (codes "main" ∷ []) [] (codes "m" ∷ codes "n" ∷ []) (codes "c" ∷ codes "d" ∷ []))
-      (procedure 0 (stmt.MonCreate 0 ∷ stmt.MonCreate 1 ∷ stmt.CvCreate 0 0 ∷ stmt.CvCreate 1 1 ∷ stmt.Enter 0 ∷ stmt.Enter 1
+      (procedure 0 (stmt.MonCreate 0 ∷ stmt.MonCreate 1 ∷ stmt.CvCreate 0 0 ∷ stmt.CvCreate 1 1
+      ∷ stmt.Enter 0 ∷ stmt.Enter 1
       ∷ stmt.Enter 0 ∷ stmt.Wait 0 ∷ stmt.Notify 0 ∷ stmt.Broadcast 0 ∷ stmt.CvSend 0 who.Me ∷ stmt.Notify 1
       ∷ stmt.MonExit 1 ∷ stmt.Notify 0 ∷ [])
       ∷ []);
@@ -81,7 +83,8 @@ the_lock_acquired_last = record {
 abbrev pub cvsend_is_refused_in_order : Row
 cvsend_is_refused_in_order = record {
   script = pod 1 (named (codes "main" ∷ codes "w" ∷ []) (codes "a" ∷ []) (codes "m" ∷ []) (codes "c" ∷ codes "d" ∷ []))
-      (procedure 0 (stmt.MonCreate 0 ∷ stmt.CvCreate 0 0 ∷ stmt.CvCreate 1 0 ∷ stmt.Create 0 1 1 plain ∷ stmt.Yield who.Me
+      (procedure 0 (stmt.MonCreate 0 ∷ stmt.CvCreate 0 0 ∷ stmt.CvCreate 1 0
+      ∷ stmt.Create 0 1 1 plain ∷ stmt.Yield who.Me
       ∷ stmt.Enter 0 ∷ stmt.CvSend 0 who.Nobody ∷ stmt.CvSend 0 who.Me ∷ stmt.CvSend 1 (who.Named 0)
       ∷ stmt.CvSend 0 (who.Named 0) ∷ stmt.CvSend 0 (who.Named 0) ∷ stmt.MonExit 0 ∷ [])
       ∷ procedure 1 (stmt.Enter 0 ∷ stmt.Wait 0 ∷ stmt.MonExit 0 ∷ [])
@@ -99,8 +102,10 @@ cvsend_is_refused_in_order = record {
 --     conditions / cvwaiters c / cvwaiters d / cvcreate f m
 abbrev pub conditions_go_with_their_monitor : Row
 conditions_go_with_their_monitor = record {
-  script = pod 1 (named (codes "main" ∷ []) [] (codes "m" ∷ codes "n" ∷ []) (codes "c" ∷ codes "d" ∷ codes "e" ∷ codes "f" ∷ []))
-      (procedure 0 (stmt.MonCreate 0 ∷ stmt.MonCreate 1 ∷ stmt.CvCreate 0 0 ∷ stmt.CvCreate 1 1 ∷ stmt.CvCreate 2 0 ∷ stmt.Conditions
+  script = pod 1 (named (codes "main" ∷ []) [] (codes "m" ∷ codes "n" ∷ [])
+      (codes "c" ∷ codes "d" ∷ codes "e" ∷ codes "f" ∷ []))
+      (procedure 0 (stmt.MonCreate 0 ∷ stmt.MonCreate 1 ∷ stmt.CvCreate 0 0 ∷ stmt.CvCreate 1 1
+      ∷ stmt.CvCreate 2 0 ∷ stmt.Conditions
       ∷ stmt.MonDestroy 0 ∷ stmt.Conditions ∷ stmt.CvWaiters 0 ∷ stmt.CvWaiters 1 ∷ stmt.CvCreate 3 0 ∷ [])
       ∷ []);
   turns = 100000;
@@ -118,7 +123,8 @@ conditions_go_with_their_monitor = record {
 abbrev pub in_use_while_waited_on : Row
 in_use_while_waited_on = record {
   script = pod 1 (named (codes "main" ∷ codes "w" ∷ []) (codes "a" ∷ []) (codes "m" ∷ []) (codes "c" ∷ []))
-      (procedure 0 (stmt.MonCreate 0 ∷ stmt.CvCreate 0 0 ∷ stmt.Create 0 1 1 plain ∷ stmt.Yield who.Me ∷ stmt.MonDestroy 0
+      (procedure 0 (stmt.MonCreate 0 ∷ stmt.CvCreate 0 0 ∷ stmt.Create 0 1 1 plain
+      ∷ stmt.Yield who.Me ∷ stmt.MonDestroy 0
       ∷ stmt.CvDestroy 0 ∷ stmt.CvWaiters 0 ∷ stmt.Destroy (who.Named 0) ∷ stmt.CvDestroy 0 ∷ stmt.MonDestroy 0 ∷ [])
       ∷ procedure 1 (stmt.Enter 0 ∷ stmt.Wait 0 ∷ [])
       ∷ []);
@@ -137,11 +143,13 @@ in_use_while_waited_on = record {
 --   proc e / enter m / monexit m
 abbrev pub depth_comes_back : Row
 depth_comes_back = record {
-  script = pod 2 (named (codes "main" ∷ codes "w" ∷ codes "e" ∷ []) (codes "a" ∷ codes "b" ∷ codes "d" ∷ []) (codes "m" ∷ []) (codes "c" ∷ []))
+  script = pod 2 (named (codes "main" ∷ codes "w" ∷ codes "e" ∷ [])
+      (codes "a" ∷ codes "b" ∷ codes "d" ∷ []) (codes "m" ∷ []) (codes "c" ∷ []))
       (procedure 0 (stmt.MonCreate 0 ∷ stmt.CvCreate 0 0 ∷ stmt.Create 0 1 2 plain ∷ stmt.Yield who.Me ∷ stmt.Enter 0
       ∷ stmt.Create 1 2 2 plain ∷ stmt.Create 2 2 2 plain ∷ stmt.Yield who.Me ∷ stmt.Notify 0
       ∷ stmt.SetPri (who.Named 1) 1 ∷ stmt.MonExit 0 ∷ [])
-      ∷ procedure 1 (stmt.Enter 0 ∷ stmt.Enter 0 ∷ stmt.Enter 0 ∷ stmt.Wait 0 ∷ stmt.MonExit 0 ∷ stmt.MonExit 0 ∷ stmt.MonExit 0
+      ∷ procedure 1
+      (stmt.Enter 0 ∷ stmt.Enter 0 ∷ stmt.Enter 0 ∷ stmt.Wait 0 ∷ stmt.MonExit 0 ∷ stmt.MonExit 0 ∷ stmt.MonExit 0
       ∷ [])
       ∷ procedure 2 (stmt.Enter 0 ∷ stmt.MonExit 0 ∷ [])
       ∷ []);
@@ -160,7 +168,8 @@ depth_comes_back = record {
 --   proc w / enter m / wait c / monexit m
 abbrev pub notify_wakes_the_greatest_priority : Row
 notify_wakes_the_greatest_priority = record {
-  script = pod 3 (named (codes "main" ∷ codes "w" ∷ []) (codes "a" ∷ codes "b" ∷ codes "d" ∷ []) (codes "m" ∷ []) (codes "c" ∷ []))
+  script = pod 3 (named (codes "main" ∷ codes "w" ∷ []) (codes "a" ∷ codes "b" ∷ codes "d" ∷ [])
+      (codes "m" ∷ []) (codes "c" ∷ []))
       (procedure 0 (stmt.MonCreate 0 ∷ stmt.CvCreate 0 0 ∷ stmt.Create 0 1 2 plain ∷ stmt.Create 1 1 3 plain
       ∷ stmt.Create 2 1 3 plain ∷ stmt.SetPri who.Me 1 ∷ stmt.Enter 0 ∷ stmt.CvWaiters 0 ∷ stmt.Notify 0
       ∷ stmt.MonWaiters 0 ∷ stmt.Notify 0 ∷ stmt.MonWaiters 0 ∷ stmt.CvWaiters 0 ∷ stmt.Notify 0 ∷ stmt.MonWaiters 0
@@ -182,7 +191,8 @@ notify_wakes_the_greatest_priority = record {
 --   proc w / enter m / wait c / monexit m
 abbrev pub notify_by_present_priority : Row
 notify_by_present_priority = record {
-  script = pod 2 (named (codes "main" ∷ codes "w" ∷ []) (codes "a" ∷ codes "b" ∷ codes "d" ∷ []) (codes "m" ∷ []) (codes "c" ∷ []))
+  script = pod 2 (named (codes "main" ∷ codes "w" ∷ []) (codes "a" ∷ codes "b" ∷ codes "d" ∷ [])
+      (codes "m" ∷ []) (codes "c" ∷ []))
       (procedure 0 (stmt.MonCreate 0 ∷ stmt.CvCreate 0 0 ∷ stmt.Create 0 1 2 plain ∷ stmt.Create 1 1 2 plain
       ∷ stmt.Create 2 1 1 plain ∷ stmt.SetPri who.Me 1 ∷ stmt.Enter 0 ∷ stmt.SetPri (who.Named 0) 1
       ∷ stmt.SetPri (who.Named 2) 2 ∷ stmt.Notify 0 ∷ stmt.MonWaiters 0 ∷ stmt.CvWaiters 0 ∷ stmt.Notify 0
@@ -224,7 +234,8 @@ broadcast_in_arrival_order = record {
 --   proc e / enter m / monexit m
 abbrev pub the_woken_come_last : Row
 the_woken_come_last = record {
-  script = pod 1 (named (codes "main" ∷ codes "w" ∷ codes "e" ∷ []) (codes "a" ∷ codes "b" ∷ []) (codes "m" ∷ []) (codes "c" ∷ []))
+  script = pod 1 (named (codes "main" ∷ codes "w" ∷ codes "e" ∷ []) (codes "a" ∷ codes "b" ∷ [])
+      (codes "m" ∷ []) (codes "c" ∷ []))
       (procedure 0 (stmt.MonCreate 0 ∷ stmt.CvCreate 0 0 ∷ stmt.Create 0 1 1 plain ∷ stmt.Yield who.Me ∷ stmt.Enter 0
       ∷ stmt.Create 1 2 1 plain ∷ stmt.Yield who.Me ∷ stmt.Notify 0 ∷ stmt.MonWaiters 0 ∷ stmt.MonExit 0 ∷ [])
       ∷ procedure 1 (stmt.Enter 0 ∷ stmt.Wait 0 ∷ stmt.MonExit 0 ∷ [])
@@ -256,7 +267,8 @@ a_wait_hands_the_monitor_on = record {
   takes = [];
 }
 
--- A wait gives up the condition's monitor alone; the outer one is held meanwhile, and isn't the last acquired afterwards.
+-- A wait gives up the condition's monitor alone; the outer one is held meanwhile, and isn't the last acquired
+-- afterwards.
 --   lwp 1 / pod 1
 --   proc main / moncreate m / moncreate n / cvcreate c n / create a w 1 - / yield self / condenter m / enter n /
 --     notify c / monexit n
@@ -264,7 +276,8 @@ a_wait_hands_the_monitor_on = record {
 abbrev pub a_wait_gives_up_one_monitor : Row
 a_wait_gives_up_one_monitor = record {
   script = pod 1 (named (codes "main" ∷ codes "w" ∷ []) (codes "a" ∷ []) (codes "m" ∷ codes "n" ∷ []) (codes "c" ∷ []))
-      (procedure 0 (stmt.MonCreate 0 ∷ stmt.MonCreate 1 ∷ stmt.CvCreate 0 1 ∷ stmt.Create 0 1 1 plain ∷ stmt.Yield who.Me
+      (procedure 0 (stmt.MonCreate 0 ∷ stmt.MonCreate 1 ∷ stmt.CvCreate 0 1
+      ∷ stmt.Create 0 1 1 plain ∷ stmt.Yield who.Me
       ∷ stmt.CondEnter 0 ∷ stmt.Enter 1 ∷ stmt.Notify 0 ∷ stmt.MonExit 1 ∷ [])
       ∷ procedure 1 (stmt.Enter 0 ∷ stmt.Enter 1 ∷ stmt.Wait 0 ∷ stmt.Notify 0 ∷ stmt.MonExit 1 ∷ stmt.MonExit 0 ∷ [])
       ∷ []);

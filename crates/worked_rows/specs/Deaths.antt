@@ -34,7 +34,8 @@ destroyed_while_waiting = record {
 abbrev pub its_own_letter : Row
 its_own_letter = record {
   script = speaking (codes "hi" ∷ []) (pod 1 (named (codes "main" ∷ codes "s" ∷ []) (codes "a" ∷ []) [] [])
-      (procedure 0 (stmt.Create 0 1 1 plain ∷ stmt.Yield who.Me ∷ stmt.Senders ∷ stmt.Destroy (who.Named 0) ∷ stmt.Senders
+      (procedure 0 (stmt.Create 0 1 1 plain ∷ stmt.Yield who.Me ∷ stmt.Senders
+      ∷ stmt.Destroy (who.Named 0) ∷ stmt.Senders
       ∷ stmt.Recv None mode.Poll ∷ [])
       ∷ procedure 1 (stmt.Send who.First 9 0 ∷ [])
       ∷ []));
@@ -71,7 +72,8 @@ its_received_letter = record {
 abbrev pub its_wait : Row
 its_wait = record {
   script = pod 1 (named (codes "main" ∷ codes "w" ∷ []) (codes "a" ∷ codes "b" ∷ []) (codes "m" ∷ []) (codes "c" ∷ []))
-      (procedure 0 (stmt.MonCreate 0 ∷ stmt.CvCreate 0 0 ∷ stmt.Create 0 1 1 plain ∷ stmt.Create 1 1 1 plain ∷ stmt.Yield who.Me
+      (procedure 0 (stmt.MonCreate 0 ∷ stmt.CvCreate 0 0 ∷ stmt.Create 0 1 1 plain
+      ∷ stmt.Create 1 1 1 plain ∷ stmt.Yield who.Me
       ∷ stmt.Destroy (who.Named 0) ∷ stmt.CvWaiters 0 ∷ stmt.Enter 0 ∷ stmt.Notify 0 ∷ stmt.MonWaiters 0
       ∷ stmt.MonExit 0 ∷ [])
       ∷ procedure 1 (stmt.Enter 0 ∷ stmt.Wait 0 ∷ stmt.MonExit 0 ∷ [])
@@ -109,7 +111,8 @@ its_entry_request = record {
 --   proc w / yield self / say last
 abbrev pub its_join : Row
 its_join = record {
-  script = speaking (codes "done" ∷ codes "last" ∷ []) (pod 1 (named (codes "main" ∷ codes "j" ∷ codes "w" ∷ []) (codes "a" ∷ codes "b" ∷ []) [] [])
+  script = speaking (codes "done" ∷ codes "last" ∷ [])
+      (pod 1 (named (codes "main" ∷ codes "j" ∷ codes "w" ∷ []) (codes "a" ∷ codes "b" ∷ []) [] [])
       (procedure 0 (stmt.Create 0 1 1 plain ∷ stmt.Create 1 2 1 plain ∷ stmt.Yield who.Me ∷ stmt.Destroy (who.Named 0)
       ∷ stmt.Say 0 ∷ [])
       ∷ procedure 1 (stmt.Join (who.Named 1) ∷ [])
@@ -166,7 +169,8 @@ death_with_received_letter = record {
 --   proc q / onexit note b / handle all - 0 / onexit note c / yield self
 abbrev pub exits_of_all_frames : Row
 exits_of_all_frames = record {
-  script = speaking (codes "a" ∷ codes "b" ∷ codes "c" ∷ []) (pod 1 (named (codes "main" ∷ codes "p" ∷ codes "q" ∷ []) (codes "a" ∷ []) [] [])
+  script = speaking (codes "a" ∷ codes "b" ∷ codes "c" ∷ [])
+      (pod 1 (named (codes "main" ∷ codes "p" ∷ codes "q" ∷ []) (codes "a" ∷ []) [] [])
       (procedure 0 (stmt.Create 0 1 1 plain ∷ stmt.Yield who.Me ∷ stmt.Destroy (who.Named 0) ∷ [])
       ∷ procedure 1 (stmt.OnExit (exit_stmt.Note 0) ∷ stmt.CallProc 2 ∷ [])
       ∷ procedure 2 (stmt.OnExit (exit_stmt.Note 1) ∷ stmt.Handle pattern.All func.Nothing 0
@@ -187,8 +191,10 @@ exits_of_all_frames = record {
 --   proc f / enter n
 abbrev pub locks_last_acquired_first : Row
 locks_last_acquired_first = record {
-  script = pod 1 (named (codes "main" ∷ codes "e" ∷ codes "f" ∷ []) (codes "a" ∷ codes "b" ∷ []) (codes "m" ∷ codes "n" ∷ []) [])
-      (procedure 0 (stmt.MonCreate 0 ∷ stmt.MonCreate 1 ∷ stmt.Enter 0 ∷ stmt.Enter 1 ∷ stmt.Enter 0 ∷ stmt.Create 0 1 1 plain
+  script = pod 1 (named (codes "main" ∷ codes "e" ∷ codes "f" ∷ []) (codes "a" ∷ codes "b" ∷ [])
+      (codes "m" ∷ codes "n" ∷ []) [])
+      (procedure 0 (stmt.MonCreate 0 ∷ stmt.MonCreate 1 ∷ stmt.Enter 0 ∷ stmt.Enter 1 ∷ stmt.Enter 0
+      ∷ stmt.Create 0 1 1 plain
       ∷ stmt.Create 1 2 1 plain ∷ stmt.Yield who.Me ∷ [])
       ∷ procedure 1 (stmt.Enter 0 ∷ stmt.MonExit 0 ∷ stmt.MonExit 0 ∷ [])
       ∷ procedure 2 (stmt.Enter 1 ∷ [])
@@ -208,7 +214,8 @@ locks_last_acquired_first = record {
 --   proc q / recv g wait
 abbrev pub agents_in_birth_order : Row
 agents_in_birth_order = record {
-  script = pod 1 (named (codes "main" ∷ codes "o" ∷ codes "r" ∷ codes "q" ∷ []) (codes "a" ∷ codes "b" ∷ codes "c" ∷ codes "g" ∷ codes "h" ∷ []) [] [])
+  script = pod 1 (named (codes "main" ∷ codes "o" ∷ codes "r" ∷ codes "q" ∷ [])
+      (codes "a" ∷ codes "b" ∷ codes "c" ∷ codes "g" ∷ codes "h" ∷ []) [] [])
       (procedure 0 (stmt.Create 0 1 1 plain ∷ stmt.Create 1 2 1 plain ∷ stmt.Create 2 3 1 plain ∷ stmt.Yield who.Me
       ∷ stmt.Join (who.Named 0) ∷ [])
       ∷ procedure 1 (stmt.Agent 3 5 ∷ stmt.Agent 4 4 ∷ stmt.Yield who.Me ∷ [])
@@ -228,8 +235,10 @@ agents_in_birth_order = record {
 --   proc s / send first 9 hi
 abbrev pub senders_in_send_order : Row
 senders_in_send_order = record {
-  script = speaking (codes "hi" ∷ []) (pod 1 (named (codes "main" ∷ codes "s" ∷ []) (codes "a" ∷ codes "b" ∷ codes "c" ∷ []) [] [])
-      (procedure 0 (stmt.Create 0 1 1 plain ∷ stmt.Create 1 1 1 plain ∷ stmt.Create 2 1 1 plain ∷ stmt.Yield (who.Named 0)
+  script = speaking (codes "hi" ∷ [])
+      (pod 1 (named (codes "main" ∷ codes "s" ∷ []) (codes "a" ∷ codes "b" ∷ codes "c" ∷ []) [] [])
+      (procedure 0 (stmt.Create 0 1 1 plain ∷ stmt.Create 1 1 1 plain ∷ stmt.Create 2 1 1 plain
+      ∷ stmt.Yield (who.Named 0)
       ∷ stmt.Yield (who.Named 2) ∷ stmt.Yield (who.Named 1) ∷ stmt.Recv (Some (who.Named 2)) mode.Block ∷ [])
       ∷ procedure 1 (stmt.Send who.First 9 0 ∷ [])
       ∷ []));
@@ -247,7 +256,8 @@ senders_in_send_order = record {
 abbrev pub named_receivers_in_birth_order : Row
 named_receivers_in_birth_order = record {
   script = pod 1 (named (codes "main" ∷ codes "n" ∷ []) (codes "a" ∷ codes "b" ∷ []) [] [])
-      (procedure 0 (stmt.Create 0 1 1 plain ∷ stmt.Create 1 1 1 plain ∷ stmt.Yield (who.Named 1) ∷ stmt.Yield (who.Named 0) ∷ [])
+      (procedure 0 (stmt.Create 0 1 1 plain ∷ stmt.Create 1 1 1 plain ∷ stmt.Yield (who.Named 1)
+      ∷ stmt.Yield (who.Named 0) ∷ [])
       ∷ procedure 1 (stmt.Recv (Some who.First) mode.Block ∷ [])
       ∷ []);
   turns = 100000;
@@ -264,7 +274,8 @@ named_receivers_in_birth_order = record {
 abbrev pub joiners_in_birth_order : Row
 joiners_in_birth_order = record {
   script = pod 1 (named (codes "main" ∷ codes "j" ∷ []) (codes "a" ∷ codes "b" ∷ []) [] [])
-      (procedure 0 (stmt.Create 0 1 1 plain ∷ stmt.Create 1 1 1 plain ∷ stmt.Yield (who.Named 1) ∷ stmt.Yield (who.Named 0) ∷ [])
+      (procedure 0 (stmt.Create 0 1 1 plain ∷ stmt.Create 1 1 1 plain ∷ stmt.Yield (who.Named 1)
+      ∷ stmt.Yield (who.Named 0) ∷ [])
       ∷ procedure 1 (stmt.Join who.First ∷ [])
       ∷ []);
   turns = 100000;
@@ -285,7 +296,9 @@ joiners_in_birth_order = record {
 --   proc j / join first
 abbrev pub all_at_once : Row
 all_at_once = record {
-  script = speaking (codes "bye" ∷ codes "hi" ∷ []) (pod 1 (named (codes "main" ∷ codes "e" ∷ codes "r" ∷ codes "s" ∷ codes "n" ∷ codes "j" ∷ []) (codes "g" ∷ codes "a" ∷ codes "b" ∷ codes "c" ∷ codes "d" ∷ codes "f" ∷ []) (codes "m" ∷ []) [])
+  script = speaking (codes "bye" ∷ codes "hi" ∷ [])
+      (pod 1 (named (codes "main" ∷ codes "e" ∷ codes "r" ∷ codes "s" ∷ codes "n" ∷ codes "j" ∷ [])
+      (codes "g" ∷ codes "a" ∷ codes "b" ∷ codes "c" ∷ codes "d" ∷ codes "f" ∷ []) (codes "m" ∷ []) [])
       (procedure 0 (stmt.MonCreate 0 ∷ stmt.Enter 0 ∷ stmt.Agent 0 5 ∷ stmt.OnExit (exit_stmt.Note 0)
       ∷ stmt.Create 1 1 1 plain ∷ stmt.Create 2 2 1 plain ∷ stmt.Create 3 3 1 plain ∷ stmt.Create 4 4 1 plain
       ∷ stmt.Create 5 5 1 plain ∷ stmt.Yield who.Me ∷ [])
@@ -313,7 +326,9 @@ all_at_once = record {
 --   proc j / join first
 abbrev pub the_same_in_another_order : Row
 the_same_in_another_order = record {
-  script = speaking (codes "hi" ∷ []) (pod 1 (named (codes "main" ∷ codes "j" ∷ codes "n" ∷ codes "s" ∷ codes "r" ∷ codes "e" ∷ []) (codes "g" ∷ codes "f" ∷ codes "d" ∷ codes "c" ∷ codes "b" ∷ codes "a" ∷ []) (codes "m" ∷ []) [])
+  script = speaking (codes "hi" ∷ [])
+      (pod 1 (named (codes "main" ∷ codes "j" ∷ codes "n" ∷ codes "s" ∷ codes "r" ∷ codes "e" ∷ [])
+      (codes "g" ∷ codes "f" ∷ codes "d" ∷ codes "c" ∷ codes "b" ∷ codes "a" ∷ []) (codes "m" ∷ []) [])
       (procedure 0 (stmt.MonCreate 0 ∷ stmt.Enter 0 ∷ stmt.Agent 0 5 ∷ stmt.Create 1 1 1 plain ∷ stmt.Create 2 2 1 plain
       ∷ stmt.Create 3 3 1 plain ∷ stmt.Create 4 4 1 plain ∷ stmt.Create 5 5 1 plain ∷ stmt.Yield who.Me ∷ [])
       ∷ procedure 5 (stmt.Enter 0 ∷ [])

@@ -41,7 +41,9 @@ budgets_spent = record {
 --   proc main / say x / say x / say x / say x / say x / say x / say x / say x / say x
 abbrev pub budgets_nine10 : Row
 budgets_nine10 = record {
-  script = speaking (codes "x" ∷ codes "x" ∷ codes "x" ∷ codes "x" ∷ codes "x" ∷ codes "x" ∷ codes "x" ∷ codes "x" ∷ codes "x" ∷ []) (pod 1 (named (codes "main" ∷ []) [] [] [])
+  script = speaking
+      (codes "x" ∷ codes "x" ∷ codes "x" ∷ codes "x" ∷ codes "x" ∷ codes "x" ∷ codes "x" ∷ codes "x" ∷ codes "x" ∷ [])
+      (pod 1 (named (codes "main" ∷ []) [] [] [])
       (procedure 0 (stmt.Say 0 ∷ stmt.Say 1 ∷ stmt.Say 2 ∷ stmt.Say 3
       ∷ stmt.Say 4 ∷ stmt.Say 5 ∷ stmt.Say 6 ∷ stmt.Say 7
       ∷ stmt.Say 8 ∷ [])
@@ -168,7 +170,8 @@ servers_alone = record {
   script = posted (5 ∷ []) (line 0 0 (codes "one") ∷ line 0 1 (codes "two") ∷ [])
       (pod 1 (named (codes "main" ∷ codes "w" ∷ []) (codes "a" ∷ codes "g" ∷ []) [] [])
       (procedure 0 (stmt.Create 0 1 1 serving ∷ [])
-      ∷ procedure 1 (stmt.Agent 1 5 ∷ stmt.Recv (Some (who.Named 1)) mode.Block ∷ stmt.Recv (Some (who.Named 1)) mode.Block ∷ [])
+      ∷ procedure 1
+      (stmt.Agent 1 5 ∷ stmt.Recv (Some (who.Named 1)) mode.Block ∷ stmt.Recv (Some (who.Named 1)) mode.Block ∷ [])
       ∷ []));
   turns = 100000;
   trace = codes "t0: create w 1 v\nt0 = t1\nt0: return\nt0 dies\nt1: agent 5\nt1 = t2\nevent 5 client 0 seq 0 one\nt1: recv t2 wait\nt1 = letter t2 240 one\nt1: recv t2 wait\npod ends 0\nleft client 0 1\n";
@@ -217,8 +220,10 @@ a_server_that_may_run = record {
 --   proc w / say never
 abbrev pub a_suspended_thread_keeps_the_pod : Row
 a_suspended_thread_keeps_the_pod = record {
-  script = speaking (codes "never" ∷ []) (pod 1 (named (codes "main" ∷ codes "w" ∷ []) (codes "a" ∷ codes "b" ∷ []) [] [])
-      (procedure 0 (stmt.Create 0 1 1 (record { suspended = true; nolastrites = false; server = true }) ∷ stmt.Create 1 1 1 asleep
+  script = speaking (codes "never" ∷ [])
+      (pod 1 (named (codes "main" ∷ codes "w" ∷ []) (codes "a" ∷ codes "b" ∷ []) [] [])
+      (procedure 0 (stmt.Create 0 1 1 (record { suspended = true; nolastrites = false; server = true })
+      ∷ stmt.Create 1 1 1 asleep
       ∷ [])
       ∷ procedure 1 (stmt.Say 0 ∷ [])
       ∷ []));

@@ -15,7 +15,8 @@ use Rattle.lwp_types.specs.declared.call.Func.TheVariants as func
 abbrev pub functions_of_handlers : Row
 functions_of_handlers = record {
   script = pod 1 (named (codes "main" ∷ []) [] [] [])
-      (procedure 0 (stmt.Handle (pattern.Num 7) func.Sum 5 ∷ stmt.Bound 7 ∷ stmt.ExcNotify 7 ∷ stmt.Unhandle ∷ stmt.Unhandle
+      (procedure 0 (stmt.Handle (pattern.Num 7) func.Sum 5 ∷ stmt.Bound 7 ∷ stmt.ExcNotify 7
+      ∷ stmt.Unhandle ∷ stmt.Unhandle
       ∷ stmt.UniqPatt ∷ stmt.Raise 0 ∷ [])
       ∷ []);
   turns = 100000;
@@ -51,7 +52,8 @@ patterns_at_both_ends = record {
 abbrev pub no_handler_matches : Row
 no_handler_matches = record {
   script = pod 1 (named (codes "main" ∷ []) [] [] [])
-      (procedure 0 (stmt.Raise 1 ∷ stmt.ExcNotify 1 ∷ stmt.Bound 1 ∷ stmt.Handle (pattern.Num 2) func.Nothing 0 ∷ stmt.Raise 1
+      (procedure 0 (stmt.Raise 1 ∷ stmt.ExcNotify 1 ∷ stmt.Bound 1
+      ∷ stmt.Handle (pattern.Num 2) func.Nothing 0 ∷ stmt.Raise 1
       ∷ stmt.ExcNotify 1 ∷ stmt.Bound 1 ∷ [])
       ∷ []);
   turns = 100000;
@@ -61,14 +63,16 @@ no_handler_matches = record {
   takes = [];
 }
 
--- A notification is answered the argument, or the sum of argument and number, which may need more than 32 bits; or it is caught.
+-- A notification is answered the argument, or the sum of argument and number, which may need more than 32 bits; or it
+-- is caught.
 --   lwp 1 / pod 1
 --   proc main / handle 5 give 9 / excnotify 5 / handle all sum 4294967295 / excnotify 2147483647 / excnotify 5 /
 --     handle 6 - 3 / skip caught / excnotify 6 / bound 6
 abbrev pub notified_by_function : Row
 notified_by_function = record {
   script = pod 1 (named (codes "main" ∷ []) [] [] [])
-      (procedure 0 (stmt.Handle (pattern.Num 5) func.Give 9 ∷ stmt.ExcNotify 5 ∷ stmt.Handle pattern.All func.Sum 4294967295
+      (procedure 0 (stmt.Handle (pattern.Num 5) func.Give 9 ∷ stmt.ExcNotify 5
+      ∷ stmt.Handle pattern.All func.Sum 4294967295
       ∷ stmt.ExcNotify 2147483647 ∷ stmt.ExcNotify 5 ∷ stmt.Handle (pattern.Num 6) func.Nothing 3
       ∷ stmt.Skip test.Caught ∷ stmt.ExcNotify 6 ∷ stmt.Bound 6 ∷ [])
       ∷ []);
@@ -140,7 +144,8 @@ patterns_given_once = record {
 abbrev pub handlers_of_another_thread : Row
 handlers_of_another_thread = record {
   script = pod 1 (named (codes "main" ∷ codes "w" ∷ []) (codes "a" ∷ []) [] [])
-      (procedure 0 (stmt.Handle pattern.All func.Give 1 ∷ stmt.Create 0 1 1 plain ∷ stmt.Yield who.Me ∷ stmt.ExcNotify 9 ∷ [])
+      (procedure 0 (stmt.Handle pattern.All func.Give 1 ∷ stmt.Create 0 1 1 plain
+      ∷ stmt.Yield who.Me ∷ stmt.ExcNotify 9 ∷ [])
       ∷ procedure 1 (stmt.ExcNotify 9 ∷ [])
       ∷ []);
   turns = 100000;
@@ -156,7 +161,8 @@ handlers_of_another_thread = record {
 --   proc p / say in / return / say never
 abbrev pub called_and_returned : Row
 called_and_returned = record {
-  script = speaking (codes "back" ∷ codes "in" ∷ codes "never" ∷ []) (pod 1 (named (codes "main" ∷ codes "p" ∷ []) [] [] [])
+  script = speaking (codes "back" ∷ codes "in" ∷ codes "never" ∷ [])
+      (pod 1 (named (codes "main" ∷ codes "p" ∷ []) [] [] [])
       (procedure 0 (stmt.CallProc 1 ∷ stmt.Say 0 ∷ stmt.CallProc 1 ∷ [])
       ∷ procedure 1 (stmt.Say 1 ∷ stmt.Return ∷ stmt.Say 2 ∷ [])
       ∷ []));
@@ -208,7 +214,8 @@ caught_in_the_frame_below = record {
 --   proc r / raise 4
 abbrev pub caught_in_the_middle : Row
 caught_in_the_middle = record {
-  script = speaking (codes "last" ∷ codes "here" ∷ codes "never" ∷ []) (pod 1 (named (codes "main" ∷ codes "p" ∷ codes "q" ∷ codes "r" ∷ []) [] [] [])
+  script = speaking (codes "last" ∷ codes "here" ∷ codes "never" ∷ [])
+      (pod 1 (named (codes "main" ∷ codes "p" ∷ codes "q" ∷ codes "r" ∷ []) [] [] [])
       (procedure 0 (stmt.CallProc 1 ∷ stmt.Say 0 ∷ [])
       ∷ procedure 1 (stmt.Handle (pattern.Num 4) func.Nothing 0 ∷ stmt.Skip test.Caught ∷ stmt.CallProc 2 ∷ stmt.Say 1
       ∷ [])
@@ -229,7 +236,8 @@ caught_in_the_middle = record {
 abbrev pub earlier_handlers_stay : Row
 earlier_handlers_stay = record {
   script = pod 1 (named (codes "main" ∷ []) [] [] [])
-      (procedure 0 (stmt.Handle (pattern.Num 1) func.Give 1 ∷ stmt.Handle (pattern.Num 2) func.Nothing 0 ∷ stmt.Skip test.Caught
+      (procedure 0 (stmt.Handle (pattern.Num 1) func.Give 1
+      ∷ stmt.Handle (pattern.Num 2) func.Nothing 0 ∷ stmt.Skip test.Caught
       ∷ stmt.Handle (pattern.Num 3) func.Nothing 0 ∷ stmt.Skip test.Caught ∷ stmt.Raise 2 ∷ stmt.Bound 1
       ∷ stmt.Bound 2 ∷ stmt.Bound 3 ∷ stmt.Unhandle ∷ stmt.Unhandle ∷ [])
       ∷ []);
@@ -269,7 +277,8 @@ abbrev pub handlers_go_with_their_frame : Row
 handlers_go_with_their_frame = record {
   script = pod 1 (named (codes "main" ∷ codes "p" ∷ []) [] [] [])
       (procedure 0 (stmt.Handle (pattern.Num 1) func.Give 1 ∷ stmt.CallProc 1 ∷ stmt.Bound 1 ∷ stmt.Bound 2 ∷ [])
-      ∷ procedure 1 (stmt.Handle (pattern.Num 2) func.Give 2 ∷ stmt.Handle (pattern.Num 1) func.Give 3 ∷ stmt.Bound 1 ∷ [])
+      ∷ procedure 1
+      (stmt.Handle (pattern.Num 2) func.Give 2 ∷ stmt.Handle (pattern.Num 1) func.Give 3 ∷ stmt.Bound 1 ∷ [])
       ∷ []);
   turns = 100000;
   trace = codes "t0: handle 1 give 1\nt0 = 0\nt0: call p\nt0 = 0\nt0: handle 2 give 2\nt0 = 0\nt0: handle 1 give 3\nt0 = 0\nt0: bound 1\nt0 = bound give 3\nt0: return\nt0 = 0\nt0: bound 1\nt0 = bound give 1\nt0: bound 2\nt0 ! LE_NONEXIST\nt0: return\nt0 dies\npod ends 0\n";

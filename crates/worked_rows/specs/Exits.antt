@@ -17,8 +17,10 @@ use Rattle.lwp_types.specs.declared.call.Func.TheVariants as func
 --   proc two / onexit note b / onexit note c / raise 7
 abbrev pub raise_through_two_frames : Row
 raise_through_two_frames = record {
-  script = speaking (codes "a" ∷ codes "b" ∷ codes "c" ∷ []) (pod 1 (named (codes "main" ∷ codes "one" ∷ codes "two" ∷ []) [] [] [])
-      (procedure 0 (stmt.Handle pattern.All func.Nothing 0 ∷ stmt.Skip test.Caught ∷ stmt.CallProc 1 ∷ stmt.Raise 9 ∷ [])
+  script = speaking (codes "a" ∷ codes "b" ∷ codes "c" ∷ [])
+      (pod 1 (named (codes "main" ∷ codes "one" ∷ codes "two" ∷ []) [] [] [])
+      (procedure 0 (stmt.Handle pattern.All func.Nothing 0 ∷ stmt.Skip test.Caught ∷ stmt.CallProc 1
+      ∷ stmt.Raise 9 ∷ [])
       ∷ procedure 1 (stmt.OnExit (exit_stmt.Note 0) ∷ stmt.CallProc 2 ∷ [])
       ∷ procedure 2 (stmt.OnExit (exit_stmt.Note 1) ∷ stmt.OnExit (exit_stmt.Note 2) ∷ stmt.Raise 7 ∷ [])
       ∷ []));
@@ -35,7 +37,8 @@ raise_through_two_frames = record {
 --   proc w / recv any wait / onexit reply sender yes
 abbrev pub exit_that_replies : Row
 exit_that_replies = record {
-  script = speaking (codes "hi" ∷ codes "yes" ∷ []) (pod 1 (named (codes "main" ∷ codes "w" ∷ []) (codes "a" ∷ []) [] [])
+  script = speaking (codes "hi" ∷ codes "yes" ∷ [])
+      (pod 1 (named (codes "main" ∷ codes "w" ∷ []) (codes "a" ∷ []) [] [])
       (procedure 0 (stmt.Create 0 1 1 plain ∷ stmt.Send (who.Named 0) 3 0 ∷ [])
       ∷ procedure 1 (stmt.Recv None mode.Block ∷ stmt.OnExit (exit_stmt.Reply who.Sender 1) ∷ [])
       ∷ []));
@@ -52,7 +55,8 @@ exit_that_replies = record {
 --   proc p / onexit note one / onexit note two
 abbrev pub at_a_return : Row
 at_a_return = record {
-  script = speaking (codes "main" ∷ codes "on" ∷ codes "one" ∷ codes "two" ∷ []) (pod 1 (named (codes "main" ∷ codes "p" ∷ []) [] [] [])
+  script = speaking (codes "main" ∷ codes "on" ∷ codes "one" ∷ codes "two" ∷ [])
+      (pod 1 (named (codes "main" ∷ codes "p" ∷ []) [] [] [])
       (procedure 0 (stmt.OnExit (exit_stmt.Note 0) ∷ stmt.CallProc 1 ∷ stmt.Say 1 ∷ [])
       ∷ procedure 1 (stmt.OnExit (exit_stmt.Note 2) ∷ stmt.OnExit (exit_stmt.Note 3) ∷ [])
       ∷ []));
@@ -69,7 +73,8 @@ at_a_return = record {
 --   proc p / onexit note b / raise 5
 abbrev pub those_of_the_handlers_frame_stay : Row
 those_of_the_handlers_frame_stay = record {
-  script = speaking (codes "a" ∷ codes "c" ∷ codes "after" ∷ codes "b" ∷ []) (pod 1 (named (codes "main" ∷ codes "p" ∷ []) [] [] [])
+  script = speaking (codes "a" ∷ codes "c" ∷ codes "after" ∷ codes "b" ∷ [])
+      (pod 1 (named (codes "main" ∷ codes "p" ∷ []) [] [] [])
       (procedure 0 (stmt.OnExit (exit_stmt.Note 0) ∷ stmt.Handle pattern.All func.Nothing 0 ∷ stmt.Skip test.Caught
       ∷ stmt.OnExit (exit_stmt.Note 1) ∷ stmt.Skip test.Caught ∷ stmt.CallProc 1
       ∷ stmt.Say 2 ∷ [])
@@ -105,7 +110,8 @@ a_raise_within_one_frame = record {
 abbrev pub a_caught_notification : Row
 a_caught_notification = record {
   script = speaking (codes "end" ∷ codes "x" ∷ []) (pod 1 (named (codes "main" ∷ codes "p" ∷ []) [] [] [])
-      (procedure 0 (stmt.Handle (pattern.Num 2) func.Give 8 ∷ stmt.Handle (pattern.Num 3) func.Nothing 0 ∷ stmt.Skip test.Caught
+      (procedure 0 (stmt.Handle (pattern.Num 2) func.Give 8
+      ∷ stmt.Handle (pattern.Num 3) func.Nothing 0 ∷ stmt.Skip test.Caught
       ∷ stmt.CallProc 1 ∷ stmt.Say 0 ∷ [])
       ∷ procedure 1 (stmt.OnExit (exit_stmt.Note 1) ∷ stmt.ExcNotify 2 ∷ stmt.ExcNotify 3 ∷ [])
       ∷ []));
@@ -122,7 +128,8 @@ a_caught_notification = record {
 --   proc w / onexit note b
 abbrev pub numbers_over_all_threads : Row
 numbers_over_all_threads = record {
-  script = speaking (codes "a" ∷ codes "c" ∷ codes "b" ∷ []) (pod 1 (named (codes "main" ∷ codes "w" ∷ []) (codes "b" ∷ []) [] [])
+  script = speaking (codes "a" ∷ codes "c" ∷ codes "b" ∷ [])
+      (pod 1 (named (codes "main" ∷ codes "w" ∷ []) (codes "b" ∷ []) [] [])
       (procedure 0 (stmt.OnExit (exit_stmt.Note 0) ∷ stmt.Create 0 1 1 plain ∷ stmt.Yield who.Me
       ∷ stmt.OnExit (exit_stmt.Note 1) ∷ [])
       ∷ procedure 1 (stmt.OnExit (exit_stmt.Note 2) ∷ [])
@@ -177,7 +184,8 @@ an_exit_may_name_the_dead = record {
 abbrev pub what_is_not_there : Row
 what_is_not_there = record {
   script = speaking (codes "x" ∷ []) (pod 1 (named (codes "main" ∷ []) [] (codes "m" ∷ []) (codes "c" ∷ []))
-      (procedure 0 (stmt.OnExit (exit_stmt.MonExit 0) ∷ stmt.OnExit (exit_stmt.MonBreak 0) ∷ stmt.OnExit (exit_stmt.Notify 0)
+      (procedure 0 (stmt.OnExit (exit_stmt.MonExit 0) ∷ stmt.OnExit (exit_stmt.MonBreak 0)
+      ∷ stmt.OnExit (exit_stmt.Notify 0)
       ∷ stmt.OnExit (exit_stmt.Broadcast 0) ∷ stmt.OnExit (exit_stmt.Reply who.Nobody 0)
       ∷ stmt.OnExit (exit_stmt.Resume who.Nobody) ∷ stmt.OnExit (exit_stmt.SetExit 100) ∷ [])
       ∷ []));
@@ -195,7 +203,8 @@ what_is_not_there = record {
 abbrev pub what_is_not_held : Row
 what_is_not_held = record {
   script = speaking (codes "x" ∷ []) (pod 1 (named (codes "main" ∷ []) [] (codes "m" ∷ []) (codes "c" ∷ []))
-      (procedure 0 (stmt.MonCreate 0 ∷ stmt.CvCreate 0 0 ∷ stmt.OnExit (exit_stmt.MonExit 0) ∷ stmt.OnExit (exit_stmt.MonBreak 0)
+      (procedure 0 (stmt.MonCreate 0 ∷ stmt.CvCreate 0 0 ∷ stmt.OnExit (exit_stmt.MonExit 0)
+      ∷ stmt.OnExit (exit_stmt.MonBreak 0)
       ∷ stmt.OnExit (exit_stmt.Notify 0) ∷ stmt.OnExit (exit_stmt.Broadcast 0)
       ∷ stmt.OnExit (exit_stmt.Reply who.Me 0) ∷ [])
       ∷ []));
@@ -214,7 +223,8 @@ what_is_not_held = record {
 --   proc s / say up
 abbrev pub carried_out : Row
 carried_out = record {
-  script = speaking ([] ∷ codes "up" ∷ []) (pod 1 (named (codes "main" ∷ codes "w" ∷ codes "s" ∷ []) (codes "a" ∷ codes "b" ∷ codes "d" ∷ []) (codes "m" ∷ []) (codes "c" ∷ []))
+  script = speaking ([] ∷ codes "up" ∷ []) (pod 1 (named (codes "main" ∷ codes "w" ∷ codes "s" ∷ [])
+      (codes "a" ∷ codes "b" ∷ codes "d" ∷ []) (codes "m" ∷ []) (codes "c" ∷ []))
       (procedure 0 (stmt.MonCreate 0 ∷ stmt.CvCreate 0 0 ∷ stmt.Create 0 1 1 plain ∷ stmt.Create 1 1 1 plain
       ∷ stmt.Create 2 2 1 asleep ∷ stmt.Yield who.Me ∷ stmt.Enter 0 ∷ stmt.OnExit (exit_stmt.MonExit 0)
       ∷ stmt.OnExit (exit_stmt.Broadcast 0) ∷ stmt.OnExit (exit_stmt.Notify 0)
@@ -258,7 +268,8 @@ leaving_twice = record {
 abbrev pub breaking_anothers_lock : Row
 breaking_anothers_lock = record {
   script = pod 1 (named (codes "main" ∷ codes "o" ∷ codes "e" ∷ []) (codes "a" ∷ codes "b" ∷ []) (codes "m" ∷ []) [])
-      (procedure 0 (stmt.MonCreate 0 ∷ stmt.Create 0 1 1 plain ∷ stmt.Create 1 2 1 plain ∷ stmt.OnExit (exit_stmt.MonBreak 0)
+      (procedure 0 (stmt.MonCreate 0 ∷ stmt.Create 0 1 1 plain ∷ stmt.Create 1 2 1 plain
+      ∷ stmt.OnExit (exit_stmt.MonBreak 0)
       ∷ stmt.Yield who.Me ∷ [])
       ∷ procedure 1 (stmt.Enter 0 ∷ stmt.Yield who.Me ∷ stmt.MonExit 0 ∷ [])
       ∷ procedure 2 (stmt.Enter 0 ∷ stmt.MonExit 0 ∷ [])
@@ -276,7 +287,8 @@ breaking_anothers_lock = record {
 --   proc w / recv any wait / onexit reply sender yes
 abbrev pub a_reply_that_is_too_long : Row
 a_reply_that_is_too_long = record {
-  script = speaking (codes "hi" ∷ codes "yes" ∷ []) (pod 1 (named (codes "main" ∷ codes "w" ∷ []) (codes "a" ∷ []) [] [])
+  script = speaking (codes "hi" ∷ codes "yes" ∷ [])
+      (pod 1 (named (codes "main" ∷ codes "w" ∷ []) (codes "a" ∷ []) [] [])
       (procedure 0 (stmt.Create 0 1 1 plain ∷ stmt.Send (who.Named 0) 2 0 ∷ [])
       ∷ procedure 1 (stmt.Recv None mode.Block ∷ stmt.OnExit (exit_stmt.Reply who.Sender 1) ∷ [])
       ∷ []));

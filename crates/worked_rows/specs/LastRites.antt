@@ -12,8 +12,11 @@ use Rattle.lwp_types.specs.declared.call.Mode.TheVariants as mode
 --   proc w / say hi
 abbrev pub the_last_rites : Row
 the_last_rites = record {
-  script = speaking (codes "ok" ∷ codes "hi" ∷ []) (pod 1 (named (codes "main" ∷ codes "w" ∷ []) (codes "g" ∷ codes "a" ∷ codes "b" ∷ []) [] [])
-      (procedure 0 (stmt.Agent 0 32 ∷ stmt.Create 1 1 1 plain ∷ stmt.Create 2 1 1 marked ∷ stmt.Yield who.Me ∷ stmt.Recv (Some (who.Named 0)) mode.Block ∷ stmt.Reply (who.Named 0) 0 ∷ stmt.Recv (Some (who.Named 0)) mode.Poll ∷ [])
+  script = speaking (codes "ok" ∷ codes "hi" ∷ [])
+      (pod 1 (named (codes "main" ∷ codes "w" ∷ []) (codes "g" ∷ codes "a" ∷ codes "b" ∷ []) [] [])
+      (procedure 0 (stmt.Agent 0 32 ∷ stmt.Create 1 1 1 plain ∷ stmt.Create 2 1 1 marked
+      ∷ stmt.Yield who.Me ∷ stmt.Recv (Some (who.Named 0)) mode.Block
+      ∷ stmt.Reply (who.Named 0) 0 ∷ stmt.Recv (Some (who.Named 0)) mode.Poll ∷ [])
       ∷ procedure 1 (stmt.Say 1 ∷ [])
       ∷ []));
   turns = 100000;
@@ -25,12 +28,17 @@ the_last_rites = record {
 
 -- Reports wait for the reply to the one before, in the order of the deaths.
 --   lwp 1 / pod 1
---   proc main / agent g 32 / create a w 1 - / create b w 1 - / create c w 1 - / yield self / recv g wait / reply g ok / recv g wait / reply g ok / recv g wait / reply g ok
+--   proc main / agent g 32 / create a w 1 - / create b w 1 - / create c w 1 - / yield self / recv g wait / reply g ok /
+--     recv g wait / reply g ok / recv g wait / reply g ok
 --   proc w
 abbrev pub reports_in_order : Row
 reports_in_order = record {
-  script = speaking (codes "ok" ∷ codes "ok" ∷ codes "ok" ∷ []) (pod 1 (named (codes "main" ∷ codes "w" ∷ []) (codes "g" ∷ codes "a" ∷ codes "b" ∷ codes "c" ∷ []) [] [])
-      (procedure 0 (stmt.Agent 0 32 ∷ stmt.Create 1 1 1 plain ∷ stmt.Create 2 1 1 plain ∷ stmt.Create 3 1 1 plain ∷ stmt.Yield who.Me ∷ stmt.Recv (Some (who.Named 0)) mode.Block ∷ stmt.Reply (who.Named 0) 0 ∷ stmt.Recv (Some (who.Named 0)) mode.Block ∷ stmt.Reply (who.Named 0) 1 ∷ stmt.Recv (Some (who.Named 0)) mode.Block ∷ stmt.Reply (who.Named 0) 2 ∷ [])
+  script = speaking (codes "ok" ∷ codes "ok" ∷ codes "ok" ∷ [])
+      (pod 1 (named (codes "main" ∷ codes "w" ∷ []) (codes "g" ∷ codes "a" ∷ codes "b" ∷ codes "c" ∷ []) [] [])
+      (procedure 0 (stmt.Agent 0 32 ∷ stmt.Create 1 1 1 plain ∷ stmt.Create 2 1 1 plain
+      ∷ stmt.Create 3 1 1 plain ∷ stmt.Yield who.Me ∷ stmt.Recv (Some (who.Named 0)) mode.Block
+      ∷ stmt.Reply (who.Named 0) 0 ∷ stmt.Recv (Some (who.Named 0)) mode.Block
+      ∷ stmt.Reply (who.Named 0) 1 ∷ stmt.Recv (Some (who.Named 0)) mode.Block ∷ stmt.Reply (who.Named 0) 2 ∷ [])
       ∷ procedure 1 []
       ∷ []));
   turns = 100000;
@@ -42,12 +50,16 @@ reports_in_order = record {
 
 -- Where the last agent of event 32 ends, the reports that wait go with it; the next one hears of later deaths alone.
 --   lwp 1 / pod 1
---   proc main / agent g 32 / create a w 1 - / create b w 1 - / yield self / destroy g / agent h 32 / create c w 1 - / yield self / recv h wait
+--   proc main / agent g 32 / create a w 1 - / create b w 1 - / yield self / destroy g / agent h 32 / create c w 1 - /
+--     yield self / recv h wait
 --   proc w
 abbrev pub reports_go_with_the_last_agent : Row
 reports_go_with_the_last_agent = record {
-  script = pod 1 (named (codes "main" ∷ codes "w" ∷ []) (codes "g" ∷ codes "a" ∷ codes "b" ∷ codes "h" ∷ codes "c" ∷ []) [] [])
-      (procedure 0 (stmt.Agent 0 32 ∷ stmt.Create 1 1 1 plain ∷ stmt.Create 2 1 1 plain ∷ stmt.Yield who.Me ∷ stmt.Destroy (who.Named 0) ∷ stmt.Agent 3 32 ∷ stmt.Create 4 1 1 plain ∷ stmt.Yield who.Me ∷ stmt.Recv (Some (who.Named 3)) mode.Block ∷ [])
+  script = pod 1 (named (codes "main" ∷ codes "w" ∷ [])
+      (codes "g" ∷ codes "a" ∷ codes "b" ∷ codes "h" ∷ codes "c" ∷ []) [] [])
+      (procedure 0 (stmt.Agent 0 32 ∷ stmt.Create 1 1 1 plain ∷ stmt.Create 2 1 1 plain
+      ∷ stmt.Yield who.Me ∷ stmt.Destroy (who.Named 0) ∷ stmt.Agent 3 32
+      ∷ stmt.Create 4 1 1 plain ∷ stmt.Yield who.Me ∷ stmt.Recv (Some (who.Named 3)) mode.Block ∷ [])
       ∷ procedure 1 []
       ∷ []);
   turns = 100000;
@@ -64,8 +76,10 @@ reports_go_with_the_last_agent = record {
 --   proc w
 abbrev pub reported_to_two_agents : Row
 reported_to_two_agents = record {
-  script = speaking (codes "got" ∷ []) (pod 1 (named (codes "main" ∷ codes "v" ∷ codes "w" ∷ []) (codes "g" ∷ codes "s" ∷ codes "a" ∷ codes "h" ∷ []) [] [])
-      (procedure 0 (stmt.Agent 0 32 ∷ stmt.Create 1 1 1 plain ∷ stmt.Create 2 2 1 plain ∷ stmt.Yield who.Me ∷ stmt.Recv (Some (who.Named 0)) mode.Block ∷ [])
+  script = speaking (codes "got" ∷ []) (pod 1
+      (named (codes "main" ∷ codes "v" ∷ codes "w" ∷ []) (codes "g" ∷ codes "s" ∷ codes "a" ∷ codes "h" ∷ []) [] [])
+      (procedure 0 (stmt.Agent 0 32 ∷ stmt.Create 1 1 1 plain ∷ stmt.Create 2 2 1 plain
+      ∷ stmt.Yield who.Me ∷ stmt.Recv (Some (who.Named 0)) mode.Block ∷ [])
       ∷ procedure 1 (stmt.Agent 3 32 ∷ stmt.Recv (Some (who.Named 3)) mode.Block ∷ stmt.Say 0 ∷ [])
       ∷ procedure 2 []
       ∷ []));
@@ -83,9 +97,12 @@ reported_to_two_agents = record {
 --   proc w
 abbrev pub the_first_thread_is_reported : Row
 the_first_thread_is_reported = record {
-  script = speaking (codes "m" ∷ codes "ok" ∷ codes "ok" ∷ []) (pod 1 (named (codes "main" ∷ codes "v" ∷ codes "w" ∷ []) (codes "s" ∷ codes "a" ∷ codes "g" ∷ []) [] [])
+  script = speaking (codes "m" ∷ codes "ok" ∷ codes "ok" ∷ [])
+      (pod 1 (named (codes "main" ∷ codes "v" ∷ codes "w" ∷ []) (codes "s" ∷ codes "a" ∷ codes "g" ∷ []) [] [])
       (procedure 0 (stmt.Create 0 1 1 plain ∷ stmt.Create 1 2 1 plain ∷ stmt.Yield who.Me ∷ stmt.Say 0 ∷ [])
-      ∷ procedure 1 (stmt.Agent 2 32 ∷ stmt.Recv (Some (who.Named 2)) mode.Block ∷ stmt.Reply (who.Named 2) 1 ∷ stmt.Recv (Some (who.Named 2)) mode.Block ∷ stmt.Reply (who.Named 2) 2 ∷ stmt.Recv (Some (who.Named 2)) mode.Poll ∷ [])
+      ∷ procedure 1 (stmt.Agent 2 32 ∷ stmt.Recv (Some (who.Named 2)) mode.Block
+      ∷ stmt.Reply (who.Named 2) 1 ∷ stmt.Recv (Some (who.Named 2)) mode.Block
+      ∷ stmt.Reply (who.Named 2) 2 ∷ stmt.Recv (Some (who.Named 2)) mode.Poll ∷ [])
       ∷ procedure 2 []
       ∷ []));
   turns = 100000;
@@ -102,7 +119,8 @@ the_first_thread_is_reported = record {
 abbrev pub destroyed_and_reported : Row
 destroyed_and_reported = record {
   script = pod 1 (named (codes "main" ∷ codes "w" ∷ []) (codes "g" ∷ codes "a" ∷ codes "b" ∷ []) [] [])
-      (procedure 0 (stmt.Agent 0 32 ∷ stmt.Create 1 1 1 marked ∷ stmt.Create 2 1 1 plain ∷ stmt.Destroy (who.Named 1) ∷ stmt.Destroy (who.Named 2) ∷ stmt.Recv (Some (who.Named 0)) mode.Block ∷ [])
+      (procedure 0 (stmt.Agent 0 32 ∷ stmt.Create 1 1 1 marked ∷ stmt.Create 2 1 1 plain
+      ∷ stmt.Destroy (who.Named 1) ∷ stmt.Destroy (who.Named 2) ∷ stmt.Recv (Some (who.Named 0)) mode.Block ∷ [])
       ∷ procedure 1 []
       ∷ []);
   turns = 100000;
@@ -136,8 +154,11 @@ an_ended_pod_reports_nothing = record {
 --   proc j / join a / say up
 abbrev pub destroyed_beside_its_joiner : Row
 destroyed_beside_its_joiner = record {
-  script = speaking (codes "ok" ∷ codes "up" ∷ []) (pod 1 (named (codes "main" ∷ codes "w" ∷ codes "j" ∷ []) (codes "g" ∷ codes "a" ∷ codes "b" ∷ []) [] [])
-      (procedure 0 (stmt.Agent 0 32 ∷ stmt.Create 1 1 1 plain ∷ stmt.Create 2 2 1 plain ∷ stmt.Yield who.Me ∷ stmt.Destroy (who.Named 1) ∷ stmt.Recv (Some (who.Named 0)) mode.Block ∷ stmt.Reply (who.Named 0) 0 ∷ [])
+  script = speaking (codes "ok" ∷ codes "up" ∷ [])
+      (pod 1 (named (codes "main" ∷ codes "w" ∷ codes "j" ∷ []) (codes "g" ∷ codes "a" ∷ codes "b" ∷ []) [] [])
+      (procedure 0 (stmt.Agent 0 32 ∷ stmt.Create 1 1 1 plain ∷ stmt.Create 2 2 1 plain
+      ∷ stmt.Yield who.Me ∷ stmt.Destroy (who.Named 1)
+      ∷ stmt.Recv (Some (who.Named 0)) mode.Block ∷ stmt.Reply (who.Named 0) 0 ∷ [])
       ∷ procedure 1 (stmt.Recv None mode.Block ∷ [])
       ∷ procedure 2 (stmt.Join (who.Named 1) ∷ stmt.Say 1 ∷ [])
       ∷ []));

@@ -30,7 +30,8 @@ abbrev pub sixty_four_frames : Row
 sixty_four_frames = record {
   script = pod 1 (named (codes "main" ∷ []) [] [] []) (procedure 0 (stmt.CallProc 0 ∷ stmt.PodExit 3 ∷ []) ∷ []);
   turns = 100000;
-  trace = pieces 63 (λ k. codes "t0: call main\nt0 = 0\n") ++ codes "t0: call main\nt0 ! LE_NOROOM\nt0: podexit 3\npod ends 3\n";
+  trace = pieces 63 (λ k. codes "t0: call main\nt0 = 0\n")
+      ++ codes "t0: call main\nt0 ! LE_NOROOM\nt0: podexit 3\npod ends 3\n";
   halt = Ended 3;
   calls = 65;
   takes = [];
@@ -57,7 +58,8 @@ two_hundred_and_fifty_six_marks = record {
   script = speaking (codes "x" ∷ []) (pod 1 (named (codes "main" ∷ []) [] [] [])
       (procedure 0 (stmt.OnExit (exit_stmt.Note 0) ∷ stmt.Again ∷ []) ∷ []));
   turns = 256;
-  trace = pieces 255 (λ k. codes "t0: onexit note x\nt0 = " ++ (decimal k ++ codes "\n")) ++ codes "t0: onexit note x\nt0 ! LE_NOROOM\nspent 256\n";
+  trace = pieces 255 (λ k. codes "t0: onexit note x\nt0 = " ++ (decimal k ++ codes "\n"))
+      ++ codes "t0: onexit note x\nt0 ! LE_NOROOM\nspent 256\n";
   halt = Spent;
   calls = 256;
   takes = [];
@@ -71,7 +73,8 @@ agents_full = record {
   script = pod 1 (named (codes "main" ∷ []) (codes "g" ∷ []) [] [])
       (procedure 0 (stmt.Agent 0 1 ∷ stmt.Again ∷ []) ∷ []);
   turns = 257;
-  trace = pieces 256 (λ k. codes "t0: agent 1\nt0 = t" ++ (decimal (k + 1) ++ codes "\n")) ++ codes "t0: agent 1\nt0 ! LE_NOROOM\nspent 257\n";
+  trace = pieces 256 (λ k. codes "t0: agent 1\nt0 = t" ++ (decimal (k + 1) ++ codes "\n"))
+      ++ codes "t0: agent 1\nt0 ! LE_NOROOM\nspent 257\n";
   halt = Spent;
   calls = 257;
   takes = [];
@@ -86,7 +89,8 @@ a_thousand_and_twenty_four_threads = record {
   script = pod 1 (named (codes "main" ∷ codes "w" ∷ []) (codes "a" ∷ []) [] [])
       (procedure 0 (stmt.Create 0 1 1 asleep ∷ stmt.Again ∷ []) ∷ procedure 1 [] ∷ []);
   turns = 1024;
-  trace = pieces 1023 (λ k. codes "t0: create w 1 s\nt0 = t" ++ (decimal (k + 1) ++ codes "\n")) ++ codes "t0: create w 1 s\nt0 ! LE_NOROOM\nspent 1024\n";
+  trace = pieces 1023 (λ k. codes "t0: create w 1 s\nt0 = t" ++ (decimal (k + 1) ++ codes "\n"))
+      ++ codes "t0: create w 1 s\nt0 ! LE_NOROOM\nspent 1024\n";
   halt = Spent;
   calls = 1024;
   takes = [];
@@ -100,7 +104,8 @@ Answers s c a = (step s c).effects ≡ effect.Called 0 c ∷ effect.Answered 0 a
 
 -- thread 0 makes this call, and it is refused: all stays as it is
 abbrev pub Refuses : State → Call → LwpErr → Type 0
-Refuses s c e = ((step s c).effects ≡ effect.Called 0 c ∷ effect.Answered 0 (answer.Refused e) ∷ []) × ((step s c).after ≡ s)
+Refuses s c e = ((step s c).effects ≡ effect.Called 0 c ∷ effect.Answered 0 (answer.Refused e) ∷ [])
+    × ((step s c).after ≡ s)
 
 -- a pod with its first thread alone, and one procedure
 abbrev pub alone : State
@@ -108,7 +113,10 @@ alone = opening (record { maxpri = 1; births = 4294967295; procs = 1 })
 
 -- it has so many threads, all but the first suspended
 abbrev pub with_threads : ℕ → State
-with_threads n = record alone { threads = opening_thread 1 ∷ map (λ k. new_thread (k + 1) 1 asleep) (numbers_to (n - 1)); births = n }
+with_threads n = record alone {
+  threads = opening_thread 1 ∷ map (λ k. new_thread (k + 1) 1 asleep) (numbers_to (n - 1));
+  births = n;
+}
 
 -- so many monitors are live
 abbrev pub with_monitors : ℕ → State
@@ -129,7 +137,11 @@ with_births n = record alone { births = n; monitors = 0 ∷ []; monitor_births =
 
 -- the first thread has entered a monitor so often
 abbrev pub entered : ℕ → State
-entered n = record alone { monitors = 0 ∷ []; monitor_births = 1; locks = record { mon = 0; owner = 0; depth = n } ∷ [] }
+entered n = record alone {
+  monitors = 0 ∷ [];
+  monitor_births = 1;
+  locks = record { mon = 0; owner = 0; depth = n } ∷ [];
+}
 
 -- the first thread is in so many procedures
 abbrev pub with_frames : ℕ → State
@@ -138,7 +150,10 @@ with_frames n = record alone { threads = record (opening_thread 1) { marks = rep
 -- the first thread is in one procedure, and has set so many marks with it
 abbrev pub with_marks : ℕ → State
 with_marks n = record alone {
-  threads = record (opening_thread 1) { marks = mark.Frame ∷ replicate (n - 1) (mark.Handler pattern.All func.Nothing 0) } ∷ [];
+  threads = record (opening_thread 1) {
+    marks = mark.Frame ∷ replicate (n - 1) (mark.Handler pattern.All func.Nothing 0);
+  }
+      ∷ [];
 }
 
 -- so many exit procedures were registered

@@ -1,5 +1,6 @@
--- The line server at work: three clients, a session for each, one store. Each client asks for thirteen keys in turn, to be put,
--- got and deleted, and quits. The store is of greater priority and replies at once; the sessions take turns, a request each.
+-- The line server at work: three clients, a session for each, one store. Each client asks for thirteen keys in turn, to
+-- be put, got and deleted, and quits. The store is of greater priority and replies at once; the sessions take turns, a
+-- request each.
 use Rattle.lwp_types.specs.declared.call.Line.{Line}
 use Rattle.pod_runner.specs.Due.{numbers_to}
 use Rattle.pod_runner.specs.declared.session.Took.{Took}
@@ -54,25 +55,30 @@ agent c = codes "t" ++ decimal (c + 5)
 
 -- the session makes its agent
 abbrev pub opens : ℕ → List ℕ
-opens c = joined (session c ∷ codes ": agent " ∷ decimal (c + 1) ∷ codes "\n" ∷ session c ∷ codes " = " ∷ agent c ∷ codes "\n" ∷ [])
+opens c = joined (session c ∷ codes ": agent " ∷ decimal (c + 1) ∷ codes "\n" ∷ session c
+    ∷ codes " = " ∷ agent c ∷ codes "\n" ∷ [])
 
 -- a line of the client is taken, and received by its session
 abbrev pub hears : ℕ → ℕ → List ℕ
-hears c k = joined (codes "event " ∷ decimal (c + 1) ∷ codes " client " ∷ decimal c ∷ codes " seq " ∷ decimal k ∷ codes " " ∷ text k ∷ codes "\n"
+hears c k = joined (codes "event " ∷ decimal (c + 1) ∷ codes " client " ∷ decimal c ∷ codes " seq "
+    ∷ decimal k ∷ codes " " ∷ text k ∷ codes "\n"
     ∷ session c ∷ codes ": recv " ∷ agent c ∷ codes " wait\n"
     ∷ session c ∷ codes " = letter " ∷ agent c ∷ codes " 240 " ∷ text k ∷ codes "\n"
     ∷ [])
 
 -- the session sends it to the store, which replies and waits for the next
 abbrev pub asks : ℕ → ℕ → List ℕ
-asks c k = joined (session c ∷ codes ": send t1 240 " ∷ text k ∷ codes "\nt1 = letter " ∷ session c ∷ codes " 240 " ∷ text k ∷ codes "\n"
-    ∷ codes "t1: reply " ∷ session c ∷ codes " " ∷ reply k ∷ codes "\n" ∷ session c ∷ codes " = reply " ∷ reply k ∷ codes "\nt1 = 0\n"
+asks c k = joined (session c ∷ codes ": send t1 240 " ∷ text k ∷ codes "\nt1 = letter " ∷ session c
+    ∷ codes " 240 " ∷ text k ∷ codes "\n"
+    ∷ codes "t1: reply " ∷ session c ∷ codes " " ∷ reply k ∷ codes "\n" ∷ session c
+    ∷ codes " = reply " ∷ reply k ∷ codes "\nt1 = 0\n"
     ∷ codes "t1: recv any wait\n"
     ∷ [])
 
 -- the session replies to its agent
 abbrev pub answers : ℕ → List ℕ → List ℕ
-answers c said = joined (session c ∷ codes ": reply " ∷ agent c ∷ codes " " ∷ said ∷ codes "\n" ∷ session c ∷ codes " = 0\n" ∷ [])
+answers c said = joined (session c ∷ codes ": reply " ∷ agent c ∷ codes " " ∷ said ∷ codes "\n"
+    ∷ session c ∷ codes " = 0\n" ∷ [])
 
 -- what a session has to do before it hears line number k
 abbrev pub before : ℕ → ℕ → List ℕ
@@ -108,13 +114,15 @@ ends = codes "t0: return\nt0 dies\npod ends 0\n"
 abbrev pub whole : List ℕ → List ℕ
 whole end = joined (begins ∷ flat_map round (numbers_to requests) ∷ flat_map quits (numbers_to clients) ∷ end ∷ [])
 
--- after how many calls a line is taken: six to begin with, five for each session and round, and then that which lets it in
+-- after how many calls a line is taken: six to begin with, five for each session and round, and then that which lets it
+-- in
 abbrev pub turn : ℕ → ℕ → ℕ
 turn c k = 6 + 5 * (3 * k + c) + 1
 
 -- the lines in the order in which they are taken
 abbrev pub taken : List Took
-taken = flat_map (λ k. map (λ c. took (turn c k) (c + 1) (posted_line c k)) (numbers_to clients)) (numbers_to (requests + 1))
+taken = flat_map (λ k. map (λ c. took (turn c k) (c + 1) (posted_line c k)) (numbers_to clients))
+    (numbers_to (requests + 1))
 
 -- Three sessions and one store; each client is answered `ok`, `is vI`, `ok` for each key, and `bye`.
 --   lwp 1 / pod 2
@@ -128,10 +136,14 @@ taken = flat_map (λ k. map (λ c. took (turn c k) (c + 1) (posted_line c k)) (n
 --   and the same for the clients 1 and 2
 abbrev pub line_server : Row
 line_server = record {
-  script = posted (1 ∷ 2 ∷ 3 ∷ []) (flat_map (λ c. map (posted_line c) (numbers_to (requests + 1))) (numbers_to clients))
-      (with_natives (built_in 0 native.Store ∷ built_in 1 (native.Session 1 0) ∷ built_in 2 (native.Session 2 0) ∷ built_in 3 (native.Session 3 0) ∷ [])
-      (pod 2 (named (codes "db" ∷ codes "s0" ∷ codes "s1" ∷ codes "s2" ∷ codes "main" ∷ []) (codes "db" ∷ codes "a" ∷ codes "b" ∷ codes "c" ∷ []) [] [])
-      (procedure 4 (stmt.Create 0 0 2 serving ∷ stmt.Create 1 1 1 plain ∷ stmt.Create 2 2 1 plain ∷ stmt.Create 3 3 1 plain
+  script = posted (1 ∷ 2 ∷ 3 ∷ [])
+      (flat_map (λ c. map (posted_line c) (numbers_to (requests + 1))) (numbers_to clients))
+      (with_natives (built_in 0 native.Store ∷ built_in 1 (native.Session 1 0)
+      ∷ built_in 2 (native.Session 2 0) ∷ built_in 3 (native.Session 3 0) ∷ [])
+      (pod 2 (named (codes "db" ∷ codes "s0" ∷ codes "s1" ∷ codes "s2" ∷ codes "main" ∷ [])
+      (codes "db" ∷ codes "a" ∷ codes "b" ∷ codes "c" ∷ []) [] [])
+      (procedure 4 (stmt.Create 0 0 2 serving ∷ stmt.Create 1 1 1 plain ∷ stmt.Create 2 2 1 plain
+      ∷ stmt.Create 3 3 1 plain
       ∷ stmt.Join (who.Named 1) ∷ stmt.Join (who.Named 2) ∷ stmt.Join (who.Named 3) ∷ [])
       ∷ [])));
   turns = 100000;

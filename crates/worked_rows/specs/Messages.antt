@@ -13,7 +13,8 @@ use Rattle.lwp_types.specs.declared.call.Mode.TheVariants as mode
 --   proc w / send first 3 hi
 abbrev pub receive_by_name_and_poll : Row
 receive_by_name_and_poll = record {
-  script = speaking (codes "ok" ∷ codes "yes" ∷ codes "no" ∷ codes "hi" ∷ []) (pod 1 (named (codes "main" ∷ codes "w" ∷ []) (codes "a" ∷ codes "b" ∷ []) [] [])
+  script = speaking (codes "ok" ∷ codes "yes" ∷ codes "no" ∷ codes "hi" ∷ [])
+      (pod 1 (named (codes "main" ∷ codes "w" ∷ []) (codes "a" ∷ codes "b" ∷ []) [] [])
       (procedure 0 (stmt.Create 0 1 1 plain ∷ stmt.Create 1 1 1 plain ∷ stmt.Yield who.Me
       ∷ stmt.Recv (Some (who.Named 1)) mode.Block ∷ stmt.Reply (who.Named 1) 0 ∷ stmt.Recv None mode.Poll
       ∷ stmt.Reply (who.Named 0) 1 ∷ stmt.Recv None mode.Poll ∷ stmt.Reply (who.Named 0) 2
@@ -33,7 +34,8 @@ receive_by_name_and_poll = record {
 --   proc w / send first 3 hi
 abbrev pub reply_of_the_room : Row
 reply_of_the_room = record {
-  script = speaking (codes "abcd" ∷ codes "abc" ∷ codes "hi" ∷ []) (pod 1 (named (codes "main" ∷ codes "w" ∷ []) (codes "a" ∷ []) [] [])
+  script = speaking (codes "abcd" ∷ codes "abc" ∷ codes "hi" ∷ [])
+      (pod 1 (named (codes "main" ∷ codes "w" ∷ []) (codes "a" ∷ []) [] [])
       (procedure 0 (stmt.Create 0 1 1 plain ∷ stmt.Recv None mode.Block ∷ stmt.Reply (who.Named 0) 0
       ∷ stmt.Reply (who.Named 0) 1 ∷ [])
       ∷ procedure 1 (stmt.Send who.First 3 2 ∷ [])
@@ -68,7 +70,8 @@ send_is_refused_in_order = record {
 abbrev pub recv_is_refused_in_order : Row
 recv_is_refused_in_order = record {
   script = pod 1 (named (codes "main" ∷ codes "w" ∷ []) (codes "a" ∷ []) [] [])
-      (procedure 0 (stmt.Create 0 1 1 asleep ∷ stmt.Recv (Some who.Nobody) mode.Poll ∷ stmt.Recv (Some who.Nobody) mode.Block
+      (procedure 0 (stmt.Create 0 1 1 asleep ∷ stmt.Recv (Some who.Nobody) mode.Poll
+      ∷ stmt.Recv (Some who.Nobody) mode.Block
       ∷ stmt.Recv (Some who.Me) mode.Poll ∷ stmt.Recv (Some who.Me) mode.Block ∷ stmt.Recv None mode.Poll
       ∷ stmt.Recv (Some (who.Named 0)) mode.Poll ∷ [])
       ∷ procedure 1 []
@@ -87,7 +90,9 @@ recv_is_refused_in_order = record {
 --   proc w / send first 2 hi
 abbrev pub reply_is_refused_in_order : Row
 reply_is_refused_in_order = record {
-  script = speaking (codes "x" ∷ codes "x" ∷ codes "x" ∷ codes "x" ∷ codes "long" ∷ codes "ok" ∷ codes "ok" ∷ codes "hi" ∷ []) (pod 1 (named (codes "main" ∷ codes "w" ∷ []) (codes "a" ∷ []) [] [])
+  script = speaking
+      (codes "x" ∷ codes "x" ∷ codes "x" ∷ codes "x" ∷ codes "long" ∷ codes "ok" ∷ codes "ok" ∷ codes "hi" ∷ [])
+      (pod 1 (named (codes "main" ∷ codes "w" ∷ []) (codes "a" ∷ []) [] [])
       (procedure 0 (stmt.Create 0 1 1 plain ∷ stmt.Reply who.Nobody 0 ∷ stmt.Reply (who.Named 0) 1
       ∷ stmt.Yield who.Me ∷ stmt.Reply (who.Named 0) 2 ∷ stmt.Recv None mode.Block
       ∷ stmt.Reply who.Me 3 ∷ stmt.Reply (who.Named 0) 4
@@ -107,7 +112,8 @@ reply_is_refused_in_order = record {
 --   proc w / send first 0 / say done
 abbrev pub room_for_nothing : Row
 room_for_nothing = record {
-  script = speaking (codes "x" ∷ [] ∷ [] ∷ codes "done" ∷ []) (pod 1 (named (codes "main" ∷ codes "w" ∷ []) (codes "a" ∷ []) [] [])
+  script = speaking (codes "x" ∷ [] ∷ [] ∷ codes "done" ∷ [])
+      (pod 1 (named (codes "main" ∷ codes "w" ∷ []) (codes "a" ∷ []) [] [])
       (procedure 0 (stmt.Create 0 1 1 plain ∷ stmt.Recv None mode.Block ∷ stmt.Reply who.Sender 0
       ∷ stmt.Reply who.Sender 1 ∷ [])
       ∷ procedure 1 (stmt.Send who.First 0 2 ∷ stmt.Say 3 ∷ [])
@@ -130,7 +136,14 @@ room_for_the_longest = record {
       ∷ procedure 1 (stmt.Send who.First 240 1 ∷ [])
       ∷ []));
   turns = 100000;
-  trace = codes "t0: create w 1 -\nt0 = t1\nt0: recv any wait\nt1: send t0 240 " ++ (longest_x ++ (codes "\nt0 = letter t1 240 " ++ (longest_x ++ (codes "\nt0: reply t1 " ++ (longest_y ++ (codes "\nt1 = reply " ++ (longest_y ++ codes "\nt0 = 0\nt0: return\nt0 dies\nt1: return\nt1 dies\npod ends 0\n")))))));
+  trace = codes "t0: create w 1 -\nt0 = t1\nt0: recv any wait\nt1: send t0 240 "
+      ++ (longest_x
+      ++ (codes "\nt0 = letter t1 240 "
+      ++ (longest_x
+      ++ (codes "\nt0: reply t1 "
+      ++ (longest_y
+      ++ (codes "\nt1 = reply "
+      ++ (longest_y ++ codes "\nt0 = 0\nt0: return\nt0 dies\nt1: return\nt1 dies\npod ends 0\n")))))));
   halt = Ended 0;
   calls = 6;
   takes = [];
@@ -142,7 +155,8 @@ room_for_the_longest = record {
 --   proc w / send first 9 hi
 abbrev pub a_letter_of_another_waits : Row
 a_letter_of_another_waits = record {
-  script = speaking (codes "one" ∷ codes "two" ∷ codes "hi" ∷ []) (pod 1 (named (codes "main" ∷ codes "w" ∷ []) (codes "a" ∷ codes "b" ∷ []) [] [])
+  script = speaking (codes "one" ∷ codes "two" ∷ codes "hi" ∷ [])
+      (pod 1 (named (codes "main" ∷ codes "w" ∷ []) (codes "a" ∷ codes "b" ∷ []) [] [])
       (procedure 0 (stmt.Create 0 1 1 plain ∷ stmt.Create 1 1 1 plain ∷ stmt.Recv (Some (who.Named 1)) mode.Block
       ∷ stmt.Recv None mode.Block ∷ stmt.Reply (who.Named 0) 0 ∷ stmt.Reply (who.Named 1) 1
       ∷ [])
@@ -162,8 +176,10 @@ a_letter_of_another_waits = record {
 --   proc w / send first 9 hi
 abbrev pub letters_in_send_order : Row
 letters_in_send_order = record {
-  script = speaking ([] ∷ codes "hi" ∷ []) (pod 1 (named (codes "main" ∷ codes "w" ∷ []) (codes "a" ∷ codes "b" ∷ codes "c" ∷ []) [] [])
-      (procedure 0 (stmt.Create 0 1 1 plain ∷ stmt.Create 1 1 1 plain ∷ stmt.Create 2 1 1 plain ∷ stmt.Yield who.Me ∷ stmt.Senders
+  script = speaking ([] ∷ codes "hi" ∷ [])
+      (pod 1 (named (codes "main" ∷ codes "w" ∷ []) (codes "a" ∷ codes "b" ∷ codes "c" ∷ []) [] [])
+      (procedure 0 (stmt.Create 0 1 1 plain ∷ stmt.Create 1 1 1 plain ∷ stmt.Create 2 1 1 plain
+      ∷ stmt.Yield who.Me ∷ stmt.Senders
       ∷ stmt.Recv None mode.Block ∷ stmt.Recv (Some (who.Named 2)) mode.Block ∷ stmt.Senders
       ∷ stmt.Recv None mode.Block ∷ stmt.Recv None mode.Poll ∷ stmt.Reply (who.Named 1) 0 ∷ stmt.Senders ∷ [])
       ∷ procedure 1 (stmt.Send who.First 9 1 ∷ [])
@@ -220,7 +236,8 @@ a_suspended_receiver = record {
 --   proc r / recv any wait / reply sender got / again
 abbrev pub a_request_and_its_reply : Row
 a_request_and_its_reply = record {
-  script = speaking (codes "one" ∷ codes "done" ∷ codes "two" ∷ codes "got" ∷ []) (pod 1 (named (codes "main" ∷ codes "r" ∷ codes "w" ∷ []) (codes "s" ∷ codes "a" ∷ []) [] [])
+  script = speaking (codes "one" ∷ codes "done" ∷ codes "two" ∷ codes "got" ∷ [])
+      (pod 1 (named (codes "main" ∷ codes "r" ∷ codes "w" ∷ []) (codes "s" ∷ codes "a" ∷ []) [] [])
       (procedure 0 (stmt.Create 0 1 1 serving ∷ stmt.Create 1 2 1 plain ∷ stmt.Send (who.Named 0) 9 0
       ∷ stmt.Say 1 ∷ [])
       ∷ procedure 2 (stmt.Send (who.Named 0) 9 2 ∷ [])

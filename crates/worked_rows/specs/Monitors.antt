@@ -30,7 +30,8 @@ breaking_a_lock = record {
 abbrev pub monitor_requests : Row
 monitor_requests = record {
   script = pod 1 (named (codes "main" ∷ codes "w" ∷ []) (codes "a" ∷ []) (codes "m" ∷ []) [])
-      (procedure 0 (stmt.MonCreate 0 ∷ stmt.Create 0 1 1 plain ∷ stmt.Enter 0 ∷ stmt.Enter 0 ∷ stmt.Yield who.Me ∷ stmt.MonExit 0
+      (procedure 0 (stmt.MonCreate 0 ∷ stmt.Create 0 1 1 plain ∷ stmt.Enter 0 ∷ stmt.Enter 0
+      ∷ stmt.Yield who.Me ∷ stmt.MonExit 0
       ∷ stmt.MonExit 0 ∷ stmt.MonDestroy 0 ∷ stmt.Enter 0 ∷ [])
       ∷ procedure 1 (stmt.CondEnter 0 ∷ stmt.MonDestroy 0 ∷ stmt.Enter 0 ∷ stmt.MonExit 0 ∷ [])
       ∷ []);
@@ -49,7 +50,8 @@ monitor_requests = record {
 abbrev pub no_such_monitor : Row
 no_such_monitor = record {
   script = pod 1 (named (codes "main" ∷ []) [] (codes "m" ∷ []) (codes "c" ∷ []))
-      (procedure 0 (stmt.Enter 0 ∷ stmt.CondEnter 0 ∷ stmt.MonExit 0 ∷ stmt.MonBreak 0 ∷ stmt.MonDestroy 0 ∷ stmt.MonWaiters 0
+      (procedure 0 (stmt.Enter 0 ∷ stmt.CondEnter 0 ∷ stmt.MonExit 0 ∷ stmt.MonBreak 0
+      ∷ stmt.MonDestroy 0 ∷ stmt.MonWaiters 0
       ∷ stmt.CvCreate 0 0 ∷ stmt.MonCreate 0 ∷ stmt.MonDestroy 0 ∷ stmt.Enter 0 ∷ stmt.CondEnter 0 ∷ stmt.MonExit 0
       ∷ stmt.MonBreak 0 ∷ stmt.MonDestroy 0 ∷ stmt.MonWaiters 0 ∷ stmt.CvCreate 0 0 ∷ [])
       ∷ []);
@@ -67,7 +69,8 @@ no_such_monitor = record {
 abbrev pub entered_again_and_again : Row
 entered_again_and_again = record {
   script = pod 1 (named (codes "main" ∷ []) [] (codes "m" ∷ []) [])
-      (procedure 0 (stmt.MonCreate 0 ∷ stmt.MonExit 0 ∷ stmt.MonBreak 0 ∷ stmt.CondEnter 0 ∷ stmt.Enter 0 ∷ stmt.CondEnter 0
+      (procedure 0 (stmt.MonCreate 0 ∷ stmt.MonExit 0 ∷ stmt.MonBreak 0 ∷ stmt.CondEnter 0
+      ∷ stmt.Enter 0 ∷ stmt.CondEnter 0
       ∷ stmt.MonExit 0 ∷ stmt.MonExit 0 ∷ stmt.MonDestroy 0 ∷ stmt.MonExit 0 ∷ stmt.MonExit 0 ∷ stmt.MonDestroy 0
       ∷ [])
       ∷ []);
@@ -103,7 +106,8 @@ anothers_lock = record {
 abbrev pub the_greatest_priority_enters_next : Row
 the_greatest_priority_enters_next = record {
   script = pod 3 (named (codes "main" ∷ codes "w" ∷ []) (codes "a" ∷ codes "b" ∷ codes "c" ∷ []) (codes "m" ∷ []) [])
-      (procedure 0 (stmt.MonCreate 0 ∷ stmt.Enter 0 ∷ stmt.Create 0 1 1 plain ∷ stmt.Create 1 1 2 plain ∷ stmt.Create 2 1 2 plain
+      (procedure 0 (stmt.MonCreate 0 ∷ stmt.Enter 0 ∷ stmt.Create 0 1 1 plain
+      ∷ stmt.Create 1 1 2 plain ∷ stmt.Create 2 1 2 plain
       ∷ stmt.SetPri who.Me 1 ∷ stmt.MonWaiters 0 ∷ stmt.MonExit 0 ∷ [])
       ∷ procedure 1 (stmt.Enter 0 ∷ stmt.MonExit 0 ∷ [])
       ∷ []);
@@ -141,8 +145,10 @@ a_broken_lock_passes_on = record {
 --   proc w / enter m
 abbrev pub monitors_and_their_waiters : Row
 monitors_and_their_waiters = record {
-  script = pod 1 (named (codes "main" ∷ codes "w" ∷ []) (codes "a" ∷ codes "b" ∷ []) (codes "m" ∷ codes "n" ∷ codes "o" ∷ []) [])
-      (procedure 0 (stmt.MonCreate 0 ∷ stmt.MonCreate 1 ∷ stmt.MonCreate 2 ∷ stmt.MonDestroy 1 ∷ stmt.Monitors ∷ stmt.Enter 0
+  script = pod 1 (named (codes "main" ∷ codes "w" ∷ []) (codes "a" ∷ codes "b" ∷ [])
+      (codes "m" ∷ codes "n" ∷ codes "o" ∷ []) [])
+      (procedure 0 (stmt.MonCreate 0 ∷ stmt.MonCreate 1 ∷ stmt.MonCreate 2 ∷ stmt.MonDestroy 1
+      ∷ stmt.Monitors ∷ stmt.Enter 0
       ∷ stmt.Create 0 1 1 plain ∷ stmt.Create 1 1 1 plain ∷ stmt.Yield who.Me ∷ stmt.MonWaiters 0
       ∷ stmt.MonWaiters 2 ∷ [])
       ∷ procedure 1 (stmt.Enter 0 ∷ [])
@@ -160,7 +166,8 @@ monitors_and_their_waiters = record {
 --     cvcreate e n / cvcreate f m
 abbrev pub births_of_monitors_and_conditions : Row
 births_of_monitors_and_conditions = record {
-  script = limited 2 (pod 1 (named (codes "main" ∷ []) [] (codes "m" ∷ codes "n" ∷ codes "o" ∷ []) (codes "c" ∷ codes "d" ∷ codes "e" ∷ codes "f" ∷ []))
+  script = limited 2 (pod 1 (named (codes "main" ∷ []) [] (codes "m" ∷ codes "n" ∷ codes "o" ∷ [])
+      (codes "c" ∷ codes "d" ∷ codes "e" ∷ codes "f" ∷ []))
       (procedure 0 (stmt.MonCreate 0 ∷ stmt.MonCreate 1 ∷ stmt.MonDestroy 0 ∷ stmt.MonCreate 2 ∷ stmt.CvCreate 0 1
       ∷ stmt.CvCreate 1 1 ∷ stmt.CvDestroy 0 ∷ stmt.CvCreate 2 1 ∷ stmt.CvCreate 3 0 ∷ [])
       ∷ []));
@@ -178,7 +185,8 @@ births_of_monitors_and_conditions = record {
 abbrev pub a_suspended_owner : Row
 a_suspended_owner = record {
   script = pod 1 (named (codes "main" ∷ codes "w" ∷ []) (codes "a" ∷ []) (codes "m" ∷ []) [])
-      (procedure 0 (stmt.MonCreate 0 ∷ stmt.Enter 0 ∷ stmt.Create 0 1 1 plain ∷ stmt.Suspend who.Me ∷ stmt.MonExit 0 ∷ [])
+      (procedure 0 (stmt.MonCreate 0 ∷ stmt.Enter 0 ∷ stmt.Create 0 1 1 plain ∷ stmt.Suspend who.Me
+      ∷ stmt.MonExit 0 ∷ [])
       ∷ procedure 1 (stmt.CondEnter 0 ∷ stmt.Resume who.First ∷ stmt.Enter 0 ∷ stmt.MonExit 0 ∷ [])
       ∷ []);
   turns = 100000;

@@ -1,5 +1,5 @@
--- What bodies do with answers that no session gives: they return, and nothing else changes. And what the built-in ones do where
--- no script can bring them.
+-- What bodies do with answers that no session gives: they return, and nothing else changes. And what the built-in ones
+-- do where no script can bring them.
 use Rattle.line_server.specs.Sessions.{SessionBody}
 use Rattle.line_server.specs.Stores.{StoreBody}
 use Rattle.line_server.specs.Tables.{Table, value_reply}
@@ -43,7 +43,8 @@ letter text = answer.Letter 1 text 240
 abbrev pub frame : List ℕ → Frame
 frame handlers = record { number = 0; place = 2; handlers = handlers }
 
--- a thread in these procedures, the innermost first, whose last call was that of a statement; its script has one procedure
+-- a thread in these procedures, the innermost first, whose last call was that of a statement; its script has one
+-- procedure
 abbrev pub scripted : Stmt → Frame → List Frame → ScriptBody
 scripted last top below = record (script_opening (pod 1 (named (codes "main" ∷ []) [] [] []) (procedure 0 [] ∷ [])) 0) {
   top = top;

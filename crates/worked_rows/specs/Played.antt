@@ -32,7 +32,8 @@ Armed script takes n e calls = armed_calls (setting_of script) takes n e ≡ cal
 abbrev pub no_reply : Script
 no_reply = posted (5 ∷ []) (line 0 0 (codes "one") ∷ line 0 1 (codes "two") ∷ [])
     (pod 1 (named (codes "main" ∷ []) (codes "g" ∷ []) [] [])
-    (procedure 0 (stmt.Agent 0 5 ∷ stmt.Recv (Some (who.Named 0)) mode.Block ∷ stmt.Recv (Some (who.Named 0)) mode.Block ∷ [])
+    (procedure 0 (stmt.Agent 0 5 ∷ stmt.Recv (Some (who.Named 0)) mode.Block
+    ∷ stmt.Recv (Some (who.Named 0)) mode.Block ∷ [])
     ∷ []))
 
 -- its first line
@@ -51,7 +52,9 @@ two turn = took turn 5 (line 0 1 (codes "two"))
 --   post 0 one
 abbrev pub another_awaited : Script
 another_awaited = posted (5 ∷ []) (line 0 0 (codes "one") ∷ [])
-    (speaking (codes "up" ∷ codes "hi" ∷ []) (pod 1 (named (codes "main" ∷ codes "w" ∷ []) (codes "a" ∷ codes "g" ∷ []) [] [])
-    (procedure 0 (stmt.Create 0 1 1 plain ∷ stmt.Agent 1 5 ∷ stmt.Recv (Some (who.Named 0)) mode.Block ∷ stmt.Recv None mode.Block ∷ [])
+    (speaking (codes "up" ∷ codes "hi" ∷ [])
+    (pod 1 (named (codes "main" ∷ codes "w" ∷ []) (codes "a" ∷ codes "g" ∷ []) [] [])
+    (procedure 0 (stmt.Create 0 1 1 plain ∷ stmt.Agent 1 5
+    ∷ stmt.Recv (Some (who.Named 0)) mode.Block ∷ stmt.Recv None mode.Block ∷ [])
     ∷ procedure 1 (stmt.Say 0 ∷ stmt.Send who.First 9 1 ∷ [])
     ∷ [])))

@@ -17,7 +17,8 @@ use Rattle.lwp_types.specs.declared.call.Func.TheVariants as func
 --     say yes
 abbrev pub skip_by_the_last_answer : Row
 skip_by_the_last_answer = record {
-  script = speaking (codes "never" ∷ codes "never" ∷ codes "never" ∷ codes "never" ∷ codes "yes" ∷ []) (pod 1 (named (codes "main" ∷ []) [] [] [])
+  script = speaking (codes "never" ∷ codes "never" ∷ codes "never" ∷ codes "never" ∷ codes "yes" ∷ []) (pod
+      1 (named (codes "main" ∷ []) [] [] [])
       (procedure 0 (stmt.GetExit ∷ stmt.Skip (test.Value 0) ∷ stmt.Say 0 ∷ stmt.SetExit 100 ∷ stmt.Skip test.Fine
       ∷ stmt.Skip (test.Value 0) ∷ stmt.Skip test.Refused ∷ stmt.Say 1 ∷ stmt.SetExit 7
       ∷ stmt.Skip test.Caught ∷ stmt.Skip test.Fine ∷ stmt.Say 2 ∷ stmt.GetExit
@@ -52,7 +53,8 @@ a_skip_over_a_skip = record {
 --   proc p / skip is 1 / skip is 0 / say never / say in
 abbrev pub a_skip_at_the_start : Row
 a_skip_at_the_start = record {
-  script = speaking (codes "never" ∷ codes "yes" ∷ codes "never" ∷ codes "in" ∷ []) (pod 1 (named (codes "main" ∷ codes "p" ∷ []) [] [] [])
+  script = speaking (codes "never" ∷ codes "yes" ∷ codes "never" ∷ codes "in" ∷ [])
+      (pod 1 (named (codes "main" ∷ codes "p" ∷ []) [] [] [])
       (procedure 0 (stmt.Skip (test.Value 0) ∷ stmt.Say 0 ∷ stmt.Say 1 ∷ stmt.CallProc 1 ∷ [])
       ∷ procedure 1 (stmt.Skip (test.Value 1) ∷ stmt.Skip (test.Value 0) ∷ stmt.Say 2 ∷ stmt.Say 3 ∷ [])
       ∷ []));
@@ -183,7 +185,8 @@ a_name_is_set_as_its_thread_goes_on = record {
 abbrev pub a_name_is_set_anew : Row
 a_name_is_set_anew = record {
   script = pod 1 (named (codes "main" ∷ codes "w" ∷ []) (codes "a" ∷ []) [] [])
-      (procedure 0 (stmt.Create 0 1 1 plain ∷ stmt.Create 0 1 2 plain ∷ stmt.Ping (who.Named 0) ∷ stmt.Create 0 1 1 plain
+      (procedure 0 (stmt.Create 0 1 1 plain ∷ stmt.Create 0 1 2 plain ∷ stmt.Ping (who.Named 0)
+      ∷ stmt.Create 0 1 1 plain
       ∷ stmt.Destroy (who.Named 0) ∷ stmt.Threads ∷ stmt.Agent 0 1 ∷ stmt.Ping (who.Named 0) ∷ [])
       ∷ procedure 1 []
       ∷ []);
@@ -257,7 +260,8 @@ texts = record {
       (procedure 0 (stmt.Say 0 ∷ stmt.Say 1 ∷ stmt.Say 2 ∷ stmt.Say 3 ∷ [])
       ∷ []));
   turns = 100000;
-  trace = codes "t0: say\nt0 = 0\nt0: say  two\nt0 = 0\nt0: say a  b\nt0 = 0\nt0: say " ++ (longest_x ++ codes "\nt0 = 0\nt0: return\nt0 dies\npod ends 0\n");
+  trace = codes "t0: say\nt0 = 0\nt0: say  two\nt0 = 0\nt0: say a  b\nt0 = 0\nt0: say "
+      ++ (longest_x ++ codes "\nt0 = 0\nt0: return\nt0 dies\npod ends 0\n");
   halt = Ended 0;
   calls = 5;
   takes = [];

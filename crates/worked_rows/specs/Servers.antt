@@ -17,18 +17,22 @@ use Rattle.lwp_types.specs.declared.call.Mode.TheVariants as mode
 --   post 0 get k / post 1 put k zz / post 0 what / post 0 quit / post 1 quit
 abbrev pub answers_apart : Row
 answers_apart = record {
-  script = posted (1 ∷ 2 ∷ []) (line 0 0 (codes "get k") ∷ line 1 0 (codes "put k zz") ∷ line 0 1 (codes "what") ∷ line 0 2 (codes "quit")
+  script = posted (1 ∷ 2 ∷ []) (line 0 0 (codes "get k") ∷ line 1 0 (codes "put k zz")
+      ∷ line 0 1 (codes "what") ∷ line 0 2 (codes "quit")
       ∷ line 1 1 (codes "quit") ∷ [])
       (with_natives (built_in 0 native.Store ∷ built_in 1 (native.Session 1 0) ∷ built_in 2 (native.Session 2 0) ∷ [])
-      (pod 1 (named (codes "db" ∷ codes "s" ∷ codes "u" ∷ codes "main" ∷ []) (codes "db" ∷ codes "a" ∷ codes "b" ∷ []) [] [])
-      (procedure 3 (stmt.Create 0 0 1 serving ∷ stmt.Create 1 1 1 plain ∷ stmt.Create 2 2 1 plain ∷ stmt.Join (who.Named 1)
+      (pod 1 (named (codes "db" ∷ codes "s" ∷ codes "u" ∷ codes "main" ∷ [])
+      (codes "db" ∷ codes "a" ∷ codes "b" ∷ []) [] [])
+      (procedure 3 (stmt.Create 0 0 1 serving ∷ stmt.Create 1 1 1 plain ∷ stmt.Create 2 2 1 plain
+      ∷ stmt.Join (who.Named 1)
       ∷ stmt.Join (who.Named 2) ∷ [])
       ∷ [])));
   turns = 100000;
   trace = codes "t0: create db 1 v\nt0 = t1\nt0: create s 1 -\nt0 = t2\nt0: create u 1 -\nt0 = t3\nt0: join t2\nt1: recv any wait\nt2: agent 1\nt2 = t4\nevent 1 client 0 seq 0 get k\nt2: recv t4 wait\nt2 = letter t4 240 get k\nt2: send t1 240 get k\nt1 = letter t2 240 get k\nt3: agent 2\nt3 = t5\nevent 2 client 1 seq 0 put k zz\nt3: recv t5 wait\nt3 = letter t5 240 put k zz\nt3: send t1 240 put k zz\nt1: reply t2 none\nt2 = reply none\nt1 = 0\nt1: recv any wait\nt1 = letter t3 240 put k zz\nt1: reply t3 ok\nt3 = reply ok\nt1 = 0\nt1: recv any wait\nt2: reply t4 none\nt2 = 0\nevent 1 client 0 seq 1 what\nt2: recv t4 wait\nt2 = letter t4 240 what\nt2: reply t4 bad\nt2 = 0\nevent 1 client 0 seq 2 quit\nt2: recv t4 wait\nt2 = letter t4 240 quit\nt2: reply t4 bye\nt2 = 0\nt2: return\nt0 = 0\nt2 dies\nt3: reply t5 ok\nt3 = 0\nevent 2 client 1 seq 1 quit\nt3: recv t5 wait\nt3 = letter t5 240 quit\nt3: reply t5 bye\nt3 = 0\nt3: return\nt3 dies\nt0: join t3\nt0 ! LE_NONEXIST\nt0: return\nt0 dies\npod ends 0\n";
   halt = Ended 0;
   calls = 27;
-  takes = took 6 1 (line 0 0 (codes "get k")) ∷ took 9 2 (line 1 0 (codes "put k zz")) ∷ took 16 1 (line 0 1 (codes "what"))
+  takes = took 6 1 (line 0 0 (codes "get k")) ∷ took 9 2 (line 1 0 (codes "put k zz"))
+      ∷ took 16 1 (line 0 1 (codes "what"))
       ∷ took 18 1 (line 0 2 (codes "quit")) ∷ took 22 2 (line 1 1 (codes "quit")) ∷ [];
 }
 
@@ -71,10 +75,12 @@ bad_commands = record {
 --   post 0 put abcdefghijklmnop v / post 0 del k_9 / post 0 quit
 abbrev pub down_without_a_store : Row
 down_without_a_store = record {
-  script = posted (3 ∷ []) (line 0 0 (codes "put abcdefghijklmnop v") ∷ line 0 1 (codes "del k_9") ∷ line 0 2 (codes "quit") ∷ [])
+  script = posted (3 ∷ []) (line 0 0 (codes "put abcdefghijklmnop v") ∷ line 0 1 (codes "del k_9")
+      ∷ line 0 2 (codes "quit") ∷ [])
       (with_natives (built_in 0 (native.Session 3 0) ∷ [])
       (pod 1 (named (codes "s" ∷ codes "main" ∷ codes "w" ∷ []) (codes "db" ∷ codes "a" ∷ []) [] [])
-      (procedure 1 (stmt.Create 1 0 1 plain ∷ stmt.Yield (who.Named 1) ∷ stmt.Create 0 2 1 plain ∷ stmt.Ping (who.Named 0)
+      (procedure 1 (stmt.Create 1 0 1 plain ∷ stmt.Yield (who.Named 1) ∷ stmt.Create 0 2 1 plain
+      ∷ stmt.Ping (who.Named 0)
       ∷ stmt.Yield (who.Named 1) ∷ stmt.Destroy (who.Named 0) ∷ stmt.Join (who.Named 1) ∷ [])
       ∷ procedure 2 (stmt.Recv None mode.Block ∷ [])
       ∷ [])));
@@ -137,7 +143,11 @@ a_session_without_an_agent = record {
 abbrev pub commands_of_the_store : Row
 commands_of_the_store = record {
   script = with_natives (built_in 0 native.Store ∷ [])
-      (speaking (codes "get k" ∷ codes "put k v w" ∷ codes "get k" ∷ codes "put k" ∷ codes "get k" ∷ codes "put k  x" ∷ codes "get k" ∷ codes "del k" ∷ codes "del k" ∷ codes "get k" ∷ codes "put k " ∷ codes "quit" ∷ []) (pod 1 (named (codes "st" ∷ codes "main" ∷ []) (codes "db" ∷ []) [] [])
+      (speaking
+      (codes "get k" ∷ codes "put k v w" ∷ codes "get k" ∷ codes "put k" ∷ codes "get k"
+      ∷ codes "put k  x" ∷ codes "get k" ∷ codes "del k" ∷ codes "del k" ∷ codes "get k"
+      ∷ codes "put k " ∷ codes "quit" ∷ [])
+      (pod 1 (named (codes "st" ∷ codes "main" ∷ []) (codes "db" ∷ []) [] [])
       (procedure 1 (stmt.Create 0 0 1 serving ∷ stmt.Send (who.Named 0) 240 0
       ∷ stmt.Send (who.Named 0) 240 1 ∷ stmt.Send (who.Named 0) 240 2
       ∷ stmt.Send (who.Named 0) 240 3 ∷ stmt.Send (who.Named 0) 240 4
@@ -161,7 +171,8 @@ commands_of_the_store = record {
 abbrev pub a_table_for_each_sender : Row
 a_table_for_each_sender = record {
   script = with_natives (built_in 0 native.Store ∷ [])
-      (speaking (codes "put k a" ∷ codes "get k" ∷ codes "get k" ∷ codes "put k b" ∷ []) (pod 1 (named (codes "st" ∷ codes "main" ∷ codes "w" ∷ []) (codes "db" ∷ codes "x" ∷ []) [] [])
+      (speaking (codes "put k a" ∷ codes "get k" ∷ codes "get k" ∷ codes "put k b" ∷ [])
+      (pod 1 (named (codes "st" ∷ codes "main" ∷ codes "w" ∷ []) (codes "db" ∷ codes "x" ∷ []) [] [])
       (procedure 1 (stmt.Create 0 0 1 serving ∷ stmt.Send (who.Named 0) 240 0 ∷ stmt.Create 1 2 1 plain
       ∷ stmt.Join (who.Named 1) ∷ stmt.Send (who.Named 0) 240 1 ∷ [])
       ∷ procedure 2 (stmt.Send (who.Named 0) 240 2 ∷ stmt.Send (who.Named 0) 240 3 ∷ [])
@@ -180,7 +191,8 @@ a_table_for_each_sender = record {
 abbrev pub a_reply_without_room : Row
 a_reply_without_room = record {
   script = with_natives (built_in 0 native.Store ∷ [])
-      (speaking (codes "put k v" ∷ codes "get k" ∷ []) (pod 1 (named (codes "st" ∷ codes "main" ∷ []) (codes "db" ∷ []) [] [])
+      (speaking (codes "put k v" ∷ codes "get k" ∷ [])
+      (pod 1 (named (codes "st" ∷ codes "main" ∷ []) (codes "db" ∷ []) [] [])
       (procedure 1 (stmt.Create 0 0 1 serving ∷ stmt.Send (who.Named 0) 1 0
       ∷ stmt.Send (who.Named 0) 4 1 ∷ [])
       ∷ [])));

@@ -26,15 +26,20 @@ z_line = line 0 2 (codes "z")
 -- An owner waits for its second agent by name. The first one's letter doesn't wake it, the second's does.
 --   lwp 1 / pod 1
 --   client 0 5
---   proc main / agent g 5 / recv g wait / create a w 1 - / yield self / reply g ok / yield self / recv g wait / reply g ok
+--   proc main / agent g 5 / recv g wait / create a w 1 - / yield self / reply g ok / yield self / recv g wait /
+--     reply g ok
 --   proc w / agent h 5 / agent i 5 / recv i wait / recv h poll / reply i ok / reply h ok
 --   post 0 x / post 0 y
 abbrev pub blocked_on_its_second_agent : Row
 blocked_on_its_second_agent = record {
   script = posted (5 ∷ []) (x_line ∷ y_line ∷ [])
-      (speaking (codes "ok" ∷ []) (pod 1 (named (codes "main" ∷ codes "w" ∷ []) (codes "g" ∷ codes "a" ∷ codes "h" ∷ codes "i" ∷ []) [] [])
-      (procedure 0 (stmt.Agent 0 5 ∷ stmt.Recv (Some (who.Named 0)) mode.Block ∷ stmt.Create 1 1 1 plain ∷ stmt.Yield who.Me ∷ stmt.Reply (who.Named 0) 0 ∷ stmt.Yield who.Me ∷ stmt.Recv (Some (who.Named 0)) mode.Block ∷ stmt.Reply (who.Named 0) 0 ∷ [])
-      ∷ procedure 1 (stmt.Agent 2 5 ∷ stmt.Agent 3 5 ∷ stmt.Recv (Some (who.Named 3)) mode.Block ∷ stmt.Recv (Some (who.Named 2)) mode.Poll ∷ stmt.Reply (who.Named 3) 0 ∷ stmt.Reply (who.Named 2) 0 ∷ [])
+      (speaking (codes "ok" ∷ []) (pod 1
+      (named (codes "main" ∷ codes "w" ∷ []) (codes "g" ∷ codes "a" ∷ codes "h" ∷ codes "i" ∷ []) [] [])
+      (procedure 0 (stmt.Agent 0 5 ∷ stmt.Recv (Some (who.Named 0)) mode.Block
+      ∷ stmt.Create 1 1 1 plain ∷ stmt.Yield who.Me ∷ stmt.Reply (who.Named 0) 0
+      ∷ stmt.Yield who.Me ∷ stmt.Recv (Some (who.Named 0)) mode.Block ∷ stmt.Reply (who.Named 0) 0 ∷ [])
+      ∷ procedure 1 (stmt.Agent 2 5 ∷ stmt.Agent 3 5 ∷ stmt.Recv (Some (who.Named 3)) mode.Block
+      ∷ stmt.Recv (Some (who.Named 2)) mode.Poll ∷ stmt.Reply (who.Named 3) 0 ∷ stmt.Reply (who.Named 2) 0 ∷ [])
       ∷ [])));
   turns = 100000;
   trace = codes "t0: agent 5\nt0 = t1\nevent 5 client 0 seq 0 x\nt0: recv t1 wait\nt0 = letter t1 240 x\nt0: create w 1 -\nt0 = t2\nt0: yield self\nt0 = 0\nt2: agent 5\nt2 = t3\nt2: agent 5\nt2 = t4\nt2: recv t4 wait\nt0: reply t1 ok\nt0 = 0\nevent 5 client 0 seq 1 y\nalso t3\nalso t4\nt2 = letter t4 240 y\nt0: yield self\nt0 = 0\nt2: recv t3 poll\nt2 = letter t3 240 y\nt2: reply t4 ok\nt2 = 0\nt2: reply t3 ok\nt2 = 0\nt2: return\nt2 dies\nt0: recv t1 wait\nt0 = letter t1 240 y\nt0: reply t1 ok\nt0 = 0\nt0: return\nt0 dies\npod ends 0\n";
@@ -43,8 +48,8 @@ blocked_on_its_second_agent = record {
   takes = took 1 5 x_line ∷ took 8 5 y_line ∷ [];
 }
 
--- Two owners have a letter each, and the first dies by what it does next. The event then waits for the other alone, and the next
--- line is for the agent that is left.
+-- Two owners have a letter each, and the first dies by what it does next. The event then waits for the other alone, and
+-- the next line is for the agent that is left.
 --   lwp 1 / pod 1
 --   client 0 5
 --   proc main / agent g 5 / recv g wait / create a w 1 - / yield self / reply g ok
@@ -53,9 +58,12 @@ blocked_on_its_second_agent = record {
 abbrev pub an_owner_that_dies_next : Row
 an_owner_that_dies_next = record {
   script = posted (5 ∷ []) (x_line ∷ y_line ∷ z_line ∷ [])
-      (speaking (codes "ok" ∷ []) (pod 1 (named (codes "main" ∷ codes "w" ∷ []) (codes "g" ∷ codes "a" ∷ codes "h" ∷ []) [] [])
-      (procedure 0 (stmt.Agent 0 5 ∷ stmt.Recv (Some (who.Named 0)) mode.Block ∷ stmt.Create 1 1 1 plain ∷ stmt.Yield who.Me ∷ stmt.Reply (who.Named 0) 0 ∷ [])
-      ∷ procedure 1 (stmt.Agent 2 5 ∷ stmt.Recv (Some (who.Named 2)) mode.Block ∷ stmt.Reply (who.Named 2) 0 ∷ stmt.Recv (Some (who.Named 2)) mode.Block ∷ stmt.Reply (who.Named 2) 0 ∷ [])
+      (speaking (codes "ok" ∷ []) (pod 1
+      (named (codes "main" ∷ codes "w" ∷ []) (codes "g" ∷ codes "a" ∷ codes "h" ∷ []) [] [])
+      (procedure 0 (stmt.Agent 0 5 ∷ stmt.Recv (Some (who.Named 0)) mode.Block
+      ∷ stmt.Create 1 1 1 plain ∷ stmt.Yield who.Me ∷ stmt.Reply (who.Named 0) 0 ∷ [])
+      ∷ procedure 1 (stmt.Agent 2 5 ∷ stmt.Recv (Some (who.Named 2)) mode.Block
+      ∷ stmt.Reply (who.Named 2) 0 ∷ stmt.Recv (Some (who.Named 2)) mode.Block ∷ stmt.Reply (who.Named 2) 0 ∷ [])
       ∷ [])));
   turns = 100000;
   trace = codes "t0: agent 5\nt0 = t1\nevent 5 client 0 seq 0 x\nt0: recv t1 wait\nt0 = letter t1 240 x\nt0: create w 1 -\nt0 = t2\nt0: yield self\nt0 = 0\nt2: agent 5\nt2 = t3\nt2: recv t3 wait\nt0: reply t1 ok\nt0 = 0\nevent 5 client 0 seq 1 y\nalso t3\nt2 = letter t3 240 y\nt0: return\nt0 dies\nt2: reply t3 ok\nt2 = 0\nevent 5 client 0 seq 2 z\nt2: recv t3 wait\nt2 = letter t3 240 z\nt2: reply t3 ok\nt2 = 0\nt2: return\nt2 dies\npod ends 0\n";
@@ -64,7 +72,8 @@ an_owner_that_dies_next = record {
   takes = took 1 5 x_line ∷ took 7 5 y_line ∷ took 9 5 z_line ∷ [];
 }
 
--- An agent that is born while another of its event holds a message doesn't arm the event: the next line waits for the reply.
+-- An agent that is born while another of its event holds a message doesn't arm the event: the next line waits for the
+-- reply.
 --   lwp 1 / pod 1
 --   client 0 5
 --   proc main / agent g 5 / agent h 5 / say m / recv g wait / reply g ok / recv any wait
@@ -73,7 +82,8 @@ abbrev pub born_beside_one_that_holds : Row
 born_beside_one_that_holds = record {
   script = posted (5 ∷ []) (x_line ∷ y_line ∷ [])
       (speaking (codes "ok" ∷ codes "m" ∷ []) (pod 1 (named (codes "main" ∷ []) (codes "g" ∷ codes "h" ∷ []) [] [])
-      (procedure 0 (stmt.Agent 0 5 ∷ stmt.Agent 1 5 ∷ stmt.Say 1 ∷ stmt.Recv (Some (who.Named 0)) mode.Block ∷ stmt.Reply (who.Named 0) 0 ∷ stmt.Recv None mode.Block ∷ [])
+      (procedure 0 (stmt.Agent 0 5 ∷ stmt.Agent 1 5 ∷ stmt.Say 1
+      ∷ stmt.Recv (Some (who.Named 0)) mode.Block ∷ stmt.Reply (who.Named 0) 0 ∷ stmt.Recv None mode.Block ∷ [])
       ∷ [])));
   turns = 100000;
   trace = codes "t0: agent 5\nt0 = t1\nevent 5 client 0 seq 0 x\nt0: agent 5\nt0 = t2\nt0: say m\nt0 = 0\nt0: recv t1 wait\nt0 = letter t1 240 x\nt0: reply t1 ok\nt0 = 0\nevent 5 client 0 seq 1 y\nalso t2\nt0: recv any wait\nt0 = letter t1 240 y\nt0: return\nt0 dies\npod ends 0\n";
@@ -85,13 +95,16 @@ born_beside_one_that_holds = record {
 -- Two agents hold a message: a reply to one of them takes no line, and the reply to the other does.
 --   lwp 1 / pod 1
 --   client 0 5
---   proc main / agent g 5 / agent h 5 / recv g wait / reply g ok / recv any wait / recv any wait / reply h ok / say m / reply g ok
+--   proc main / agent g 5 / agent h 5 / recv g wait / reply g ok / recv any wait / recv any wait / reply h ok / say m /
+--     reply g ok
 --   post 0 x / post 0 y / post 0 z
 abbrev pub a_reply_to_one_of_two : Row
 a_reply_to_one_of_two = record {
   script = posted (5 ∷ []) (x_line ∷ y_line ∷ z_line ∷ [])
       (speaking (codes "ok" ∷ codes "m" ∷ []) (pod 1 (named (codes "main" ∷ []) (codes "g" ∷ codes "h" ∷ []) [] [])
-      (procedure 0 (stmt.Agent 0 5 ∷ stmt.Agent 1 5 ∷ stmt.Recv (Some (who.Named 0)) mode.Block ∷ stmt.Reply (who.Named 0) 0 ∷ stmt.Recv None mode.Block ∷ stmt.Recv None mode.Block ∷ stmt.Reply (who.Named 1) 0 ∷ stmt.Say 1 ∷ stmt.Reply (who.Named 0) 0 ∷ [])
+      (procedure 0 (stmt.Agent 0 5 ∷ stmt.Agent 1 5 ∷ stmt.Recv (Some (who.Named 0)) mode.Block
+      ∷ stmt.Reply (who.Named 0) 0 ∷ stmt.Recv None mode.Block ∷ stmt.Recv None mode.Block
+      ∷ stmt.Reply (who.Named 1) 0 ∷ stmt.Say 1 ∷ stmt.Reply (who.Named 0) 0 ∷ [])
       ∷ [])));
   turns = 100000;
   trace = codes "t0: agent 5\nt0 = t1\nevent 5 client 0 seq 0 x\nt0: agent 5\nt0 = t2\nt0: recv t1 wait\nt0 = letter t1 240 x\nt0: reply t1 ok\nt0 = 0\nevent 5 client 0 seq 1 y\nalso t2\nt0: recv any wait\nt0 = letter t1 240 y\nt0: recv any wait\nt0 = letter t2 240 y\nt0: reply t2 ok\nt0 = 0\nt0: say m\nt0 = 0\nt0: reply t1 ok\nt0 = 0\nevent 5 client 0 seq 2 z\nalso t2\nt0: return\nt0 dies\npod ends 0\n";
@@ -103,13 +116,17 @@ a_reply_to_one_of_two = record {
 -- An owner of three agents of one event has three letters of one line, in the order of the agents' births.
 --   lwp 1 / pod 1
 --   client 0 5
---   proc main / agent g 5 / agent h 5 / agent i 5 / recv g wait / reply g ok / recv any wait / recv any wait / recv any wait / senders / recv any poll
+--   proc main / agent g 5 / agent h 5 / agent i 5 / recv g wait / reply g ok / recv any wait / recv any wait /
+--     recv any wait / senders / recv any poll
 --   post 0 x / post 0 y
 abbrev pub three_agents_of_one_owner : Row
 three_agents_of_one_owner = record {
   script = posted (5 ∷ []) (x_line ∷ y_line ∷ [])
       (speaking (codes "ok" ∷ []) (pod 1 (named (codes "main" ∷ []) (codes "g" ∷ codes "h" ∷ codes "i" ∷ []) [] [])
-      (procedure 0 (stmt.Agent 0 5 ∷ stmt.Agent 1 5 ∷ stmt.Agent 2 5 ∷ stmt.Recv (Some (who.Named 0)) mode.Block ∷ stmt.Reply (who.Named 0) 0 ∷ stmt.Recv None mode.Block ∷ stmt.Recv None mode.Block ∷ stmt.Recv None mode.Block ∷ stmt.Senders ∷ stmt.Recv None mode.Poll ∷ [])
+      (procedure 0 (stmt.Agent 0 5 ∷ stmt.Agent 1 5 ∷ stmt.Agent 2 5
+      ∷ stmt.Recv (Some (who.Named 0)) mode.Block ∷ stmt.Reply (who.Named 0) 0
+      ∷ stmt.Recv None mode.Block ∷ stmt.Recv None mode.Block ∷ stmt.Recv None mode.Block
+      ∷ stmt.Senders ∷ stmt.Recv None mode.Poll ∷ [])
       ∷ [])));
   turns = 100000;
   trace = codes "t0: agent 5\nt0 = t1\nevent 5 client 0 seq 0 x\nt0: agent 5\nt0 = t2\nt0: agent 5\nt0 = t3\nt0: recv t1 wait\nt0 = letter t1 240 x\nt0: reply t1 ok\nt0 = 0\nevent 5 client 0 seq 1 y\nalso t2\nalso t3\nt0: recv any wait\nt0 = letter t1 240 y\nt0: recv any wait\nt0 = letter t2 240 y\nt0: recv any wait\nt0 = letter t3 240 y\nt0: senders\nt0 = ids t1 t2 t3\nt0: recv any poll\nt0 ! LE_TIMEOUT\nt0: return\nt0 dies\npod ends 0\n";
@@ -127,7 +144,8 @@ abbrev pub destroyed_while_it_holds : Row
 destroyed_while_it_holds = record {
   script = posted (5 ∷ []) (x_line ∷ y_line ∷ [])
       (speaking (codes "ok" ∷ []) (pod 1 (named (codes "main" ∷ []) (codes "g" ∷ codes "h" ∷ []) [] [])
-      (procedure 0 (stmt.Agent 0 5 ∷ stmt.Agent 1 5 ∷ stmt.Destroy (who.Named 0) ∷ stmt.Recv None mode.Block ∷ stmt.Reply (who.Named 1) 0 ∷ [])
+      (procedure 0 (stmt.Agent 0 5 ∷ stmt.Agent 1 5 ∷ stmt.Destroy (who.Named 0)
+      ∷ stmt.Recv None mode.Block ∷ stmt.Reply (who.Named 1) 0 ∷ [])
       ∷ [])));
   turns = 100000;
   trace = codes "t0: agent 5\nt0 = t1\nevent 5 client 0 seq 0 x\nt0: agent 5\nt0 = t2\nt0: destroy t1\nt0 = 0\nevent 5 client 0 seq 1 y\nt0: recv any wait\nt0 = letter t2 240 y\nt0: reply t2 ok\nt0 = 0\nt0: return\nt0 dies\npod ends 0\n";
@@ -145,7 +163,8 @@ abbrev pub destroyed_beside_one_that_holds : Row
 destroyed_beside_one_that_holds = record {
   script = posted (5 ∷ []) (x_line ∷ y_line ∷ [])
       (speaking (codes "ok" ∷ codes "m" ∷ []) (pod 1 (named (codes "main" ∷ []) (codes "g" ∷ codes "h" ∷ []) [] [])
-      (procedure 0 (stmt.Agent 0 5 ∷ stmt.Agent 1 5 ∷ stmt.Destroy (who.Named 1) ∷ stmt.Say 1 ∷ stmt.Recv (Some (who.Named 0)) mode.Block ∷ stmt.Reply (who.Named 0) 0 ∷ [])
+      (procedure 0 (stmt.Agent 0 5 ∷ stmt.Agent 1 5 ∷ stmt.Destroy (who.Named 1) ∷ stmt.Say 1
+      ∷ stmt.Recv (Some (who.Named 0)) mode.Block ∷ stmt.Reply (who.Named 0) 0 ∷ [])
       ∷ [])));
   turns = 100000;
   trace = codes "t0: agent 5\nt0 = t1\nevent 5 client 0 seq 0 x\nt0: agent 5\nt0 = t2\nt0: destroy t2\nt0 = 0\nt0: say m\nt0 = 0\nt0: recv t1 wait\nt0 = letter t1 240 x\nt0: reply t1 ok\nt0 = 0\nevent 5 client 0 seq 1 y\nt0: return\nt0 dies\npod ends 0\n";
@@ -154,7 +173,8 @@ destroyed_beside_one_that_holds = record {
   takes = took 1 5 x_line ∷ took 6 5 y_line ∷ [];
 }
 
--- An owner waits for its agent, but another agent of the event holds its message for good: the session is stuck, with a line left.
+-- An owner waits for its agent, but another agent of the event holds its message for good: the session is stuck, with a
+-- line left.
 --   lwp 1 / pod 1
 --   client 0 5
 --   proc main / agent g 5 / create a w 1 - / join a
@@ -181,7 +201,9 @@ stuck_beside_one_that_holds = record {
 abbrev pub an_agent_of_event_32 : Row
 an_agent_of_event_32 = record {
   script = speaking (codes "ok" ∷ []) (pod 1 (named (codes "main" ∷ codes "w" ∷ []) (codes "g" ∷ codes "a" ∷ []) [] [])
-      (procedure 0 (stmt.Agent 0 32 ∷ stmt.Ping (who.Named 0) ∷ stmt.Recv (Some (who.Named 0)) mode.Poll ∷ stmt.Reply (who.Named 0) 0 ∷ stmt.Create 1 1 1 plain ∷ stmt.Recv (Some (who.Named 0)) mode.Block ∷ stmt.Ping (who.Named 0) ∷ [])
+      (procedure 0 (stmt.Agent 0 32 ∷ stmt.Ping (who.Named 0)
+      ∷ stmt.Recv (Some (who.Named 0)) mode.Poll ∷ stmt.Reply (who.Named 0) 0
+      ∷ stmt.Create 1 1 1 plain ∷ stmt.Recv (Some (who.Named 0)) mode.Block ∷ stmt.Ping (who.Named 0) ∷ [])
       ∷ procedure 1 (stmt.Destroy (who.Named 0) ∷ [])
       ∷ []));
   turns = 100000;
@@ -215,7 +237,8 @@ abbrev pub agents_of_two_events : Row
 agents_of_two_events = record {
   script = posted (5 ∷ 3 ∷ []) (x_line ∷ line 1 0 (codes "a") ∷ line 1 1 (codes "b") ∷ [])
       (speaking (codes "ok" ∷ []) (pod 1 (named (codes "main" ∷ []) (codes "g" ∷ codes "h" ∷ codes "i" ∷ []) [] [])
-      (procedure 0 (stmt.Agent 0 5 ∷ stmt.Agent 1 3 ∷ stmt.Agent 2 3 ∷ stmt.Recv (Some (who.Named 1)) mode.Block ∷ stmt.Reply (who.Named 1) 0 ∷ [])
+      (procedure 0 (stmt.Agent 0 5 ∷ stmt.Agent 1 3 ∷ stmt.Agent 2 3
+      ∷ stmt.Recv (Some (who.Named 1)) mode.Block ∷ stmt.Reply (who.Named 1) 0 ∷ [])
       ∷ [])));
   turns = 100000;
   trace = codes "t0: agent 5\nt0 = t1\nevent 5 client 0 seq 0 x\nt0: agent 3\nt0 = t2\nevent 3 client 1 seq 0 a\nt0: agent 3\nt0 = t3\nt0: recv t2 wait\nt0 = letter t2 240 a\nt0: reply t2 ok\nt0 = 0\nevent 3 client 1 seq 1 b\nalso t3\nt0: return\nt0 dies\npod ends 0\n";
@@ -230,4 +253,7 @@ with_agents n = record alone { agents = map (λ k. new_agent (k + 1) 7 0) (numbe
 
 -- and it waits for a letter of anybody
 abbrev pub waiting_with_agents : ℕ → State
-waiting_with_agents n = record (with_agents n) { threads = record (opening_thread 1) { block = block.Receiving None } ∷ []; order = [] }
+waiting_with_agents n = record (with_agents n) {
+  threads = record (opening_thread 1) { block = block.Receiving None } ∷ [];
+  order = [];
+}

@@ -94,7 +94,8 @@ a_later_arrival_is_due_first = record {
 abbrev pub a_tick_wakes_a_greater_priority : Row
 a_tick_wakes_a_greater_priority = record {
   script = posted (0 ∷ []) (beats 5)
-      (speaking (codes "up" ∷ codes "a" ∷ codes "b" ∷ codes "c" ∷ []) (pod 2 (named (codes "main" ∷ codes "w" ∷ []) (codes "a" ∷ []) [] [])
+      (speaking (codes "up" ∷ codes "a" ∷ codes "b" ∷ codes "c" ∷ [])
+      (pod 2 (named (codes "main" ∷ codes "w" ∷ []) (codes "a" ∷ []) [] [])
       (procedure 0 (stmt.Create 0 1 1 plain ∷ stmt.Sleep 3 ∷ stmt.Say 0 ∷ [])
       ∷ procedure 1 (stmt.Say 1 ∷ stmt.Say 2 ∷ stmt.Say 3 ∷ [])
       ∷ [])));
@@ -149,7 +150,8 @@ two_clients_on_the_clock = record {
 --   post 0 hi / post 1 x, four times
 abbrev pub the_clock_before_an_agent : Row
 the_clock_before_an_agent = record {
-  script = posted (5 ∷ 0 ∷ []) (line 0 0 (codes "hi") ∷ line 1 0 (codes "x") ∷ line 1 1 (codes "x") ∷ line 1 2 (codes "x") ∷ line 1 3 (codes "x") ∷ [])
+  script = posted (5 ∷ 0 ∷ []) (line 0 0 (codes "hi") ∷ line 1 0 (codes "x") ∷ line 1 1 (codes "x")
+      ∷ line 1 2 (codes "x") ∷ line 1 3 (codes "x") ∷ [])
       (pod 1 (named (codes "main" ∷ codes "w" ∷ []) (codes "a" ∷ codes "g" ∷ []) [] [])
       (procedure 0 (stmt.Create 0 1 1 plain ∷ stmt.Sleep 2 ∷ [])
       ∷ procedure 1 (stmt.Agent 1 5 ∷ stmt.Recv (Some (who.Named 1)) mode.Poll ∷ [])
@@ -158,7 +160,8 @@ the_clock_before_an_agent = record {
   trace = codes "tick 1 client 1 seq 0 x\nt0: create w 1 -\nt0 = t1\ntick 2 client 1 seq 1 x\nt0: sleep 2\ntick 3 client 1 seq 2 x\nt1: agent 5\nt1 = t2\ntick 4 client 1 seq 3 x\nt0 = 0\nevent 5 client 0 seq 0 hi\nt1: recv t2 poll\nt1 = letter t2 240 hi\nt1: return\nt1 dies\nt0: return\nt0 dies\npod ends 0\n";
   halt = Ended 0;
   calls = 6;
-  takes = took 0 0 (line 1 0 (codes "x")) ∷ took 1 0 (line 1 1 (codes "x")) ∷ took 2 0 (line 1 2 (codes "x")) ∷ took 3 0 (line 1 3 (codes "x")) ∷ took 3 5 (line 0 0 (codes "hi")) ∷ [];
+  takes = took 0 0 (line 1 0 (codes "x")) ∷ took 1 0 (line 1 1 (codes "x"))
+      ∷ took 2 0 (line 1 2 (codes "x")) ∷ took 3 0 (line 1 3 (codes "x")) ∷ took 3 5 (line 0 0 (codes "hi")) ∷ [];
 }
 
 -- A sleeper can be pinged, and be given another priority; it runs by it once it is woken.
@@ -171,8 +174,10 @@ the_clock_before_an_agent = record {
 abbrev pub a_priority_that_changes_asleep : Row
 a_priority_that_changes_asleep = record {
   script = posted (0 ∷ []) (beats 10)
-      (speaking (codes "v" ∷ codes "w" ∷ []) (pod 2 (named (codes "main" ∷ codes "v" ∷ codes "w" ∷ []) (codes "a" ∷ codes "b" ∷ []) [] [])
-      (procedure 0 (stmt.Create 0 1 1 plain ∷ stmt.Create 1 2 1 plain ∷ stmt.Sleep 3 ∷ stmt.Ping (who.Named 1) ∷ stmt.SetPri (who.Named 1) 2 ∷ [])
+      (speaking (codes "v" ∷ codes "w" ∷ [])
+      (pod 2 (named (codes "main" ∷ codes "v" ∷ codes "w" ∷ []) (codes "a" ∷ codes "b" ∷ []) [] [])
+      (procedure 0 (stmt.Create 0 1 1 plain ∷ stmt.Create 1 2 1 plain ∷ stmt.Sleep 3
+      ∷ stmt.Ping (who.Named 1) ∷ stmt.SetPri (who.Named 1) 2 ∷ [])
       ∷ procedure 1 (stmt.Sleep 6 ∷ stmt.Say 0 ∷ [])
       ∷ procedure 2 (stmt.Sleep 5 ∷ stmt.Say 1 ∷ [])
       ∷ [])));
@@ -180,7 +185,8 @@ a_priority_that_changes_asleep = record {
   trace = codes "tick 1 client 0 seq 0 x\nt0: create v 1 -\nt0 = t1\ntick 2 client 0 seq 1 x\nt0: create w 1 -\nt0 = t2\ntick 3 client 0 seq 2 x\nt0: sleep 3\ntick 4 client 0 seq 3 x\nt1: sleep 6\ntick 5 client 0 seq 4 x\nt2: sleep 5\ntick 6 client 0 seq 5 x\nt0 = 0\ntick 7 client 0 seq 6 x\nt0: ping t2\nt0 = 0\ntick 8 client 0 seq 7 x\nt0: setpri t2 2\nt0 = 1\ntick 9 client 0 seq 8 x\nt0: return\nt0 dies\ntick 10 client 0 seq 9 x\nt1 = 0\nt2 = 0\nt2: say w\nt2 = 0\nt2: return\nt2 dies\nt1: say v\nt1 = 0\nt1: return\nt1 dies\npod ends 0\n";
   halt = Ended 0;
   calls = 12;
-  takes = beat 0 0 ∷ beat 1 1 ∷ beat 2 2 ∷ beat 3 3 ∷ beat 4 4 ∷ beat 5 5 ∷ beat 5 6 ∷ beat 6 7 ∷ beat 7 8 ∷ beat 8 9 ∷ [];
+  takes = beat 0 0 ∷ beat 1 1 ∷ beat 2 2 ∷ beat 3 3 ∷ beat 4 4 ∷ beat 5 5 ∷ beat 5 6 ∷ beat 6 7
+      ∷ beat 7 8 ∷ beat 8 9 ∷ [];
 }
 
 -- A sleeper that is destroyed is woken by no tick.
@@ -213,7 +219,8 @@ abbrev pub suspended_past_its_tick : Row
 suspended_past_its_tick = record {
   script = posted (0 ∷ []) (beats 6)
       (speaking (codes "up" ∷ []) (pod 1 (named (codes "main" ∷ codes "w" ∷ []) (codes "a" ∷ []) [] [])
-      (procedure 0 (stmt.Create 0 1 1 plain ∷ stmt.Yield who.Me ∷ stmt.Suspend (who.Named 0) ∷ stmt.Sleep 1 ∷ stmt.Resume (who.Named 0) ∷ [])
+      (procedure 0 (stmt.Create 0 1 1 plain ∷ stmt.Yield who.Me ∷ stmt.Suspend (who.Named 0)
+      ∷ stmt.Sleep 1 ∷ stmt.Resume (who.Named 0) ∷ [])
       ∷ procedure 1 (stmt.Sleep 2 ∷ stmt.Say 0 ∷ [])
       ∷ [])));
   turns = 100000;
@@ -233,7 +240,8 @@ abbrev pub resumed_before_its_tick : Row
 resumed_before_its_tick = record {
   script = posted (0 ∷ []) (beats 7)
       (pod 1 (named (codes "main" ∷ codes "w" ∷ []) (codes "a" ∷ []) [] [])
-      (procedure 0 (stmt.Create 0 1 1 plain ∷ stmt.Yield who.Me ∷ stmt.Suspend (who.Named 0) ∷ stmt.Resume (who.Named 0) ∷ [])
+      (procedure 0 (stmt.Create 0 1 1 plain ∷ stmt.Yield who.Me ∷ stmt.Suspend (who.Named 0)
+      ∷ stmt.Resume (who.Named 0) ∷ [])
       ∷ procedure 1 (stmt.Sleep 4 ∷ [])
       ∷ []));
   turns = 100000;
@@ -290,7 +298,8 @@ asleep_with_a_monitor = record {
 abbrev pub what_others_see_of_a_sleeper : Row
 what_others_see_of_a_sleeper = record {
   script = speaking (codes "hi" ∷ []) (pod 1 (named (codes "main" ∷ codes "w" ∷ []) (codes "a" ∷ []) [] [])
-      (procedure 0 (stmt.Create 0 1 1 plain ∷ stmt.Yield who.Me ∷ stmt.Yield (who.Named 0) ∷ stmt.Threads ∷ stmt.Receivers ∷ stmt.Send (who.Named 0) 3 0 ∷ [])
+      (procedure 0 (stmt.Create 0 1 1 plain ∷ stmt.Yield who.Me ∷ stmt.Yield (who.Named 0)
+      ∷ stmt.Threads ∷ stmt.Receivers ∷ stmt.Send (who.Named 0) 3 0 ∷ [])
       ∷ procedure 1 (stmt.Sleep 1 ∷ [])
       ∷ []));
   turns = 100000;
@@ -310,7 +319,8 @@ abbrev pub asleep_in_a_called_procedure : Row
 asleep_in_a_called_procedure = record {
   script = posted (0 ∷ []) (beats 6)
       (speaking (codes "up" ∷ codes "bye" ∷ []) (pod 1 (named (codes "main" ∷ codes "p" ∷ []) [] [] [])
-      (procedure 0 (stmt.Handle (pattern.Num 7) func.Nothing 0 ∷ stmt.Skip test.Caught ∷ stmt.CallProc 1 ∷ stmt.Say 0 ∷ [])
+      (procedure 0 (stmt.Handle (pattern.Num 7) func.Nothing 0 ∷ stmt.Skip test.Caught
+      ∷ stmt.CallProc 1 ∷ stmt.Say 0 ∷ [])
       ∷ procedure 1 (stmt.OnExit (exit_stmt.Note 1) ∷ stmt.Sleep 2 ∷ stmt.Raise 7 ∷ [])
       ∷ [])));
   turns = 100000;
@@ -327,7 +337,8 @@ asleep_in_a_called_procedure = record {
 --   proc p / onexit note two / sleep 9
 abbrev pub exits_of_a_sleeper : Row
 exits_of_a_sleeper = record {
-  script = speaking (codes "one" ∷ codes "two" ∷ []) (pod 1 (named (codes "main" ∷ codes "w" ∷ codes "p" ∷ []) (codes "a" ∷ []) [] [])
+  script = speaking (codes "one" ∷ codes "two" ∷ [])
+      (pod 1 (named (codes "main" ∷ codes "w" ∷ codes "p" ∷ []) (codes "a" ∷ []) [] [])
       (procedure 0 (stmt.Create 0 1 1 plain ∷ stmt.Yield who.Me ∷ stmt.Destroy (who.Named 0) ∷ [])
       ∷ procedure 1 (stmt.OnExit (exit_stmt.Note 0) ∷ stmt.CallProc 2 ∷ [])
       ∷ procedure 2 (stmt.OnExit (exit_stmt.Note 1) ∷ stmt.Sleep 9 ∷ [])
@@ -359,7 +370,8 @@ a_letter_behind_the_due = record {
   takes = beat 0 0 ∷ beat 1 1 ∷ beat 2 2 ∷ [];
 }
 
--- A receive that was answered in time leaves no timer: at what would have been its tick, another receive goes on waiting.
+-- A receive that was answered in time leaves no timer: at what would have been its tick, another receive goes on
+-- waiting.
 --   lwp 1 / pod 1
 --   client 0 0
 --   proc main / create a w 1 - / recv any 4 / reply a ok / recv any wait
@@ -368,8 +380,10 @@ a_letter_behind_the_due = record {
 abbrev pub an_answered_receive_has_no_timer : Row
 an_answered_receive_has_no_timer = record {
   script = posted (0 ∷ []) (beats 8)
-      (speaking (codes "ok" ∷ codes "hi" ∷ codes "yo" ∷ []) (pod 1 (named (codes "main" ∷ codes "w" ∷ []) (codes "a" ∷ []) [] [])
-      (procedure 0 (stmt.Create 0 1 1 plain ∷ stmt.Recv None (mode.Until 4) ∷ stmt.Reply (who.Named 0) 0 ∷ stmt.Recv None mode.Block ∷ [])
+      (speaking (codes "ok" ∷ codes "hi" ∷ codes "yo" ∷ [])
+      (pod 1 (named (codes "main" ∷ codes "w" ∷ []) (codes "a" ∷ []) [] [])
+      (procedure 0 (stmt.Create 0 1 1 plain ∷ stmt.Recv None (mode.Until 4)
+      ∷ stmt.Reply (who.Named 0) 0 ∷ stmt.Recv None mode.Block ∷ [])
       ∷ procedure 1 (stmt.Send who.First 3 1 ∷ stmt.Sleep 2 ∷ stmt.Send who.First 3 2 ∷ [])
       ∷ [])));
   turns = 100000;
@@ -389,8 +403,10 @@ an_answered_receive_has_no_timer = record {
 abbrev pub a_letter_of_another : Row
 a_letter_of_another = record {
   script = posted (0 ∷ []) (beats 6)
-      (speaking (codes "hi" ∷ []) (pod 1 (named (codes "main" ∷ codes "w" ∷ codes "v" ∷ []) (codes "a" ∷ codes "b" ∷ []) [] [])
-      (procedure 0 (stmt.Create 0 1 1 plain ∷ stmt.Create 1 2 1 plain ∷ stmt.Recv (Some (who.Named 0)) (mode.Until 3) ∷ stmt.Recv None mode.Poll ∷ [])
+      (speaking (codes "hi" ∷ []) (pod 1
+      (named (codes "main" ∷ codes "w" ∷ codes "v" ∷ []) (codes "a" ∷ codes "b" ∷ []) [] [])
+      (procedure 0 (stmt.Create 0 1 1 plain ∷ stmt.Create 1 2 1 plain
+      ∷ stmt.Recv (Some (who.Named 0)) (mode.Until 3) ∷ stmt.Recv None mode.Poll ∷ [])
       ∷ procedure 1 (stmt.Sleep 9 ∷ [])
       ∷ procedure 2 (stmt.Send who.First 3 0 ∷ [])
       ∷ [])));
@@ -411,7 +427,8 @@ abbrev pub an_agent_ends_first : Row
 an_agent_ends_first = record {
   script = posted (0 ∷ []) (beats 7)
       (pod 1 (named (codes "main" ∷ codes "w" ∷ []) (codes "g" ∷ codes "a" ∷ []) [] [])
-      (procedure 0 (stmt.Agent 0 5 ∷ stmt.Create 1 1 1 plain ∷ stmt.Recv (Some (who.Named 0)) (mode.Until 4) ∷ stmt.Recv None mode.Block ∷ [])
+      (procedure 0 (stmt.Agent 0 5 ∷ stmt.Create 1 1 1 plain
+      ∷ stmt.Recv (Some (who.Named 0)) (mode.Until 4) ∷ stmt.Recv None mode.Block ∷ [])
       ∷ procedure 1 (stmt.Destroy (who.Named 0) ∷ [])
       ∷ []));
   turns = 100000;
@@ -448,7 +465,8 @@ the_greatest_ticks = record {
 abbrev pub a_limit_and_its_refusals : Row
 a_limit_and_its_refusals = record {
   script = pod 1 (named (codes "main" ∷ codes "w" ∷ []) (codes "a" ∷ []) [] [])
-      (procedure 0 (stmt.Create 0 1 1 plain ∷ stmt.Recv (Some who.Nobody) (mode.Until 3) ∷ stmt.Recv (Some who.Me) (mode.Until 3) ∷ stmt.Recv (Some (who.Named 0)) (mode.Until 0) ∷ [])
+      (procedure 0 (stmt.Create 0 1 1 plain ∷ stmt.Recv (Some who.Nobody) (mode.Until 3)
+      ∷ stmt.Recv (Some who.Me) (mode.Until 3) ∷ stmt.Recv (Some (who.Named 0)) (mode.Until 0) ∷ [])
       ∷ procedure 1 []
       ∷ []);
   turns = 100000;
@@ -518,7 +536,8 @@ spent_beside_a_sleeper = record {
   takes = beat 0 0 ∷ beat 1 1 ∷ beat 2 2 ∷ [];
 }
 
--- While all sleep the clock ticks on, though no call is allowed any more; the session is spent as soon as somebody may run.
+-- While all sleep the clock ticks on, though no call is allowed any more; the session is spent as soon as somebody may
+-- run.
 --   lwp 1 / pod 1
 --   client 0 0
 --   proc main / sleep 2

@@ -80,7 +80,8 @@ priorities_at_both_ends = record {
 --   proc x / say last
 abbrev pub preemption_keeps_place : Row
 preemption_keeps_place = record {
-  script = speaking (codes "back" ∷ codes "mid" ∷ codes "last" ∷ []) (pod 2 (named (codes "main" ∷ codes "w" ∷ codes "x" ∷ []) (codes "a" ∷ codes "b" ∷ []) [] [])
+  script = speaking (codes "back" ∷ codes "mid" ∷ codes "last" ∷ [])
+      (pod 2 (named (codes "main" ∷ codes "w" ∷ codes "x" ∷ []) (codes "a" ∷ codes "b" ∷ []) [] [])
       (procedure 0 (stmt.Create 0 1 1 plain ∷ stmt.Create 1 2 1 plain ∷ stmt.SetPri who.Me 1 ∷ stmt.Say 0 ∷ [])
       ∷ procedure 1 (stmt.SetPri who.First 2 ∷ stmt.Say 1 ∷ [])
       ∷ procedure 2 (stmt.Say 2 ∷ [])
@@ -98,7 +99,8 @@ preemption_keeps_place = record {
 --   proc w / say run
 abbrev pub yield_to_one : Row
 yield_to_one = record {
-  script = speaking (codes "two" ∷ codes "run" ∷ []) (pod 1 (named (codes "main" ∷ codes "w" ∷ []) (codes "a" ∷ codes "b" ∷ []) [] [])
+  script = speaking (codes "two" ∷ codes "run" ∷ [])
+      (pod 1 (named (codes "main" ∷ codes "w" ∷ []) (codes "a" ∷ codes "b" ∷ []) [] [])
       (procedure 0 (stmt.Create 0 1 1 plain ∷ stmt.Create 1 1 1 plain ∷ stmt.Yield (who.Named 1) ∷ stmt.Say 0 ∷ [])
       ∷ procedure 1 (stmt.Say 1 ∷ [])
       ∷ []));
@@ -116,7 +118,8 @@ yield_to_one = record {
 --   proc j / join a / say up
 abbrev pub two_joiners : Row
 two_joiners = record {
-  script = speaking (codes "up" ∷ []) (pod 1 (named (codes "main" ∷ codes "w" ∷ codes "j" ∷ []) (codes "a" ∷ codes "b" ∷ codes "c" ∷ []) [] [])
+  script = speaking (codes "up" ∷ [])
+      (pod 1 (named (codes "main" ∷ codes "w" ∷ codes "j" ∷ []) (codes "a" ∷ codes "b" ∷ codes "c" ∷ []) [] [])
       (procedure 0 (stmt.Create 0 1 1 plain ∷ stmt.Create 1 2 1 plain ∷ stmt.Create 2 2 1 plain ∷ stmt.Yield who.Me
       ∷ stmt.Suspend (who.Named 2) ∷ stmt.Yield who.Me ∷ stmt.Resume (who.Named 2) ∷ [])
       ∷ procedure 1 (stmt.Yield who.Me ∷ [])
@@ -136,7 +139,8 @@ two_joiners = record {
 abbrev pub stale_id : Row
 stale_id = record {
   script = pod 1 (named (codes "main" ∷ codes "w" ∷ []) (codes "a" ∷ codes "b" ∷ []) [] [])
-      (procedure 0 (stmt.Create 0 1 1 plain ∷ stmt.Destroy (who.Named 0) ∷ stmt.Create 1 1 1 plain ∷ stmt.Destroy (who.Named 0)
+      (procedure 0 (stmt.Create 0 1 1 plain ∷ stmt.Destroy (who.Named 0) ∷ stmt.Create 1 1 1 plain
+      ∷ stmt.Destroy (who.Named 0)
       ∷ [])
       ∷ procedure 1 []
       ∷ []);
@@ -154,7 +158,8 @@ stale_id = record {
 abbrev pub greatest_priority_of_all : Row
 greatest_priority_of_all = record {
   script = pod 255 (named (codes "main" ∷ codes "w" ∷ []) (codes "a" ∷ codes "b" ∷ codes "c" ∷ codes "d" ∷ []) [] [])
-      (procedure 0 (stmt.Create 0 1 255 plain ∷ stmt.Create 1 1 256 plain ∷ stmt.Create 2 1 1 plain ∷ stmt.Create 3 1 0 plain ∷ [])
+      (procedure 0 (stmt.Create 0 1 255 plain ∷ stmt.Create 1 1 256 plain ∷ stmt.Create 2 1 1 plain
+      ∷ stmt.Create 3 1 0 plain ∷ [])
       ∷ procedure 1 []
       ∷ []);
   turns = 100000;
@@ -164,13 +169,15 @@ greatest_priority_of_all = record {
   takes = [];
 }
 
--- No such procedure comes before no such priority, and that before no births left. The first create names a procedure that isn't there.
+-- No such procedure comes before no such priority, and that before no births left. The first create names a procedure
+-- that isn't there.
 --   lwp 1 / pod 1 / limit births 1
 --   proc main / create a nowhere 0 - / create b w 2 - / create c w 1 -
 --   proc w
 abbrev pub create_is_refused_in_order : Row
 create_is_refused_in_order = record {
-  script = limited 1 (pod 1 (named (codes "main" ∷ codes "nowhere" ∷ codes "w" ∷ []) (codes "a" ∷ codes "b" ∷ codes "c" ∷ []) [] [])
+  script = limited 1 (pod 1 (named (codes "main" ∷ codes "nowhere" ∷ codes "w" ∷ [])
+      (codes "a" ∷ codes "b" ∷ codes "c" ∷ []) [] [])
       (procedure 0 (stmt.Create 0 1 0 plain ∷ stmt.Create 1 2 2 plain ∷ stmt.Create 2 2 1 plain ∷ [])
       ∷ procedure 2 []
       ∷ []));
@@ -204,7 +211,8 @@ last_birth = record {
 --   proc w
 abbrev pub an_agent_is_a_birth : Row
 an_agent_is_a_birth = record {
-  script = limited 2 (pod 1 (named (codes "main" ∷ codes "w" ∷ []) (codes "g" ∷ codes "a" ∷ codes "b" ∷ codes "h" ∷ []) [] [])
+  script = limited 2 (pod 1 (named (codes "main" ∷ codes "w" ∷ [])
+      (codes "g" ∷ codes "a" ∷ codes "b" ∷ codes "h" ∷ []) [] [])
       (procedure 0 (stmt.Agent 0 1 ∷ stmt.Create 1 1 1 plain ∷ stmt.Destroy (who.Named 0) ∷ stmt.Create 2 1 1 plain
       ∷ stmt.Agent 3 1 ∷ [])
       ∷ procedure 1 []
@@ -222,7 +230,8 @@ an_agent_is_a_birth = record {
 --   proc w / say hi
 abbrev pub created_suspended : Row
 created_suspended = record {
-  script = speaking (codes "one" ∷ codes "two" ∷ codes "hi" ∷ []) (pod 1 (named (codes "main" ∷ codes "w" ∷ []) (codes "a" ∷ []) [] [])
+  script = speaking (codes "one" ∷ codes "two" ∷ codes "hi" ∷ [])
+      (pod 1 (named (codes "main" ∷ codes "w" ∷ []) (codes "a" ∷ []) [] [])
       (procedure 0 (stmt.Create 0 1 1 asleep ∷ stmt.Yield who.Me ∷ stmt.Say 0 ∷ stmt.Resume (who.Named 0)
       ∷ stmt.Yield who.Me ∷ stmt.Say 1 ∷ [])
       ∷ procedure 1 (stmt.Say 2 ∷ [])
@@ -240,7 +249,8 @@ created_suspended = record {
 --   proc w
 abbrev pub flags_in_all_forms : Row
 flags_in_all_forms = record {
-  script = pod 1 (named (codes "main" ∷ codes "w" ∷ []) (codes "a" ∷ codes "b" ∷ codes "c" ∷ codes "d" ∷ codes "e" ∷ []) [] [])
+  script = pod 1 (named (codes "main" ∷ codes "w" ∷ [])
+      (codes "a" ∷ codes "b" ∷ codes "c" ∷ codes "d" ∷ codes "e" ∷ []) [] [])
       (procedure 0 (stmt.Create 0 1 1 (record { suspended = true; nolastrites = true; server = false })
       ∷ stmt.Create 1 1 1 (record { suspended = true; nolastrites = true; server = true })
       ∷ stmt.Create 2 1 1 (record { suspended = false; nolastrites = true; server = true })
@@ -282,7 +292,8 @@ ping_finds_threads_and_agents = record {
 --   proc w / destroy self / say never
 abbrev pub destroying_itself : Row
 destroying_itself = record {
-  script = speaking (codes "left" ∷ codes "never" ∷ []) (pod 1 (named (codes "main" ∷ codes "w" ∷ []) (codes "a" ∷ []) [] [])
+  script = speaking (codes "left" ∷ codes "never" ∷ [])
+      (pod 1 (named (codes "main" ∷ codes "w" ∷ []) (codes "a" ∷ []) [] [])
       (procedure 0 (stmt.Destroy who.Nobody ∷ stmt.Create 0 1 1 plain ∷ stmt.Yield who.Me ∷ stmt.Say 0 ∷ [])
       ∷ procedure 1 (stmt.Destroy who.Me ∷ stmt.Say 1 ∷ [])
       ∷ []));
@@ -299,7 +310,8 @@ destroying_itself = record {
 --   proc w / self / destroy first / say on
 abbrev pub the_first_thread_may_die_first : Row
 the_first_thread_may_die_first = record {
-  script = speaking (codes "never" ∷ codes "on" ∷ []) (pod 1 (named (codes "main" ∷ codes "w" ∷ []) (codes "a" ∷ []) [] [])
+  script = speaking (codes "never" ∷ codes "on" ∷ [])
+      (pod 1 (named (codes "main" ∷ codes "w" ∷ []) (codes "a" ∷ []) [] [])
       (procedure 0 (stmt.Me ∷ stmt.Create 0 1 1 plain ∷ stmt.Yield who.Me ∷ stmt.Say 0 ∷ [])
       ∷ procedure 1 (stmt.Me ∷ stmt.Destroy who.First ∷ stmt.Say 1 ∷ [])
       ∷ []));
@@ -336,7 +348,8 @@ threads_in_birth_order = record {
 abbrev pub calls_that_name_the_dead : Row
 calls_that_name_the_dead = record {
   script = speaking (codes "x" ∷ codes "x" ∷ []) (pod 1 (named (codes "main" ∷ codes "w" ∷ []) (codes "a" ∷ []) [] [])
-      (procedure 0 (stmt.Create 0 1 1 plain ∷ stmt.Destroy (who.Named 0) ∷ stmt.Destroy (who.Named 0) ∷ stmt.Ping (who.Named 0)
+      (procedure 0 (stmt.Create 0 1 1 plain ∷ stmt.Destroy (who.Named 0)
+      ∷ stmt.Destroy (who.Named 0) ∷ stmt.Ping (who.Named 0)
       ∷ stmt.Yield (who.Named 0) ∷ stmt.SetPri (who.Named 0) 1 ∷ stmt.Suspend (who.Named 0)
       ∷ stmt.Resume (who.Named 0) ∷ stmt.Join (who.Named 0) ∷ stmt.Send (who.Named 0) 1 0
       ∷ stmt.Recv (Some (who.Named 0)) mode.Block ∷ stmt.Reply (who.Named 0) 1 ∷ [])
@@ -374,8 +387,10 @@ calls_that_take_no_agent = record {
 --   proc j / join first
 abbrev pub yield_is_refused_in_order : Row
 yield_is_refused_in_order = record {
-  script = pod 2 (named (codes "main" ∷ codes "w" ∷ codes "j" ∷ []) (codes "a" ∷ codes "b" ∷ codes "c" ∷ codes "d" ∷ []) [] [])
-      (procedure 0 (stmt.Create 0 1 1 plain ∷ stmt.Create 1 1 2 asleep ∷ stmt.Create 2 2 2 plain ∷ stmt.Create 3 1 1 asleep
+  script = pod 2 (named (codes "main" ∷ codes "w" ∷ codes "j" ∷ [])
+      (codes "a" ∷ codes "b" ∷ codes "c" ∷ codes "d" ∷ []) [] [])
+      (procedure 0 (stmt.Create 0 1 1 plain ∷ stmt.Create 1 1 2 asleep ∷ stmt.Create 2 2 2 plain
+      ∷ stmt.Create 3 1 1 asleep
       ∷ stmt.Yield who.Me ∷ stmt.Yield who.Nobody ∷ stmt.Yield (who.Named 0) ∷ stmt.Yield (who.Named 3)
       ∷ stmt.Yield (who.Named 1) ∷ stmt.Yield (who.Named 2) ∷ [])
       ∷ procedure 1 []
@@ -411,7 +426,8 @@ resched_moves_the_first = record {
 --   proc w / say early
 abbrev pub resched_lets_an_equal_run : Row
 resched_lets_an_equal_run = record {
-  script = speaking (codes "late" ∷ codes "early" ∷ []) (pod 1 (named (codes "main" ∷ codes "w" ∷ []) (codes "a" ∷ []) [] [])
+  script = speaking (codes "late" ∷ codes "early" ∷ [])
+      (pod 1 (named (codes "main" ∷ codes "w" ∷ []) (codes "a" ∷ []) [] [])
       (procedure 0 (stmt.Create 0 1 1 plain ∷ stmt.Resched 1 ∷ stmt.Say 0 ∷ [])
       ∷ procedure 1 (stmt.Say 1 ∷ [])
       ∷ []));
@@ -428,7 +444,8 @@ resched_lets_an_equal_run = record {
 abbrev pub resched_is_refused_in_order : Row
 resched_is_refused_in_order = record {
   script = pod 3 (named (codes "main" ∷ []) [] [] [])
-      (procedure 0 (stmt.SetPri who.Me 2 ∷ stmt.Resched 0 ∷ stmt.Resched 4 ∷ stmt.Resched 3 ∷ stmt.Resched 1 ∷ stmt.Resched 2 ∷ [])
+      (procedure 0 (stmt.SetPri who.Me 2 ∷ stmt.Resched 0 ∷ stmt.Resched 4 ∷ stmt.Resched 3
+      ∷ stmt.Resched 1 ∷ stmt.Resched 2 ∷ [])
       ∷ []);
   turns = 100000;
   trace = codes "t0: setpri self 2\nt0 = 3\nt0: resched 0\nt0 ! LE_ILLPRIO\nt0: resched 4\nt0 ! LE_ILLPRIO\nt0: resched 3\nt0 ! LE_INVALIDARG\nt0: resched 1\nt0 = 0\nt0: resched 2\nt0 = 0\nt0: return\nt0 dies\npod ends 0\n";
@@ -477,7 +494,8 @@ setpri_to_the_same = record {
 abbrev pub setpri_goes_last : Row
 setpri_goes_last = record {
   script = pod 2 (named (codes "main" ∷ codes "w" ∷ []) (codes "a" ∷ codes "b" ∷ []) [] [])
-      (procedure 0 (stmt.Create 0 1 1 plain ∷ stmt.Create 1 1 2 plain ∷ stmt.SetPri (who.Named 0) 2 ∷ stmt.Yield who.Me ∷ [])
+      (procedure 0 (stmt.Create 0 1 1 plain ∷ stmt.Create 1 1 2 plain ∷ stmt.SetPri (who.Named 0) 2
+      ∷ stmt.Yield who.Me ∷ [])
       ∷ procedure 1 (stmt.Me ∷ [])
       ∷ []);
   turns = 100000;
@@ -494,7 +512,8 @@ setpri_goes_last = record {
 abbrev pub setpri_of_a_suspended_thread : Row
 setpri_of_a_suspended_thread = record {
   script = speaking (codes "on" ∷ codes "up" ∷ []) (pod 2 (named (codes "main" ∷ codes "w" ∷ []) (codes "a" ∷ []) [] [])
-      (procedure 0 (stmt.Create 0 1 1 asleep ∷ stmt.SetPri (who.Named 0) 2 ∷ stmt.Yield who.Me ∷ stmt.Resume (who.Named 0)
+      (procedure 0 (stmt.Create 0 1 1 asleep ∷ stmt.SetPri (who.Named 0) 2 ∷ stmt.Yield who.Me
+      ∷ stmt.Resume (who.Named 0)
       ∷ stmt.Say 0 ∷ stmt.Yield who.Me ∷ [])
       ∷ procedure 1 (stmt.Say 1 ∷ [])
       ∷ []));
@@ -512,8 +531,10 @@ setpri_of_a_suspended_thread = record {
 --   proc w / say high
 abbrev pub the_greatest_priority_only_grows : Row
 the_greatest_priority_only_grows = record {
-  script = speaking (codes "high" ∷ []) (pod 3 (named (codes "main" ∷ codes "w" ∷ []) (codes "a" ∷ codes "b" ∷ []) [] [])
-      (procedure 0 (stmt.SetMaxPri 2 ∷ stmt.SetMaxPri 3 ∷ stmt.Create 0 1 4 plain ∷ stmt.SetMaxPri 255 ∷ stmt.SetMaxPri 256
+  script = speaking (codes "high" ∷ [])
+      (pod 3 (named (codes "main" ∷ codes "w" ∷ []) (codes "a" ∷ codes "b" ∷ []) [] [])
+      (procedure 0 (stmt.SetMaxPri 2 ∷ stmt.SetMaxPri 3 ∷ stmt.Create 0 1 4 plain
+      ∷ stmt.SetMaxPri 255 ∷ stmt.SetMaxPri 256
       ∷ stmt.SetMaxPri 254 ∷ stmt.Create 1 1 255 plain ∷ stmt.SetPri who.Me 4 ∷ [])
       ∷ procedure 1 (stmt.Say 0 ∷ [])
       ∷ []));
@@ -545,7 +566,8 @@ suspend_resume_and_join_of_nobody = record {
 --   proc w / resume first / say then
 abbrev pub suspending_itself : Row
 suspending_itself = record {
-  script = speaking (codes "never" ∷ codes "again" ∷ codes "then" ∷ []) (pod 1 (named (codes "main" ∷ codes "w" ∷ []) (codes "a" ∷ []) [] [])
+  script = speaking (codes "never" ∷ codes "again" ∷ codes "then" ∷ [])
+      (pod 1 (named (codes "main" ∷ codes "w" ∷ []) (codes "a" ∷ []) [] [])
       (procedure 0 (stmt.Create 0 1 1 plain ∷ stmt.Suspend who.Me ∷ stmt.Skip (test.Value 0) ∷ stmt.Say 0
       ∷ stmt.Say 1 ∷ [])
       ∷ procedure 1 (stmt.Resume who.First ∷ stmt.Say 2 ∷ [])
@@ -564,7 +586,8 @@ suspending_itself = record {
 abbrev pub suspended_twice_resumed_once : Row
 suspended_twice_resumed_once = record {
   script = speaking (codes "on" ∷ []) (pod 1 (named (codes "main" ∷ codes "w" ∷ []) (codes "a" ∷ []) [] [])
-      (procedure 0 (stmt.Create 0 1 1 plain ∷ stmt.Suspend (who.Named 0) ∷ stmt.Suspend (who.Named 0) ∷ stmt.Resume (who.Named 0)
+      (procedure 0 (stmt.Create 0 1 1 plain ∷ stmt.Suspend (who.Named 0)
+      ∷ stmt.Suspend (who.Named 0) ∷ stmt.Resume (who.Named 0)
       ∷ stmt.Yield who.Me ∷ [])
       ∷ procedure 1 (stmt.Say 0 ∷ [])
       ∷ []));
@@ -599,7 +622,8 @@ resuming_who_runs = record {
 --   proc j / join first / say free
 abbrev pub resumed_while_blocked : Row
 resumed_while_blocked = record {
-  script = speaking (codes "alone" ∷ codes "free" ∷ []) (pod 1 (named (codes "main" ∷ codes "j" ∷ []) (codes "a" ∷ []) [] [])
+  script = speaking (codes "alone" ∷ codes "free" ∷ [])
+      (pod 1 (named (codes "main" ∷ codes "j" ∷ []) (codes "a" ∷ []) [] [])
       (procedure 0 (stmt.Create 0 1 1 plain ∷ stmt.Yield who.Me ∷ stmt.Suspend (who.Named 0) ∷ stmt.Resume (who.Named 0)
       ∷ stmt.Yield who.Me ∷ stmt.Say 0 ∷ [])
       ∷ procedure 1 (stmt.Join who.First ∷ stmt.Say 1 ∷ [])

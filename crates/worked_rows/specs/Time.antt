@@ -32,16 +32,19 @@ sleep = record {
 --   post 0 a / post 0 b / post 0 c / post 0 d / post 0 e
 abbrev pub timed_receive : Row
 timed_receive = record {
-  script = posted (0 ∷ []) (line 0 0 (codes "a") ∷ line 0 1 (codes "b") ∷ line 0 2 (codes "c") ∷ line 0 3 (codes "d") ∷ line 0 4 (codes "e") ∷ [])
+  script = posted (0 ∷ []) (line 0 0 (codes "a") ∷ line 0 1 (codes "b") ∷ line 0 2 (codes "c")
+      ∷ line 0 3 (codes "d") ∷ line 0 4 (codes "e") ∷ [])
       (speaking (codes "hi" ∷ []) (pod 1 (named (codes "main" ∷ codes "w" ∷ []) (codes "a" ∷ []) [] [])
-      (procedure 0 (stmt.Create 0 1 1 plain ∷ stmt.Recv None (mode.Until 2) ∷ stmt.Recv None (mode.Until 5) ∷ stmt.Recv None (mode.Until 0) ∷ [])
+      (procedure 0 (stmt.Create 0 1 1 plain ∷ stmt.Recv None (mode.Until 2)
+      ∷ stmt.Recv None (mode.Until 5) ∷ stmt.Recv None (mode.Until 0) ∷ [])
       ∷ procedure 1 (stmt.Sleep 2 ∷ stmt.Send who.First 3 0 ∷ [])
       ∷ [])));
   turns = 100000;
   trace = codes "tick 1 client 0 seq 0 a\nt0: create w 1 -\nt0 = t1\ntick 2 client 0 seq 1 b\nt0: recv any 2\ntick 3 client 0 seq 2 c\nt1: sleep 2\ntick 4 client 0 seq 3 d\nt0 ! LE_TIMEOUT\ntick 5 client 0 seq 4 e\nt1 = 0\nt0: recv any 5\nt1: send t0 3 hi\nt0 = letter t1 3 hi\nt0: recv any 0\nt0 ! LE_TIMEOUT\nt0: return\nt1 ! LE_NONEXIST\nt0 dies\nt1: return\nt1 dies\npod ends 0\n";
   halt = Ended 0;
   calls = 8;
-  takes = took 0 0 (line 0 0 (codes "a")) ∷ took 1 0 (line 0 1 (codes "b")) ∷ took 2 0 (line 0 2 (codes "c")) ∷ took 3 0 (line 0 3 (codes "d")) ∷ took 3 0 (line 0 4 (codes "e")) ∷ [];
+  takes = took 0 0 (line 0 0 (codes "a")) ∷ took 1 0 (line 0 1 (codes "b"))
+      ∷ took 2 0 (line 0 2 (codes "c")) ∷ took 3 0 (line 0 3 (codes "d")) ∷ took 3 0 (line 0 4 (codes "e")) ∷ [];
 }
 
 -- Nobody sleeps for no tick; and where no tick is left, whoever sleeps is stuck.
@@ -71,7 +74,8 @@ no_tick_left = record {
 --   post 0 a / post 0 b / post 0 c / post 0 d / post 0 e / post 0 f / post 0 g
 abbrev pub due_at_once : Row
 due_at_once = record {
-  script = posted (0 ∷ []) (line 0 0 (codes "a") ∷ line 0 1 (codes "b") ∷ line 0 2 (codes "c") ∷ line 0 3 (codes "d") ∷ line 0 4 (codes "e") ∷ line 0 5 (codes "f") ∷ line 0 6 (codes "g") ∷ [])
+  script = posted (0 ∷ []) (line 0 0 (codes "a") ∷ line 0 1 (codes "b") ∷ line 0 2 (codes "c")
+      ∷ line 0 3 (codes "d") ∷ line 0 4 (codes "e") ∷ line 0 5 (codes "f") ∷ line 0 6 (codes "g") ∷ [])
       (pod 1 (named (codes "main" ∷ codes "w" ∷ codes "x" ∷ []) (codes "a" ∷ codes "b" ∷ []) [] [])
       (procedure 0 (stmt.Create 0 1 1 plain ∷ stmt.Create 1 2 1 plain ∷ stmt.Sleep 4 ∷ [])
       ∷ procedure 1 (stmt.Sleep 3 ∷ [])
@@ -81,7 +85,9 @@ due_at_once = record {
   trace = codes "tick 1 client 0 seq 0 a\nt0: create w 1 -\nt0 = t1\ntick 2 client 0 seq 1 b\nt0: create x 1 -\nt0 = t2\ntick 3 client 0 seq 2 c\nt0: sleep 4\ntick 4 client 0 seq 3 d\nt1: sleep 3\ntick 5 client 0 seq 4 e\nt2: recv any 2\ntick 6 client 0 seq 5 f\ntick 7 client 0 seq 6 g\nt0 = 0\nt1 = 0\nt2 ! LE_TIMEOUT\nt0: return\nt0 dies\nt1: return\nt1 dies\nt2: return\nt2 dies\npod ends 0\n";
   halt = Ended 0;
   calls = 8;
-  takes = took 0 0 (line 0 0 (codes "a")) ∷ took 1 0 (line 0 1 (codes "b")) ∷ took 2 0 (line 0 2 (codes "c")) ∷ took 3 0 (line 0 3 (codes "d")) ∷ took 4 0 (line 0 4 (codes "e")) ∷ took 5 0 (line 0 5 (codes "f")) ∷ took 5 0 (line 0 6 (codes "g")) ∷ [];
+  takes = took 0 0 (line 0 0 (codes "a")) ∷ took 1 0 (line 0 1 (codes "b"))
+      ∷ took 2 0 (line 0 2 (codes "c")) ∷ took 3 0 (line 0 3 (codes "d"))
+      ∷ took 4 0 (line 0 4 (codes "e")) ∷ took 5 0 (line 0 5 (codes "f")) ∷ took 5 0 (line 0 6 (codes "g")) ∷ [];
 }
 
 -- Whoever has a letter in time isn't timed out later.
@@ -92,7 +98,8 @@ due_at_once = record {
 --   post 0 a / post 0 b / post 0 c / post 0 d
 abbrev pub a_letter_in_time : Row
 a_letter_in_time = record {
-  script = posted (0 ∷ []) (line 0 0 (codes "a") ∷ line 0 1 (codes "b") ∷ line 0 2 (codes "c") ∷ line 0 3 (codes "d") ∷ [])
+  script = posted (0 ∷ []) (line 0 0 (codes "a") ∷ line 0 1 (codes "b") ∷ line 0 2 (codes "c")
+      ∷ line 0 3 (codes "d") ∷ [])
       (speaking (codes "ok" ∷ codes "hi" ∷ []) (pod 1 (named (codes "main" ∷ codes "w" ∷ []) (codes "a" ∷ []) [] [])
       (procedure 0 (stmt.Create 0 1 1 plain ∷ stmt.Recv None (mode.Until 2) ∷ stmt.Reply (who.Named 0) 0 ∷ [])
       ∷ procedure 1 (stmt.Send who.First 3 1 ∷ [])
@@ -101,7 +108,8 @@ a_letter_in_time = record {
   trace = codes "tick 1 client 0 seq 0 a\nt0: create w 1 -\nt0 = t1\ntick 2 client 0 seq 1 b\nt0: recv any 2\ntick 3 client 0 seq 2 c\nt1: send t0 3 hi\nt0 = letter t1 3 hi\ntick 4 client 0 seq 3 d\nt0: reply t1 ok\nt1 = reply ok\nt0 = 0\nt0: return\nt0 dies\nt1: return\nt1 dies\npod ends 0\n";
   halt = Ended 0;
   calls = 6;
-  takes = took 0 0 (line 0 0 (codes "a")) ∷ took 1 0 (line 0 1 (codes "b")) ∷ took 2 0 (line 0 2 (codes "c")) ∷ took 3 0 (line 0 3 (codes "d")) ∷ [];
+  takes = took 0 0 (line 0 0 (codes "a")) ∷ took 1 0 (line 0 1 (codes "b"))
+      ∷ took 2 0 (line 0 2 (codes "c")) ∷ took 3 0 (line 0 3 (codes "d")) ∷ [];
 }
 
 -- Nor is one that waits by name for a thread that dies before.
@@ -112,7 +120,8 @@ a_letter_in_time = record {
 --   post 0 a / post 0 b / post 0 c / post 0 d
 abbrev pub a_death_in_time : Row
 a_death_in_time = record {
-  script = posted (0 ∷ []) (line 0 0 (codes "a") ∷ line 0 1 (codes "b") ∷ line 0 2 (codes "c") ∷ line 0 3 (codes "d") ∷ [])
+  script = posted (0 ∷ []) (line 0 0 (codes "a") ∷ line 0 1 (codes "b") ∷ line 0 2 (codes "c")
+      ∷ line 0 3 (codes "d") ∷ [])
       (pod 1 (named (codes "main" ∷ codes "w" ∷ []) (codes "a" ∷ []) [] [])
       (procedure 0 (stmt.Create 0 1 1 plain ∷ stmt.Recv (Some (who.Named 0)) (mode.Until 2) ∷ [])
       ∷ procedure 1 []
@@ -121,7 +130,8 @@ a_death_in_time = record {
   trace = codes "tick 1 client 0 seq 0 a\nt0: create w 1 -\nt0 = t1\ntick 2 client 0 seq 1 b\nt0: recv t1 2\ntick 3 client 0 seq 2 c\nt1: return\nt0 ! LE_NONEXIST\nt1 dies\ntick 4 client 0 seq 3 d\nt0: return\nt0 dies\npod ends 0\n";
   halt = Ended 0;
   calls = 4;
-  takes = took 0 0 (line 0 0 (codes "a")) ∷ took 1 0 (line 0 1 (codes "b")) ∷ took 2 0 (line 0 2 (codes "c")) ∷ took 3 0 (line 0 3 (codes "d")) ∷ [];
+  takes = took 0 0 (line 0 0 (codes "a")) ∷ took 1 0 (line 0 1 (codes "b"))
+      ∷ took 2 0 (line 0 2 (codes "c")) ∷ took 3 0 (line 0 3 (codes "d")) ∷ [];
 }
 
 -- A sleeper that is suspended is woken, and runs once it is resumed; one that is destroyed is woken no more.
@@ -132,16 +142,22 @@ a_death_in_time = record {
 --   post 0 a / post 0 b / post 0 c / post 0 d / post 0 e / post 0 f / post 0 g / post 0 h / post 0 i
 abbrev pub suspended_and_destroyed_asleep : Row
 suspended_and_destroyed_asleep = record {
-  script = posted (0 ∷ []) (line 0 0 (codes "a") ∷ line 0 1 (codes "b") ∷ line 0 2 (codes "c") ∷ line 0 3 (codes "d") ∷ line 0 4 (codes "e") ∷ line 0 5 (codes "f") ∷ line 0 6 (codes "g") ∷ line 0 7 (codes "h") ∷ line 0 8 (codes "i") ∷ [])
+  script = posted (0 ∷ []) (line 0 0 (codes "a") ∷ line 0 1 (codes "b") ∷ line 0 2 (codes "c")
+      ∷ line 0 3 (codes "d") ∷ line 0 4 (codes "e") ∷ line 0 5 (codes "f") ∷ line 0 6 (codes "g")
+      ∷ line 0 7 (codes "h") ∷ line 0 8 (codes "i") ∷ [])
       (pod 1 (named (codes "main" ∷ codes "w" ∷ []) (codes "a" ∷ codes "b" ∷ []) [] [])
-      (procedure 0 (stmt.Create 0 1 1 plain ∷ stmt.Create 1 1 1 plain ∷ stmt.Yield who.Me ∷ stmt.Suspend (who.Named 0) ∷ stmt.Destroy (who.Named 1) ∷ stmt.Sleep 1 ∷ stmt.Resume (who.Named 0) ∷ [])
+      (procedure 0 (stmt.Create 0 1 1 plain ∷ stmt.Create 1 1 1 plain ∷ stmt.Yield who.Me
+      ∷ stmt.Suspend (who.Named 0) ∷ stmt.Destroy (who.Named 1) ∷ stmt.Sleep 1 ∷ stmt.Resume (who.Named 0) ∷ [])
       ∷ procedure 1 (stmt.Sleep 4 ∷ [])
       ∷ []));
   turns = 100000;
   trace = codes "tick 1 client 0 seq 0 a\nt0: create w 1 -\nt0 = t1\ntick 2 client 0 seq 1 b\nt0: create w 1 -\nt0 = t2\ntick 3 client 0 seq 2 c\nt0: yield self\nt0 = 0\ntick 4 client 0 seq 3 d\nt1: sleep 4\ntick 5 client 0 seq 4 e\nt2: sleep 4\ntick 6 client 0 seq 5 f\nt0: suspend t1\nt0 = 0\ntick 7 client 0 seq 6 g\nt0: destroy t2\nt2 dies\nt0 = 0\ntick 8 client 0 seq 7 h\nt1 = 0\nt0: sleep 1\ntick 9 client 0 seq 8 i\nt0 = 0\nt0: resume t1\nt0 = 0\nt0: return\nt0 dies\nt1: return\nt1 dies\npod ends 0\n";
   halt = Ended 0;
   calls = 11;
-  takes = took 0 0 (line 0 0 (codes "a")) ∷ took 1 0 (line 0 1 (codes "b")) ∷ took 2 0 (line 0 2 (codes "c")) ∷ took 3 0 (line 0 3 (codes "d")) ∷ took 4 0 (line 0 4 (codes "e")) ∷ took 5 0 (line 0 5 (codes "f")) ∷ took 6 0 (line 0 6 (codes "g")) ∷ took 7 0 (line 0 7 (codes "h")) ∷ took 8 0 (line 0 8 (codes "i")) ∷ [];
+  takes = took 0 0 (line 0 0 (codes "a")) ∷ took 1 0 (line 0 1 (codes "b"))
+      ∷ took 2 0 (line 0 2 (codes "c")) ∷ took 3 0 (line 0 3 (codes "d"))
+      ∷ took 4 0 (line 0 4 (codes "e")) ∷ took 5 0 (line 0 5 (codes "f"))
+      ∷ took 6 0 (line 0 6 (codes "g")) ∷ took 7 0 (line 0 7 (codes "h")) ∷ took 8 0 (line 0 8 (codes "i")) ∷ [];
 }
 
 -- The clock comes before all other events; and a letter that is there is received at once.

@@ -67,21 +67,27 @@ a_trap_that_gives = record {
 -- A trap is to be raised, and then a line of another event wakes a thread that goes first: it is raised there.
 --   lwp 1 / pod 2
 --   client 0 5 / client 1 6
---   proc main / agent h 6 / create a w 2 - / setpri self 1 / recv h wait / handle 5 give 1 / trap 5 / reply h ok / say m
+--   proc main / agent h 6 / create a w 2 - / setpri self 1 / recv h wait / handle 5 give 1 / trap 5 / reply h ok /
+--     say m
 --   proc w / agent g 6 / recv g wait / say w
 --   post 0 x / post 0 z / post 1 y / post 1 q
 abbrev pub in_who_is_chosen_then : Row
 in_who_is_chosen_then = record {
-  script = posted (5 ∷ 6 ∷ []) (line 0 0 (codes "x") ∷ line 0 1 (codes "z") ∷ line 1 0 (codes "y") ∷ line 1 1 (codes "q") ∷ [])
-      (speaking (codes "ok" ∷ codes "m" ∷ codes "w" ∷ []) (pod 2 (named (codes "main" ∷ codes "w" ∷ []) (codes "h" ∷ codes "a" ∷ codes "g" ∷ []) [] [])
-      (procedure 0 (stmt.Agent 0 6 ∷ stmt.Create 1 1 2 plain ∷ stmt.SetPri who.Me 1 ∷ stmt.Recv (Some (who.Named 0)) mode.Block ∷ stmt.Handle (pattern.Num 5) func.Give 1 ∷ stmt.Trap 5 ∷ stmt.Reply (who.Named 0) 0 ∷ stmt.Say 1 ∷ [])
+  script = posted (5 ∷ 6 ∷ []) (line 0 0 (codes "x") ∷ line 0 1 (codes "z") ∷ line 1 0 (codes "y")
+      ∷ line 1 1 (codes "q") ∷ [])
+      (speaking (codes "ok" ∷ codes "m" ∷ codes "w" ∷ [])
+      (pod 2 (named (codes "main" ∷ codes "w" ∷ []) (codes "h" ∷ codes "a" ∷ codes "g" ∷ []) [] [])
+      (procedure 0 (stmt.Agent 0 6 ∷ stmt.Create 1 1 2 plain ∷ stmt.SetPri who.Me 1
+      ∷ stmt.Recv (Some (who.Named 0)) mode.Block ∷ stmt.Handle (pattern.Num 5) func.Give 1
+      ∷ stmt.Trap 5 ∷ stmt.Reply (who.Named 0) 0 ∷ stmt.Say 1 ∷ [])
       ∷ procedure 1 (stmt.Agent 2 6 ∷ stmt.Recv (Some (who.Named 2)) mode.Block ∷ stmt.Say 2 ∷ [])
       ∷ [])));
   turns = 100000;
   trace = codes "t0: agent 6\nt0 = t1\nevent 6 client 1 seq 0 y\nt0: create w 2 -\nt0 = t2\nt0: setpri self 1\nt0 = 2\nt2: agent 6\nt2 = t3\nt2: recv t3 wait\nt0: recv t1 wait\nt0 = letter t1 240 y\nt0: handle 5 give 1\nt0 = 0\nt0: trap 5\nt0 = 0\nevent 5 client 0 seq 0 x\nt0 trap 5\nt0: reply t1 ok\nt0 = 0\nevent 5 client 0 seq 1 z\nevent 6 client 1 seq 1 q\nalso t3\nt2 = letter t3 240 q\nt2 trap 5\nt2 dies\nt0: say m\nt0 = 0\nt0: return\nt0 dies\npod ends 0\n";
   halt = Ended 0;
   calls = 12;
-  takes = took 1 6 (line 1 0 (codes "y")) ∷ took 8 5 (line 0 0 (codes "x")) ∷ took 9 5 (line 0 1 (codes "z")) ∷ took 9 6 (line 1 1 (codes "q")) ∷ [];
+  takes = took 1 6 (line 1 0 (codes "y")) ∷ took 8 5 (line 0 0 (codes "x"))
+      ∷ took 9 5 (line 0 1 (codes "z")) ∷ took 9 6 (line 1 1 (codes "q")) ∷ [];
 }
 
 -- A trap is caught two frames below: the exit procedures of those above run first.
@@ -94,7 +100,8 @@ in_who_is_chosen_then = record {
 abbrev pub below_two_frames : Row
 below_two_frames = record {
   script = posted (5 ∷ []) (line 0 0 (codes "x") ∷ [])
-      (speaking (codes "end" ∷ codes "a" ∷ codes "b" ∷ codes "never" ∷ []) (pod 1 (named (codes "main" ∷ codes "one" ∷ codes "two" ∷ []) [] [] [])
+      (speaking (codes "end" ∷ codes "a" ∷ codes "b" ∷ codes "never" ∷ [])
+      (pod 1 (named (codes "main" ∷ codes "one" ∷ codes "two" ∷ []) [] [] [])
       (procedure 0 (stmt.Handle pattern.All func.Nothing 0 ∷ stmt.Skip test.Caught ∷ stmt.CallProc 1 ∷ stmt.Say 0 ∷ [])
       ∷ procedure 1 (stmt.OnExit (exit_stmt.Note 1) ∷ stmt.CallProc 2 ∷ [])
       ∷ procedure 2 (stmt.OnExit (exit_stmt.Note 2) ∷ stmt.Trap 5 ∷ stmt.Say 3 ∷ [])
@@ -106,7 +113,8 @@ below_two_frames = record {
   takes = took 6 5 (line 0 0 (codes "x")) ∷ [];
 }
 
--- Polled, a thread takes the answer of its last call; then the trap is caught, and the call isn't made. The name is set all the same.
+-- Polled, a thread takes the answer of its last call; then the trap is caught, and the call isn't made. The name is set
+-- all the same.
 --   lwp 1 / pod 2
 --   client 0 5
 --   proc main / setpri self 1 / handle 5 - 0 / skip caught / create a w 2 - / destroy a
@@ -116,7 +124,8 @@ abbrev pub a_name_is_set_though_nothing_is_called : Row
 a_name_is_set_though_nothing_is_called = record {
   script = posted (5 ∷ []) (line 0 0 (codes "x") ∷ line 0 1 (codes "y") ∷ [])
       (speaking (codes "w" ∷ []) (pod 2 (named (codes "main" ∷ codes "w" ∷ []) (codes "a" ∷ []) [] [])
-      (procedure 0 (stmt.SetPri who.Me 1 ∷ stmt.Handle (pattern.Num 5) func.Nothing 0 ∷ stmt.Skip test.Caught ∷ stmt.Create 0 1 2 plain ∷ stmt.Destroy (who.Named 0) ∷ [])
+      (procedure 0 (stmt.SetPri who.Me 1 ∷ stmt.Handle (pattern.Num 5) func.Nothing 0
+      ∷ stmt.Skip test.Caught ∷ stmt.Create 0 1 2 plain ∷ stmt.Destroy (who.Named 0) ∷ [])
       ∷ procedure 1 (stmt.Handle (pattern.Num 5) func.Give 0 ∷ stmt.Trap 5 ∷ stmt.SetPri who.Me 1 ∷ stmt.Say 0 ∷ [])
       ∷ [])));
   turns = 100000;
@@ -126,7 +135,8 @@ a_name_is_set_though_nothing_is_called = record {
   takes = took 5 5 (line 0 0 (codes "x")) ∷ took 6 5 (line 0 1 (codes "y")) ∷ [];
 }
 
--- A handler that was set by the call before catches the trap: the thread goes on behind it, at the statement that it was about to call.
+-- A handler that was set by the call before catches the trap: the thread goes on behind it, at the statement that it
+-- was about to call.
 --   lwp 1 / pod 1
 --   client 0 5
 --   proc main / handle 5 give 0 / trap 5 / handle 5 - 0 / say one / say two
@@ -135,7 +145,8 @@ abbrev pub caught_by_the_handler_set_last : Row
 caught_by_the_handler_set_last = record {
   script = posted (5 ∷ []) (line 0 0 (codes "x") ∷ line 0 1 (codes "y") ∷ [])
       (speaking (codes "one" ∷ codes "two" ∷ []) (pod 1 (named (codes "main" ∷ []) [] [] [])
-      (procedure 0 (stmt.Handle (pattern.Num 5) func.Give 0 ∷ stmt.Trap 5 ∷ stmt.Handle (pattern.Num 5) func.Nothing 0 ∷ stmt.Say 0 ∷ stmt.Say 1 ∷ [])
+      (procedure 0 (stmt.Handle (pattern.Num 5) func.Give 0 ∷ stmt.Trap 5
+      ∷ stmt.Handle (pattern.Num 5) func.Nothing 0 ∷ stmt.Say 0 ∷ stmt.Say 1 ∷ [])
       ∷ [])));
   turns = 100000;
   trace = codes "t0: handle 5 give 0\nt0 = 0\nt0: trap 5\nt0 = 0\nevent 5 client 0 seq 0 x\nt0 trap 5\nt0: handle 5 - 0\nt0 = 0\nevent 5 client 0 seq 1 y\nt0 trap 5\nt0 caught 5\nt0: say one\nt0 = 0\nt0: say two\nt0 = 0\nt0: return\nt0 dies\npod ends 0\n";
@@ -226,7 +237,8 @@ a_trap_counts_as_a_turn = record {
 abbrev pub what_no_trap_takes : Row
 what_no_trap_takes = record {
   script = pod 1 (named (codes "main" ∷ []) (codes "g" ∷ codes "h" ∷ codes "i" ∷ []) [] [])
-      (procedure 0 (stmt.Trap 0 ∷ stmt.Trap 32 ∷ stmt.Agent 0 5 ∷ stmt.Trap 5 ∷ stmt.Trap 31 ∷ stmt.Agent 1 31 ∷ stmt.Trap 31 ∷ stmt.Trap 1 ∷ stmt.Agent 2 2 ∷ [])
+      (procedure 0 (stmt.Trap 0 ∷ stmt.Trap 32 ∷ stmt.Agent 0 5 ∷ stmt.Trap 5 ∷ stmt.Trap 31
+      ∷ stmt.Agent 1 31 ∷ stmt.Trap 31 ∷ stmt.Trap 1 ∷ stmt.Agent 2 2 ∷ [])
       ∷ []);
   turns = 100000;
   trace = codes "t0: trap 0\nt0 ! LE_INVALIDARG\nt0: trap 32\nt0 ! LE_INVALIDARG\nt0: agent 5\nt0 = t1\nt0: trap 5\nt0 ! LE_INUSE\nt0: trap 31\nt0 = 0\nt0: agent 31\nt0 ! LE_INUSE\nt0: trap 31\nt0 ! LE_INUSE\nt0: trap 1\nt0 = 0\nt0: agent 2\nt0 = t2\nt0: return\nt0 dies\npod ends 0\n";
@@ -278,13 +290,17 @@ no_trap_where_nobody_may_run = record {
 --   post 0 x / post 1 a / post 1 a / post 1 a / post 1 a / post 1 a
 abbrev pub ticks_beside_a_trap : Row
 ticks_beside_a_trap = record {
-  script = posted (5 ∷ 0 ∷ []) (line 0 0 (codes "x") ∷ line 1 0 (codes "a") ∷ line 1 1 (codes "a") ∷ line 1 2 (codes "a") ∷ line 1 3 (codes "a") ∷ line 1 4 (codes "a") ∷ [])
+  script = posted (5 ∷ 0 ∷ []) (line 0 0 (codes "x") ∷ line 1 0 (codes "a") ∷ line 1 1 (codes "a")
+      ∷ line 1 2 (codes "a") ∷ line 1 3 (codes "a") ∷ line 1 4 (codes "a") ∷ [])
       (speaking (codes "up" ∷ []) (pod 1 (named (codes "main" ∷ []) [] [] [])
-      (procedure 0 (stmt.Handle pattern.All func.Nothing 0 ∷ stmt.Skip test.Caught ∷ stmt.Trap 5 ∷ stmt.Sleep 1 ∷ stmt.Say 0 ∷ [])
+      (procedure 0 (stmt.Handle pattern.All func.Nothing 0 ∷ stmt.Skip test.Caught ∷ stmt.Trap 5
+      ∷ stmt.Sleep 1 ∷ stmt.Say 0 ∷ [])
       ∷ [])));
   turns = 100000;
   trace = codes "tick 1 client 1 seq 0 a\nt0: handle all - 0\nt0 = 0\ntick 2 client 1 seq 1 a\nt0: trap 5\nt0 = 0\ntick 3 client 1 seq 2 a\nevent 5 client 0 seq 0 x\nt0 trap 5\nt0 caught 5\ntick 4 client 1 seq 3 a\nt0: sleep 1\ntick 5 client 1 seq 4 a\nt0 = 0\nt0: say up\nt0 = 0\nt0: return\nt0 dies\npod ends 0\n";
   halt = Ended 0;
   calls = 6;
-  takes = took 0 0 (line 1 0 (codes "a")) ∷ took 1 0 (line 1 1 (codes "a")) ∷ took 2 0 (line 1 2 (codes "a")) ∷ took 2 5 (line 0 0 (codes "x")) ∷ took 3 0 (line 1 3 (codes "a")) ∷ took 4 0 (line 1 4 (codes "a")) ∷ [];
+  takes = took 0 0 (line 1 0 (codes "a")) ∷ took 1 0 (line 1 1 (codes "a"))
+      ∷ took 2 0 (line 1 2 (codes "a")) ∷ took 2 5 (line 0 0 (codes "x"))
+      ∷ took 3 0 (line 1 3 (codes "a")) ∷ took 4 0 (line 1 4 (codes "a")) ∷ [];
 }

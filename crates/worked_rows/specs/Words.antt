@@ -13,7 +13,8 @@ use Rattle.script_text.specs.declared.script.Script.{Script}
 use Rattle.script_text.specs.declared.script.Stmt.{Stmt}
 use Rattle.std.specs.Prelude.{List, Some, [], false, length, map, replicate, true, ℕ, ◌++◌, ◌+◌, ◌∷◌, ◌≡◌}
 
--- a script, the turns that it is given, and what is to come of it: the whole trace, the end, the number of calls, the lines taken
+-- a script, the turns that it is given, and what is to come of it: the whole trace, the end, the number of calls, the
+-- lines taken
 pub record Row : Type 0 where
   pub script : Script
   pub turns : ℕ
@@ -73,7 +74,11 @@ posts_from n (l ∷ ls) = record { client = l.client; seq = l.seq; text = n } �
 
 -- the same, with the event of each client, and the lines that they post
 abbrev pub posted : List ℕ → List Line → Script → Script
-posted clients lines script = record script { clients = clients; posts = posts_from (length script.texts) lines; texts = script.texts ++ map (λ l. l.text) lines }
+posted clients lines script = record script {
+  clients = clients;
+  posts = posts_from (length script.texts) lines;
+  texts = script.texts ++ map (λ l. l.text) lines;
+}
 
 -- no flag
 abbrev pub plain : Flags
