@@ -2,7 +2,7 @@
 ghost use Rattle.std.specs.Prelude.{◌≡◌, ◌<◌, ◌≤◌, All, Err, IfOk, IfSome, IsErrOf, Ok, drop, length, ℕ};
 ghost use Rattle.batch.specs.Parts.{LiesIn, part_at, parts_of};
 
-use crate::lines::{line_length, length_told};
+use crate::lines::{length_told, line_length};
 use std::alloc::Global;
 
 /// The most bytes of a text that is cut into parts.

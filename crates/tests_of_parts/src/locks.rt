@@ -35,11 +35,7 @@ fn enters(mons: &mut Monitors) -> bool
     let depth = mons.depth(mon);
     let owner = mons.owner(mon);
     mons.forget(B);
-    waiting
-        && next == Some(C)
-        && depth == 3
-        && owner == Some(C)
-        && mons.break_lock(mon).is_none()
+    waiting && next == Some(C) && depth == 3 && owner == Some(C) && mons.break_lock(mon).is_none()
 }
 
 // The last acquired goes first, and a destroyed one isn't live.

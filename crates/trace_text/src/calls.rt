@@ -16,13 +16,7 @@ use text_list::TextList;
 
 // A word and a thread.
 #[inline(always)]
-fn put_word_who(
-    row: &mut [u8],
-    at: usize,
-    word: &[u8],
-    me: Option<Tid>,
-    tid: Tid,
-) -> usize
+fn put_word_who(row: &mut [u8], at: usize, word: &[u8], me: Option<Tid>, tid: Tid) -> usize
     requires { at + (length word.now + 21) ≤ length row.old }
     ensures len { length row.new ≡ length row.old }
     ensures end { result ≤ at + (length word.now + 21) }
