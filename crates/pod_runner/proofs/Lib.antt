@@ -16,5 +16,6 @@ pub mod Moving
 pub mod Armed
 pub mod Lives
 pub mod Looks
+pub mod LiveRounds
 pub mod Serving
 pub mod Nexts

@@ -1,6 +1,6 @@
 -- A run, one step on.
 use Rattle.std.proofs.Common.{◌≡◌, ◌<◌, ◌^◌, ◌≤◌, ℕ, ◌+◌, List, [], ◌∷◌, ◌++◌, Bool, true, false, cond, None, Some, ap, ◌∙◌, sym, refl, arith}
-use Rattle.std.specs.Prelude.{Option, Ok, IsTrue, is_some, not, option_map, ◌&&◌, nat_lt}
+use Rattle.std.specs.Prelude.{Option, Result, Ok, Err, IsTrue, is_some, not, option_map, ◌&&◌, nat_lt}
 use Rattle.std.proofs.lemmas.Bool.Decides.{nat_tests}
 use Rattle.lwp_types.specs.Choice.{choice}
 use Rattle.lwp_types.specs.State.{State}
@@ -13,14 +13,16 @@ use Rattle.pod_runner.specs.Phase.{phase_by, phase_of}
 use Rattle.pod_runner.specs.Play.{play}
 use Rattle.pod_runner.specs.Session.{Live, Made, Move, Session, Setting, move, take_move, with_move}
 use Rattle.pod_runner.specs.Keeps.{Keeps}
-use Rattle.pod_runner.specs.Run.{Broke, Tells}
+use Rattle.pod_runner.specs.Run.{Played, Tells, after_step}
+use Rattle.pod_runner.specs.Telling.{Told}
 use Rattle.pod_runner.specs.Trace.{lines}
-use Rattle.whole_streams.specs.Writing.{AppendsPart}
+use Rattle.whole_streams.specs.Streams.{Stream}
 use Rattle.pod_events.specs.Events.{is_takeable}
-use Rattle.lwp_types.specs.Streams.{Rose, after_append}
 use Rattle.trace_text.specs.Lines.{step_lines}
 use Rattle.pod_runner.proofs.Appends.{cut_on, writes_on}
 use Rattle.pod_runner.specs.declared.phase.Phase.TheVariants as phase
+use Rattle.pod_runner.specs.declared.phase.RunErr.{RunErr}
+use Rattle.pod_runner.specs.declared.phase.RunErr.TheVariants as fails
 use Rattle.pod_runner.specs.declared.session.Took.{Took}
 use Rattle.pod_runner.proofs.Plays.{IsDefined-call, IsDefined-take, LastBy-of, lines-step, play-call, play-take}
 
@@ -56,16 +58,16 @@ module _ {B : Type 0} (setting : Setting B) (procs : List (List ℕ)) (takes : L
 
 -- ---- what a call and a take leave
 
-module _ {B : Type 0} (setting : Setting B) (names procs : List (List ℕ)) (takes : List Took) (n turns : ℕ) (old new : Live B) (told : List Effect) (out bytes : List ℕ)
-    (named : procs ≡ names) (same : bytes ≡ out) (made : IsDefined setting takes n) (was : old ≡ (play setting takes n).live) where
-  pub called-step : Moves procs None (move setting.next setting.bodies old) new told out → Stepped names (play setting takes n) (play setting takes (n + 1)) new told bytes
-  called-step moves = stepped-call setting names takes n old new told bytes made was
-      (record { live = moves.live; effects = moves.effects; lines = same ∙ moves.lines ∙ ap (λ names. step_lines names None (move setting.next setting.bodies old).effects) named })
+module _ {B : Type 0} (setting : Setting B) (names procs : List (List ℕ)) (takes : List Took) (n turns : ℕ) (old new : Live B) (told : List Effect) (out : List ℕ)
+    (named : procs ≡ names) (made : IsDefined setting takes n) (was : old ≡ (play setting takes n).live) where
+  pub called-step : Moves procs None (move setting.next setting.bodies old) new told out → Stepped names (play setting takes n) (play setting takes (n + 1)) new told out
+  called-step moves = stepped-call setting names takes n old new told out made was
+      (record { live = moves.live; effects = moves.effects; lines = moves.lines ∙ ap (λ names. step_lines names None (move setting.next setting.bodies old).effects) named })
 
   pub taken-step : (took : Took) → took.turn ≡ n → Moves procs (Some took.line) (take_move setting.bodies took old) new told out
-      → Stepped names (play setting takes n) (play setting (takes ++ took ∷ []) n) new told bytes
-  taken-step took h moves = stepped-take setting names takes n old new told bytes made was took h
-      (record { live = moves.live; effects = moves.effects; lines = same ∙ moves.lines ∙ ap (λ names. step_lines names (Some took.line) (take_move setting.bodies took old).effects) named })
+      → Stepped names (play setting takes n) (play setting (takes ++ took ∷ []) n) new told out
+  taken-step took h moves = stepped-take setting names takes n old new told out made was took h
+      (record { live = moves.live; effects = moves.effects; lines = moves.lines ∙ ap (λ names. step_lines names (Some took.line) (take_move setting.bodies took old).effects) named })
 
 -- in phase Turn a call is due
 due-turn : (s : State) (turns calls : ℕ) → phase_of s turns calls ≡ phase.Turn → (not s.ended && is_some (choice s)) ≡ true
@@ -123,10 +125,15 @@ keeps-take setting names procs takes n turns live told failed out took named few
 
 -- ---- what is told
 
-pub told-ok : {B : Type 0} (procs : List (List ℕ)) (a b : Session B) (live : Live B) (told : List Effect) (out : List ℕ) (w v : Option (List ℕ)) (f g : ℕ) (x : Unit {0}) → Stepped procs a b live told out → v ≡ after_append w out → g ≡ f
-    → Tells (record { old = w; new = v; faults_old = f; faults_new = g }) (lines procs a.steps) (lines procs a.steps) (lines procs b.steps) (Ok x)
-told-ok procs a b live told out w v f g x step wrote quiet = (writes_on w v (lines procs a.steps) out (lines procs b.steps) step.lines wrote, quiet)
+-- by what was written of the step's lines
+pub tells-step : {B T : Type 0} (procs : List (List ℕ)) (a b : Session B) (live : Live B) (told : List Effect) (out : List ℕ) (s : Stream) (failed now : Bool) (r : Result T RunErr) → Stepped procs a b live told out → Told s out failed now r
+    → Tells s (lines procs a.steps) (lines procs a.steps) (lines procs b.steps) r
+tells-step procs a b live told out s failed now (Ok x) step h = (writes_on s.old s.new (lines procs a.steps) out (lines procs b.steps) step.lines h.0, h.1)
+tells-step procs a b live told out s failed now (Err fails.NoMemory) step h = absurd h
+tells-step procs a b live told out s failed now (Err fails.WriteFault) step h = (cut_on s.old s.new (lines procs a.steps) out (lines procs b.steps) step.lines h.0, h.1.0, h.1.1)
 
-pub told-fault : {B : Type 0} (procs : List (List ℕ)) (a b : Session B) (live : Live B) (told : List Effect) (out : List ℕ) (w v : Option (List ℕ)) (f g : ℕ) → Stepped procs a b live told out → AppendsPart w v out → Rose f g → f ≤ g
-    → Broke (record { old = w; new = v; faults_old = f; faults_new = g }) (lines procs a.steps) (lines procs a.steps) (lines procs b.steps)
-told-fault procs a b live told out w v f g step cut rose later = (cut_on w v (lines procs a.steps) out (lines procs b.steps) step.lines cut, rose, later)
+-- the run then is as it would come to, or has failed
+pub told-after : {P T : Type 0} (s : Stream) (out : List ℕ) (old counted : Played P) (now : Bool) (r : Result T RunErr) → counted.failed ≡ false → Told s out true now r → record counted { failed = now } ≡ after_step old counted r
+told-after s out old counted now (Ok x) sound h = λ t. record counted { failed = (h.2 ∙ sym sound) t }
+told-after s out old counted now (Err fails.NoMemory) sound h = absurd h
+told-after s out old counted now (Err fails.WriteFault) sound h = λ t. record counted { failed = h.2 t }

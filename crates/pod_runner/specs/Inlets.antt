@@ -2,11 +2,13 @@
 use Rattle.event_gate.specs.Inlet.{Intake, IsInletTaken, IsInletTold}
 use Rattle.pod_events.specs.Events.{is_takeable}
 use Rattle.lwp_types.specs.Poll.{Next}
-use Rattle.pod_runner.specs.Live.{IsWanted, looks}
+use Rattle.pod_runner.specs.Live.{IsWanted, LivesOn, LooksAtAll, looks}
 use Rattle.pod_runner.specs.Run.{Played, phase_now, session_of}
 use Rattle.pod_runner.specs.declared.phase.Phase.TheVariants as phase
+use Rattle.pod_runner.specs.declared.phase.RunErr.{RunErr}
 use Rattle.std.specs.List.{slice_index_or}
-use Rattle.std.specs.Prelude.{List, length, true, ℕ, ◌<◌, ◌≡◌, ◌≢◌, ◌≤◌, ◌⊎◌}
+use Rattle.whole_streams.specs.Streams.{Stream}
+use Rattle.std.specs.Prelude.{List, OnOk, Result, length, true, ℕ, ◌<◌, ◌≡◌, ◌≢◌, ◌≤◌, ◌⊎◌}
 
 -- somebody may run, or no line was taken
 abbrev pub IsCalm : {B P : Type 0} → Next B → (P → List B) → Played P → Played P → Type 0
@@ -49,3 +51,10 @@ pub record Serves {B P : Type 0} (next : Next B) (bodies : P → List B) (n : �
 -- the inlets from one place on, up to another, have events below this one
 abbrev pub AreBelow : List Intake → ℕ → ℕ → ℕ → Type 0
 AreBelow inlets from to e = (k : ℕ) (d : Intake) → from ≤ k → k < to → (slice_index_or inlets k d).event < e
+
+-- a run went on by what its inlets gave, and without an error each inlet was looked at as often as it has to be
+pub record RoundsOn {B P T : Type 0} (next : Next B) (bodies : P → List B)
+    (proc_names : P → List (List ℕ)) (stream : Stream)
+    (old new : Played P) (before after : List Intake) (result : Result T RunErr) : Type 0 where
+  pub lives : LivesOn next bodies proc_names stream old new before after result
+  pub looked : OnOk result (LooksAtAll next bodies old new before after)

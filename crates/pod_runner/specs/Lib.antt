@@ -8,6 +8,8 @@ pub mod Eager
 pub mod Trace
 pub mod Phase
 pub mod Run
+pub mod Ready
+pub mod Telling
 pub mod Does
 pub mod Keeps
 pub mod Takes

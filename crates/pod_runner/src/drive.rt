@@ -1,12 +1,12 @@
 // A run over a gate, from step to step, until its end.
-ghost use Rattle.std.specs.Prelude.{◌≡◌, ◌<◌, ◌≤◌, false, IfNone, IfOk, IfSome, IsTrue, OnOk};
+ghost use Rattle.std.specs.Prelude.{◌≡◌, ◌<◌, false, IfNone, IfOk, IfSome, IsTrue, OnOk};
 ghost use Rattle.std.specs.Slice.Scan.{HoldsNowhere, IsFirstPlace};
 ghost use Rattle.pod_events.specs.Events.{is_takeable};
 ghost use Rattle.pod_runner.specs.Does.{Does};
-ghost use Rattle.pod_runner.specs.Due.{IsDefined};
 ghost use Rattle.pod_runner.specs.Eager.{IsFirstPart, after_finish, after_offer, boundary, plan_over, plan_whole, round};
 ghost use Rattle.pod_runner.specs.Over.{can_take};
-ghost use Rattle.pod_runner.specs.Run.{setting_of, session_of, phase_now, plan_now, planned_of, EndsAt, IsNew};
+ghost use Rattle.pod_runner.specs.Ready.{IsReady};
+ghost use Rattle.pod_runner.specs.Run.{session_of, phase_now, plan_now, planned_of, EndsAt, IsNew};
 ghost use Rattle.pod_runner.specs.declared.phase.Phase.TheVariants as phase;
 ghost use Rattle.whole_streams.specs.Streams.{sides};
 
@@ -23,9 +23,7 @@ fn take_line<'s, B: Polled<'s>, P: Program<B>, G: Gate<'s>, K: Sink>(
     event: u8,
     sink: &mut K,
 ) -> Result<(), RunErr>
-    requires sound { run.old.failed ≡ false }
-    requires made { IsDefined (setting_of B.next P.bodies run.old) run.old.takes run.old.calls }
-    requires room { run.old.calls ≤ run.old.turns }
+    requires ready { IsReady B.next P.bodies run.old }
     requires wanted { IsTrue (is_takeable (session_of B.next P.bodies run.old).live.pod event) }
     ensures { Does B.next P.bodies P.proc_names (sides K.written K.faults sink.old sink.new)
         (λ planned plan. after_offer planned event plan) run.old run.new (G.stock gate.old)
@@ -71,9 +69,7 @@ fn serve_each<'s, B: Polled<'s>, P: Program<B>, G: Gate<'s>, K: Sink>(
     gate: &mut G,
     sink: &mut K,
 ) -> Result<(), RunErr>
-    requires sound { run.old.failed ≡ false }
-    requires made { IsDefined (setting_of B.next P.bodies run.old) run.old.takes run.old.calls }
-    requires room { run.old.calls ≤ run.old.turns }
+    requires ready { IsReady B.next P.bodies run.old }
     ensures { Does B.next P.bodies P.proc_names (sides K.written K.faults sink.old sink.new)
         (λ planned plan. boundary planned plan) run.old run.new (G.stock gate.old)
         (G.stock gate.new) result }
@@ -93,9 +89,7 @@ fn serve_all<'s, B: Polled<'s>, P: Program<B>, G: Gate<'s>, K: Sink>(
     gate: &mut G,
     sink: &mut K,
 ) -> Result<(), RunErr>
-    requires sound { run.old.failed ≡ false }
-    requires made { IsDefined (setting_of B.next P.bodies run.old) run.old.takes run.old.calls }
-    requires room { run.old.calls ≤ run.old.turns }
+    requires ready { IsReady B.next P.bodies run.old }
     ensures { Does B.next P.bodies P.proc_names (sides K.written K.faults sink.old sink.new)
         (λ planned plan. boundary planned plan) run.old run.new (G.stock gate.old)
         (G.stock gate.new) result }
@@ -113,9 +107,7 @@ fn turn_round<'s, B: Polled<'s>, P: Program<B>, G: Gate<'s>, K: Sink>(
     gate: &mut G,
     sink: &mut K,
 ) -> Result<(), RunErr>
-    requires sound { run.old.failed ≡ false }
-    requires made { IsDefined (setting_of B.next P.bodies run.old) run.old.takes run.old.calls }
-    requires room { run.old.calls ≤ run.old.turns }
+    requires ready { IsReady B.next P.bodies run.old }
     requires due { phase_now B.next P.bodies run.old ≡ phase.Turn }
     ensures { Does B.next P.bodies P.proc_names (sides K.written K.faults sink.old sink.new)
         (λ planned plan. round planned plan) run.old run.new (G.stock gate.old) (G.stock gate.new)
@@ -132,9 +124,7 @@ fn idle_round<'s, B: Polled<'s>, P: Program<B>, G: Gate<'s>, K: Sink>(
     gate: &mut G,
     sink: &mut K,
 ) -> Result<Option<Halt>, RunErr>
-    requires sound { run.old.failed ≡ false }
-    requires made { IsDefined (setting_of B.next P.bodies run.old) run.old.takes run.old.calls }
-    requires room { run.old.calls ≤ run.old.turns }
+    requires ready { IsReady B.next P.bodies run.old }
     requires idle { phase_now B.next P.bodies run.old ≡ phase.Idle }
     ensures does { Does B.next P.bodies P.proc_names (sides K.written K.faults sink.old sink.new)
         (λ planned plan. round planned plan) run.old run.new (G.stock gate.old) (G.stock gate.new)

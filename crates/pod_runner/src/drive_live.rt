@@ -1,9 +1,10 @@
 // A run over inlets, into which other threads post while it goes on.
-ghost use Rattle.std.specs.Prelude.{◌≡◌, ◌≤◌, false, map, IfOk, OnOk};
+ghost use Rattle.std.specs.Prelude.{◌≡◌, false, map, IfOk, OnOk};
 ghost use Rattle.event_gate.specs.Inlet.{EventsRise};
-ghost use Rattle.pod_runner.specs.Due.{IsDefined};
+ghost use Rattle.pod_runner.specs.Inlets.{RoundsOn};
 ghost use Rattle.pod_runner.specs.Live.{Answers, AnswersIf, LivesOn, LooksAtAll};
-ghost use Rattle.pod_runner.specs.Run.{phase_now, setting_of};
+ghost use Rattle.pod_runner.specs.Ready.{IsReady};
+ghost use Rattle.pod_runner.specs.Run.{phase_now};
 ghost use Rattle.pod_runner.specs.declared.phase.Phase.TheVariants as phase;
 ghost use Rattle.whole_streams.specs.Streams.{sides};
 
@@ -22,17 +23,12 @@ fn turn_round<'s, B: Polled<'s>, P: Program<B>, I: Inlet<'s>, K: Sink, R: Wait>(
     inlets: &mut Vec<I>,
     sink: &mut K,
 ) -> Result<(), RunErr>
-    requires sound { run.old.failed ≡ false }
-    requires made { IsDefined (setting_of B.next P.bodies run.old) run.old.takes run.old.calls }
-    requires room { run.old.calls ≤ run.old.turns }
+    requires ready { IsReady B.next P.bodies run.old }
     requires rise { EventsRise (map I.intake inlets.old.items) }
     requires due { phase_now B.next P.bodies run.old ≡ phase.Turn }
-    ensures lives { LivesOn B.next P.bodies P.proc_names
+    ensures { RoundsOn B.next P.bodies P.proc_names
         (sides K.written K.faults sink.old sink.new) run.old run.new (map I.intake inlets.old.items)
         (map I.intake inlets.new.items) result }
-    ensures looked { OnOk result
-        (LooksAtAll B.next P.bodies run.old run.new (map I.intake inlets.old.items)
-        (map I.intake inlets.new.items)) }
 {
     serve_all(rt, run, inlets, sink)?;
     run.turn(sink)
@@ -45,17 +41,12 @@ fn idle_round<'s, B: Polled<'s>, P: Program<B>, I: Inlet<'s>, K: Sink, R: Wait>(
     inlets: &mut Vec<I>,
     sink: &mut K,
 ) -> Result<Option<Live>, RunErr>
-    requires sound { run.old.failed ≡ false }
-    requires made { IsDefined (setting_of B.next P.bodies run.old) run.old.takes run.old.calls }
-    requires room { run.old.calls ≤ run.old.turns }
+    requires ready { IsReady B.next P.bodies run.old }
     requires rise { EventsRise (map I.intake inlets.old.items) }
     requires idle { phase_now B.next P.bodies run.old ≡ phase.Idle }
-    ensures lives { LivesOn B.next P.bodies P.proc_names
+    ensures rounds { RoundsOn B.next P.bodies P.proc_names
         (sides K.written K.faults sink.old sink.new) run.old run.new (map I.intake inlets.old.items)
         (map I.intake inlets.new.items) result }
-    ensures looked { OnOk result
-        (LooksAtAll B.next P.bodies run.old run.new (map I.intake inlets.old.items)
-        (map I.intake inlets.new.items)) }
     ensures answers { IfOk result
         (AnswersIf B.next P.bodies run.new (map I.intake inlets.old.items)
         (map I.intake inlets.new.items)) }
@@ -80,12 +71,9 @@ fn go_round<'s, B: Polled<'s>, P: Program<B>, I: Inlet<'s>, K: Sink, R: Wait>(
 ) -> Result<Option<Live>, RunErr>
     requires sound { run.old.failed ≡ false }
     requires rise { EventsRise (map I.intake inlets.old.items) }
-    ensures lives { LivesOn B.next P.bodies P.proc_names
+    ensures rounds { RoundsOn B.next P.bodies P.proc_names
         (sides K.written K.faults sink.old sink.new) run.old run.new (map I.intake inlets.old.items)
         (map I.intake inlets.new.items) result }
-    ensures looked { OnOk result
-        (LooksAtAll B.next P.bodies run.old run.new (map I.intake inlets.old.items)
-        (map I.intake inlets.new.items)) }
     ensures answers { IfOk result
         (AnswersIf B.next P.bodies run.new (map I.intake inlets.old.items)
         (map I.intake inlets.new.items)) }

@@ -2,8 +2,8 @@
 ghost use Rattle.std.specs.Prelude.{◌≡◌, ◌≤◌, ◌<◌, ◌↔◌, false, map, length, OnOk, IsTrue, vec_len};
 ghost use Rattle.std.specs.Slice.Scan.{HoldsNowhere};
 ghost use Rattle.pod_events.specs.Events.{is_takeable};
-ghost use Rattle.pod_runner.specs.Due.{IsDefined};
-ghost use Rattle.pod_runner.specs.Run.{session_of, setting_of};
+ghost use Rattle.pod_runner.specs.Ready.{IsReady};
+ghost use Rattle.pod_runner.specs.Run.{session_of};
 ghost use Rattle.pod_runner.specs.Inlets.{AreBelow, Serves, ServesAt};
 ghost use Rattle.event_gate.specs.Inlet.{AllTold, EventsRise};
 ghost use Rattle.pod_runner.specs.Live.{LivesOn};
@@ -97,9 +97,7 @@ pub(crate) fn serve_all<'s, B: Polled<'s>, P: Program<B>, I: Inlet<'s>, K: Sink,
     inlets: &mut Vec<I>,
     sink: &mut K,
 ) -> Result<(), RunErr>
-    requires sound { run.old.failed ≡ false }
-    requires made { IsDefined (setting_of B.next P.bodies run.old) run.old.takes run.old.calls }
-    requires room { run.old.calls ≤ run.old.turns }
+    requires ready { IsReady B.next P.bodies run.old }
     requires rise { EventsRise (map I.intake inlets.old.items) }
     ensures lives { LivesOn B.next P.bodies P.proc_names
         (sides K.written K.faults sink.old sink.new) run.old run.new (map I.intake inlets.old.items)

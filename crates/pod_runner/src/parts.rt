@@ -1,7 +1,6 @@
 // What a run moves: the pod with its own events, each live thread's body, and the names.
 ghost use Rattle.std.specs.Prelude.{◌≡◌, ◌++◌, ◌<◌, ◌≤◌, ◌^◌, IfNone, IfOk, IfSome, OnOk, IsSome, IsTrue, None, Some, [], slice_get, length};
 ghost use Rattle.std.specs.Slice.Scan.{HoldsNowhere, IsFirstPlace};
-ghost use Rattle.lwp_types.specs.State.{opening};
 ghost use Rattle.pod_events.specs.Events.{is_takeable, quiet_events};
 ghost use Rattle.pod_events.specs.Machine.{current_of};
 ghost use Rattle.pod_events.specs.Step.{event_step, leads};
@@ -16,9 +15,8 @@ use crate::calls::made_among;
 use crate::row_list::RowList;
 use crate::rows::{proc_of, settle};
 use crate::{Made, Phase, Took};
-use lwp_calls::Pod;
-use lwp_types::{Call, Effects, Env, NoMemory, PodEnd, PodParams, Polled, Program, Tid};
-use pod_events::EventPod;
+use lwp_types::{Call, Effects, Env, NoMemory, PodEnd, Polled, Program, Tid};
+use pod_events::{Driven, EventPod, Machine};
 use std::alloc::Global;
 use text_list::TextList;
 use trace_text::StepLines;
@@ -26,8 +24,8 @@ use trace_text::StepLines;
 // A call before which a trap is raised, and `out` has the lines of what that did: the effects tell the call themselves, if it was
 // made. It stands apart from the way of most calls.
 #[inline(never)]
-fn call_behind_trap<'s>(
-    pod: &mut EventPod<'s, Pod<'s>>,
+fn call_behind_trap<'s, M: Driven<'s>>(
+    pod: &mut EventPod<'s, M>,
     call: &Call<'s>,
     effects: &mut Effects<'s>,
     names: &TextList,
@@ -45,9 +43,9 @@ fn call_behind_trap<'s>(
 
 // A call, and `out` has the lines of what that did. Answers whose call stands before the effects.
 #[inline(always)]
-fn carry_out<'s>(
+fn carry_out<'s, M: Driven<'s>>(
     tid: Tid,
-    pod: &mut EventPod<'s, Pod<'s>>,
+    pod: &mut EventPod<'s, M>,
     call: &Call<'s>,
     effects: &mut Effects<'s>,
     names: &TextList,
@@ -75,9 +73,9 @@ fn carry_out<'s>(
     }
 }
 
-/// A pod with its threads' bodies.
-pub(crate) struct RunParts<'s, B> {
-    pub(crate) pod: EventPod<'s, Pod<'s>>,
+/// A machine of threads, with its own events, and its threads' bodies.
+pub(crate) struct RunParts<'s, B, M: Machine> {
+    pub(crate) pod: EventPod<'s, M>,
     pub(crate) rows: RowList<'s, B>,
     pub(crate) env: Env,
     pub(crate) effects: Effects<'s>,
@@ -88,7 +86,7 @@ pub(crate) struct RunParts<'s, B> {
 }
 
 // By hand, so that whoever drops one calls this.
-impl<'s, B: Drop> Drop for RunParts<'s, B> {
+impl<'s, B: Drop, M: Machine> Drop for RunParts<'s, B, M> {
     fn drop(self) {
         let RunParts {
             pod: _,
@@ -101,26 +99,21 @@ impl<'s, B: Drop> Drop for RunParts<'s, B> {
     }
 }
 
-impl<'s, B: Polled<'s>> RunParts<'s, B> {
+impl<'s, B: Polled<'s>, M: Driven<'s>> RunParts<'s, B, M> {
     ghost use Rattle.pod_runner.specs.RunParts.{live_of, last_step_effects, Moves};
 
     /// The first thread, before its first call.
     pub(crate) fn new<P: Program<B>>(
         alloc: Global,
-        params: PodParams,
+        machine: M,
         program: &P,
         env: Env,
-    ) -> Result<RunParts<'s, B>, NoMemory>
-        requires least { 1 ≤ params.maxpri }
-        requires most { params.maxpri ≤ 255 }
-        requires births { 1 ≤ params.births }
-        requires few_births { params.births < 2 ^ 32 }
-        requires procs { 1 ≤ params.procs }
+    ) -> Result<RunParts<'s, B, M>, NoMemory>
         ensures live { IfOk result
             (λ parts.
             live_of parts
             ≡ record {
-              pod = quiet_events (opening params);
+              pod = quiet_events (M.state machine);
               rows = rows_of_new 0
                   (slice_get (P.bodies program.now) 0);
               names = env;
@@ -130,7 +123,7 @@ impl<'s, B: Polled<'s>> RunParts<'s, B> {
         let mut rows = RowList::new(alloc);
         rows.open(program, 0, Tid { number: 0 })?;
         let effects = Effects::new(alloc)?;
-        let pod = EventPod::new(alloc, Pod::new(alloc, params)?)?;
+        let pod = EventPod::new(alloc, machine)?;
         Ok(RunParts {
             pod,
             rows,

@@ -5,11 +5,13 @@ ghost use Rattle.pod_events.specs.Events.{is_takeable};
 ghost use Rattle.pod_runner.specs.Calls.{last_call};
 ghost use Rattle.pod_runner.specs.Due.{IsDefined};
 ghost use Rattle.pod_runner.specs.Run.{setting_of, session_of, phase_now, trace_of, names_like, after_step, with_call, with_took, Tells};
+ghost use Rattle.pod_runner.specs.Telling.{Told};
 ghost use Rattle.pod_runner.specs.declared.phase.Phase.TheVariants as phase;
 ghost use Rattle.whole_streams.specs.Streams.{sides};
 
 use crate::parts::RunParts;
 use crate::{Made, Phase, RunErr, TakeList, Took};
+use lwp_calls::Pod;
 use lwp_types::{Body, Env, Line, NoMemory, PodParams, Polled, Program, Sink};
 use std::alloc::Global;
 use std::marker::Model;
@@ -19,7 +21,7 @@ use whole_streams::write_all;
 
 /// A run of a program, seen as what it plays and how far it is; its session is the definition's.
 pub struct Run<'s, B: Body, P: Program<B>> {
-    parts: RunParts<'s, B>,
+    parts: RunParts<'s, B, Pod<'s>>,
     program: P,
     // The procedures' names, by number.
     procs: TextList,
@@ -94,6 +96,20 @@ fn names_of<B: Body, P: Program<B>>(alloc: Global, program: &P) -> Result<TextLi
     Ok(names)
 }
 
+// A step's lines are written, and a run whose lines all were goes on.
+#[inline(always)]
+fn tell<K: Sink>(out: &StepLines, failed: &mut bool, sink: &mut K) -> Result<(), RunErr>
+    ensures { Told (sides K.written K.faults sink.old sink.new) out.now failed.old failed.new result }
+{
+    match write_all(sink, out.bytes()) {
+        Ok(()) => {
+            *failed = false;
+            Ok(())
+        }
+        Err(_) => Err(RunErr::WriteFault),
+    }
+}
+
 impl<'s, B: Polled<'s>, P: Program<B>> Run<'s, B, P> {
     /// A run before its first call, of at most so many calls.
     pub fn new(
@@ -126,7 +142,8 @@ impl<'s, B: Polled<'s>, P: Program<B>> Run<'s, B, P> {
         let mons = env.mon_count();
         let conds = env.cond_count();
         let procs = names_of(alloc, &program)?;
-        let parts = RunParts::new(alloc, params, &program, env)?;
+        let pod = Pod::new(alloc, params)?;
+        let parts = RunParts::new(alloc, pod, &program, env)?;
         Ok(Run {
             parts,
             program,
@@ -252,13 +269,7 @@ impl<'s, B: Polled<'s>, P: Program<B>> Run<'s, B, P> {
         self.parts
             .deliver(&self.program, &self.procs, &took, &mut self.out)?;
         self.takes.push(&took)?;
-        match write_all(sink, self.out.bytes()) {
-            Ok(()) => {
-                self.failed = false;
-                Ok(())
-            }
-            Err(_) => Err(RunErr::WriteFault),
-        }
+        tell(&self.out, &mut self.failed, sink)
     }
 
     /// One call, and its lines. After an error the run has failed: a call whose lines could not all be written counts, a call
@@ -277,12 +288,6 @@ impl<'s, B: Polled<'s>, P: Program<B>> Run<'s, B, P> {
         self.failed = true;
         self.parts.turn(&self.program, &self.procs, &mut self.out)?;
         self.calls += 1;
-        match write_all(sink, self.out.bytes()) {
-            Ok(()) => {
-                self.failed = false;
-                Ok(())
-            }
-            Err(_) => Err(RunErr::WriteFault),
-        }
+        tell(&self.out, &mut self.failed, sink)
     }
 }

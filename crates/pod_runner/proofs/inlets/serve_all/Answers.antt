@@ -12,7 +12,7 @@ pub loop-i-init : goal.loop-i-init
 loop-i-init g c = record {
   within = search rules;
   same = refl;
-  lives = lives-same g.B.Body.next g.P.Program.bodies g.P.Program.proc_names (g.K.Sink.written c.args.sink.now) (g.K.Sink.faults c.args.sink.now) c.args.run.now (map g.I.Inlet.intake c.args.inlets.now.items) tt c.requires.sound c.requires.made c.requires.room;
+  lives = lives-same g.B.Body.next g.P.Program.bodies g.P.Program.proc_names (g.K.Sink.written c.args.sink.now) (g.K.Sink.faults c.args.sink.now) c.args.run.now (map g.I.Inlet.intake c.args.inlets.now.items) tt c.requires.ready.sound c.requires.ready.made c.requires.ready.room;
   serves = serves-none g.B.Body.next g.P.Program.bodies g.P.Program.proc_names c.args.run.now (map g.I.Inlet.intake c.args.inlets.now.items);
 }
 

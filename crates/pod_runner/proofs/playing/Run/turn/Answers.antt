@@ -1,9 +1,11 @@
-use Rattle.std.proofs.Common.{arith, ◌≡◌, ◌+◌, ◌∙◌, List, ℕ, false, true}
+use Rattle.std.proofs.Common.{arith, ◌≡◌, ◌+◌, List, ℕ, false, true}
 use Rattle.lwp_types.specs.Names.{null_names}
+use Rattle.pod_runner.specs.Run.{Played, with_call}
 use Rattle.pod_runner.specs.RunParts.{live_of, last_step_effects}
 use Rattle.pod_runner.specs.Play.{play}
 use Rattle.pod_runner.specs.Session.{Setting}
-use Rattle.pod_runner.proofs.Turns.{called-step, keeps-call, made-call, room-turn, told-fault, told-ok}
+use Rattle.pod_runner.proofs.Rounds.{stream}
+use Rattle.pod_runner.proofs.Turns.{called-step, keeps-call, made-call, room-turn, tells-step, told-after}
 use Rattle.pod_runner.proofs.playing.Run.turn.Goals as goal
 
 pub overflow_add-self : goal.overflow_add-self
@@ -12,64 +14,37 @@ overflow_add-self g c =
     let due = rw (← c.self.view_is) at c.requires.due in
     omega (arith, c.self.invariant.few, room-turn (play setting c.self.inside.takes c.self.inside.calls).live.pod.state c.self.inside.turns c.self.inside.calls due)
 
-pub invariant_of-self-in-Ok : goal.invariant_of-self-in-Ok
-invariant_of-self-in-Ok g c =
+pub invariant_of-self-2 : goal.invariant_of-self-2
+invariant_of-self-2 g c =
     let setting : Setting _ = record { next = g.B.Body.next; bodies = g.P.Program.bodies c.self.inside.program; params = c.self.inside.params; names = null_names c.self.inside.threads c.self.inside.mons c.self.inside.conds } in
     let names : List (List ℕ) = g.P.Program.proc_names c.self.inside.program in
     let sound : c.self.inside.failed ≡ false = rw (← c.self.view_is) at c.requires.sound in
     let kept = c.self.invariant in
     let due = rw (← c.self.view_is) at c.requires.due in
-    let step = called-step setting names c.self.inside.procs c.self.inside.takes c.self.inside.calls c.self.inside.turns (live_of c.self.inside.parts) (live_of c.turn.new.self) (last_step_effects c.turn.new.self) c.turn.new.out c.bytes.result.now
-    kept.named c.bytes.ensures kept.made (kept.now sound) c.in_ok-turn.ensures in
-    keeps-call setting names c.self.inside.procs c.self.inside.takes c.self.inside.calls c.self.inside.turns (live_of c.turn.new.self) (last_step_effects c.turn.new.self) false c.bytes.result.now kept.named kept.few kept.made due step
+    let step = called-step setting names c.self.inside.procs c.self.inside.takes c.self.inside.calls c.self.inside.turns (live_of c.self.inside.parts) (live_of c.turn.new.self) (last_step_effects c.turn.new.self) c.turn.new.out
+    kept.named kept.made (kept.now sound) c.in_ok-turn.ensures in
+    keeps-call setting names c.self.inside.procs c.self.inside.takes c.self.inside.calls c.self.inside.turns (live_of c.turn.new.self) (last_step_effects c.turn.new.self) c.tell.new.failed c.turn.new.out kept.named kept.few kept.made due step
 
-pub invariant_of-self-in-Err : goal.invariant_of-self-in-Err
-invariant_of-self-in-Err g c =
+pub returns-clause-after : goal.returns-clause-after
+returns-clause-after g c =
+    let sound : c.self.inside.failed ≡ false = rw (← c.self.view_is) at c.requires.sound in
+    let was : Played _ = record { program = c.self.inside.program; params = c.self.inside.params; names = null_names c.self.inside.threads c.self.inside.mons c.self.inside.conds; turns = c.self.inside.turns; calls = c.self.inside.calls; takes = c.self.inside.takes; failed = c.self.inside.failed } in
+    rw (← c.self.view_is) (told-after (stream (g.K.Sink.written c.args.sink.now) (g.K.Sink.written c.tell.new.sink) (g.K.Sink.faults c.args.sink.now) (g.K.Sink.faults c.tell.new.sink)) c.turn.new.out was (with_call was) c.tell.new.failed c.tell.result sound c.tell.ensures)
+
+pub returns-clause-told : goal.returns-clause-told
+returns-clause-told g c =
     let setting : Setting _ = record { next = g.B.Body.next; bodies = g.P.Program.bodies c.self.inside.program; params = c.self.inside.params; names = null_names c.self.inside.threads c.self.inside.mons c.self.inside.conds } in
     let names : List (List ℕ) = g.P.Program.proc_names c.self.inside.program in
     let sound : c.self.inside.failed ≡ false = rw (← c.self.view_is) at c.requires.sound in
     let kept = c.self.invariant in
     let due = rw (← c.self.view_is) at c.requires.due in
-    let step = called-step setting names c.self.inside.procs c.self.inside.takes c.self.inside.calls c.self.inside.turns (live_of c.self.inside.parts) (live_of c.turn.new.self) (last_step_effects c.turn.new.self) c.turn.new.out c.bytes.result.now
-    kept.named c.bytes.ensures kept.made (kept.now sound) c.in_ok-turn.ensures in
-    keeps-call setting names c.self.inside.procs c.self.inside.takes c.self.inside.calls c.self.inside.turns (live_of c.turn.new.self) (last_step_effects c.turn.new.self) true c.bytes.result.now kept.named kept.few kept.made due step
+    let step = called-step setting names c.self.inside.procs c.self.inside.takes c.self.inside.calls c.self.inside.turns (live_of c.self.inside.parts) (live_of c.turn.new.self) (last_step_effects c.turn.new.self) c.turn.new.out
+    kept.named kept.made (kept.now sound) c.in_ok-turn.ensures in
+    rw (← c.self.view_is) (tells-step names (play setting c.self.inside.takes c.self.inside.calls) (play setting c.self.inside.takes (c.self.inside.calls + 1)) (live_of c.turn.new.self) (last_step_effects c.turn.new.self) c.turn.new.out (stream (g.K.Sink.written c.args.sink.now) (g.K.Sink.written c.tell.new.sink) (g.K.Sink.faults c.args.sink.now) (g.K.Sink.faults c.tell.new.sink)) true c.tell.new.failed c.tell.result step c.tell.ensures)
 
-pub returns-in-Ok-clause-told : goal.returns-in-Ok-clause-told
-returns-in-Ok-clause-told g c =
+pub returns-clause-made : goal.returns-clause-made
+returns-clause-made g c =
     let setting : Setting _ = record { next = g.B.Body.next; bodies = g.P.Program.bodies c.self.inside.program; params = c.self.inside.params; names = null_names c.self.inside.threads c.self.inside.mons c.self.inside.conds } in
-    let names : List (List ℕ) = g.P.Program.proc_names c.self.inside.program in
-    let sound : c.self.inside.failed ≡ false = rw (← c.self.view_is) at c.requires.sound in
-    let kept = c.self.invariant in
-    let due = rw (← c.self.view_is) at c.requires.due in
-    let step = called-step setting names c.self.inside.procs c.self.inside.takes c.self.inside.calls c.self.inside.turns (live_of c.self.inside.parts) (live_of c.turn.new.self) (last_step_effects c.turn.new.self) c.turn.new.out c.bytes.result.now
-    kept.named c.bytes.ensures kept.made (kept.now sound) c.in_ok-turn.ensures in
-    rw (← c.self.view_is) (told-ok names (play setting c.self.inside.takes c.self.inside.calls) (play setting c.self.inside.takes (c.self.inside.calls + 1)) (live_of c.turn.new.self) (last_step_effects c.turn.new.self) c.bytes.result.now (g.K.Sink.written c.args.sink.now) (g.K.Sink.written c.write_all.new.sink) (g.K.Sink.faults c.args.sink.now) (g.K.Sink.faults c.write_all.new.sink) tt step c.in-Ok.ensures.ok c.in-Ok.ensures.cause.same)
-
-pub returns-in-Err-clause-told : goal.returns-in-Err-clause-told
-returns-in-Err-clause-told g c =
-    let setting : Setting _ = record { next = g.B.Body.next; bodies = g.P.Program.bodies c.self.inside.program; params = c.self.inside.params; names = null_names c.self.inside.threads c.self.inside.mons c.self.inside.conds } in
-    let names : List (List ℕ) = g.P.Program.proc_names c.self.inside.program in
-    let sound : c.self.inside.failed ≡ false = rw (← c.self.view_is) at c.requires.sound in
-    let kept = c.self.invariant in
-    let due = rw (← c.self.view_is) at c.requires.due in
-    let step = called-step setting names c.self.inside.procs c.self.inside.takes c.self.inside.calls c.self.inside.turns (live_of c.self.inside.parts) (live_of c.turn.new.self) (last_step_effects c.turn.new.self) c.turn.new.out c.bytes.result.now
-    kept.named c.bytes.ensures kept.made (kept.now sound) c.in_ok-turn.ensures in
-    rw (← c.self.view_is) (told-fault names (play setting c.self.inside.takes c.self.inside.calls) (play setting c.self.inside.takes (c.self.inside.calls + 1)) (live_of c.turn.new.self) (last_step_effects c.turn.new.self) c.bytes.result.now (g.K.Sink.written c.args.sink.now) (g.K.Sink.written c.write_all.new.sink) (g.K.Sink.faults c.args.sink.now) (g.K.Sink.faults c.write_all.new.sink) step c.in-Err.ensures.err c.in-Err.ensures.cause.failed c.in-Err.ensures.cause.later)
-
-pub returns-in-Ok-clause-made : goal.returns-in-Ok-clause-made
-returns-in-Ok-clause-made g c =
-    let setting : Setting _ = record { next = g.B.Body.next; bodies = g.P.Program.bodies c.self.inside.program; params = c.self.inside.params; names = null_names c.self.inside.threads c.self.inside.mons c.self.inside.conds } in
-    let names : List (List ℕ) = g.P.Program.proc_names c.self.inside.program in
-    let sound : c.self.inside.failed ≡ false = rw (← c.self.view_is) at c.requires.sound in
-    let kept = c.self.invariant in
-    let due = rw (← c.self.view_is) at c.requires.due in
-    made-call setting c.self.inside.takes c.self.inside.calls c.self.inside.turns kept.made due
-
-pub returns-in-Err-clause-made : goal.returns-in-Err-clause-made
-returns-in-Err-clause-made g c =
-    let setting : Setting _ = record { next = g.B.Body.next; bodies = g.P.Program.bodies c.self.inside.program; params = c.self.inside.params; names = null_names c.self.inside.threads c.self.inside.mons c.self.inside.conds } in
-    let names : List (List ℕ) = g.P.Program.proc_names c.self.inside.program in
-    let sound : c.self.inside.failed ≡ false = rw (← c.self.view_is) at c.requires.sound in
     let kept = c.self.invariant in
     let due = rw (← c.self.view_is) at c.requires.due in
     made-call setting c.self.inside.takes c.self.inside.calls c.self.inside.turns kept.made due
