@@ -21,10 +21,9 @@ use Rattle.trace_text.specs.declared.ends.Halt.{Halt}
 use Rattle.trace_text.specs.declared.ends.Halt.TheVariants as halts
 use Rattle.lwp_types.specs.Choice.{choice}
 use Rattle.std.proofs.lemmas.Bool.Decides.{nat_tests}
-use Rattle.pod_runner.specs.Run.{Broke, EndsAt, GoesOn, Played, Tells, Wrote, but_last, session_of, phase_now, setting_of, after_step, took_now, trace_before, trace_of, with_call, with_took}
+use Rattle.pod_runner.specs.Run.{EndsAt, GoesOn, Played, Tells, Wrote, but_last, session_of, phase_now, setting_of, after_step, took_now, trace_of, with_call, with_took}
 use Rattle.whole_streams.specs.Streams.{Stream}
 use Rattle.pod_runner.specs.Session.{Session, call_step, take_move, take_step}
-use Rattle.pod_runner.specs.Trace.{lines}
 use Rattle.pod_runner.specs.declared.live.Live.{Live}
 use Rattle.pod_runner.specs.declared.live.Live.TheVariants as live
 use Rattle.pod_runner.specs.declared.phase.Phase.TheVariants as phase

@@ -2,7 +2,7 @@
 use Rattle.std.proofs.Common.{◌≡◌, ◌<◌, ◌≤◌, ◌⊎◌, ℕ, Bool, true, false, ap, inl, inr, refl}
 use Rattle.std.proofs.lemmas.Bool.{cases_lt}
 use Rattle.std.specs.Prelude.{is_some, ◌&&◌}
-use Rattle.std.specs.Slice.Scan.{HoldsNowhere, IsFirstPlace}
+use Rattle.std.specs.Slice.Scan.{HoldsNowhere}
 use Rattle.event_gate.specs.Shelves.{Shelves, first_left, has_left}
 use Rattle.pod_events.specs.Events.{EventState, is_takeable}
 use Rattle.pod_runner.specs.Over.{can_take}

@@ -1,5 +1,5 @@
 // Inlets are served between two calls.
-ghost use Rattle.std.specs.Prelude.{◌≡◌, ◌≤◌, ◌<◌, ◌↔◌, false, map, length, OnOk, IsTrue, vec_len};
+ghost use Rattle.std.specs.Prelude.{◌≡◌, ◌≤◌, ◌<◌, ◌↔◌, false, map, length, OnOk, IsTrue};
 ghost use Rattle.std.specs.Slice.Scan.{HoldsNowhere};
 ghost use Rattle.pod_events.specs.Events.{is_takeable};
 ghost use Rattle.pod_runner.specs.Ready.{IsReady};

@@ -5,7 +5,7 @@ use Rattle.replay.proofs.LineLaws.{count-append, count-cons, one}
 use Rattle.replay.specs.Following.{Departs, Following, IsUnlike, bytes_told}
 use Rattle.replay.specs.Recorded.{is_newline, line_count}
 use Rattle.std.specs.Int.{from_le_bytes, to_le_bytes, w64}
-use Rattle.std.proofs.Common.{Bool, List, [], ap, append-nil, append_assoc, arith, drop, drop-drop, false, get_or, inl, inr, length, length-append, length-drop, length-take, refl, subst, suc, sym, take, take-add, take-append-drop, true, zero, ℕ, ◌++◌, ◌+◌, ◌-◌, ◌<◌, ◌∙◌, ◌∷◌, ◌≡◌, ◌≢◌, ◌≤◌, ◌⊎◌}
+use Rattle.std.proofs.Common.{Bool, List, [], ap, append-nil, append_assoc, arith, drop, drop-drop, false, get_or, inl, inr, length, length-append, length-drop, length-take, refl, subst, suc, sym, take, take-add, true, zero, ℕ, ◌++◌, ◌+◌, ◌-◌, ◌<◌, ◌∙◌, ◌∷◌, ◌≡◌, ◌≢◌, ◌≤◌}
 use Rattle.std.specs.Prelude.{MatchBool, nat_eq}
 use Rattle.std.proofs.lemmas.Bool.{eq-eqb, eqb-true}
 use Rattle.std.proofs.lemmas.List.{drop-take, take_rest}

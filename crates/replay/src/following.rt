@@ -9,7 +9,7 @@ ghost use Rattle.lwp_types.specs.declared.call.Line.{Line as OneLine};
 ghost use Rattle.pod_runner.specs.declared.phase.Phase.TheVariants as phase;
 ghost use Rattle.pod_runner.specs.Run.{phase_now};
 ghost use Rattle.replay.specs.declared.replaying.Next.TheVariants as next;
-ghost use Rattle.std.specs.Prelude.{IfOk, List, OnOk, drop, None, ℕ, [], false, length, true, ◌+◌, ◌<◌, ◌≡◌, ◌≤◌};
+ghost use Rattle.std.specs.Prelude.{IfOk, List, OnOk, drop, None, ℕ, [], false, length, true, ◌<◌, ◌≡◌};
 
 use crate::follower::Follower;
 use crate::posted::Posted;

@@ -1,7 +1,6 @@
 // What is allowed in a script and hardly meant, line by line.
 ghost use Rattle.std.specs.Prelude.{◌≡◌, ◌++◌, ◌∷◌, ◌||◌, [], Bool, IfOk, List, OnOk, suc, take};
 ghost use Rattle.script_lines.specs.Reading.{phrase_at};
-ghost use Rattle.script_text.specs.Spelling.{line_cut};
 ghost use Rattle.script_advice.specs.Doubts.{are_some, doubt_if, doubt_of, doubt_remark, doubted_words, doubts, with_doubts, is_unset, name_doubt, near_set, or_words, role_doubt, way_after_line};
 ghost use Rattle.script_advice.specs.Remarks.{Remark, some_names, word_or_none};
 ghost use Rattle.script_advice.specs.Near.{nearest};

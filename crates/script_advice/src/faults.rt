@@ -1,5 +1,5 @@
 // The first wrong word of a line, and what is wrong with it.
-ghost use Rattle.std.specs.Prelude.{◌≡◌, Some, length, take, drop};
+ghost use Rattle.std.specs.Prelude.{◌≡◌, Some, take, drop};
 ghost use Rattle.std.specs.List.{list_any};
 ghost use Rattle.script_lines.specs.Table.{is_half, key_length};
 ghost use Rattle.script_lines.specs.Reading.{first_word};

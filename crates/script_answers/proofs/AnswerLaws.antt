@@ -18,13 +18,12 @@ use Rattle.pod_runner.specs.Session.{Setting}
 use Rattle.pod_runner.specs.declared.phase.RunErr.{RunErr}
 use Rattle.pod_runner.specs.declared.phase.RunErr.TheVariants as fails
 use Rattle.pod_runner.specs.declared.session.Made.{Made}
-use Rattle.pod_runner.specs.declared.session.Took.{Took}
 use Rattle.script_answers.proofs.KnownLaws.{advanced-before, advanced-called, advanced-still, replies-grow, round-ends, round-goes-on}
 use Rattle.script_answers.specs.Answers.{AnswersSay, IsCutOff, IsStopped, IsTold}
-use Rattle.script_answers.specs.Replies.{Known, agents_after, answers_after, answers_before, event_of, known_after_call, known_after_steps, nothing_known, replies_in, texts_told}
+use Rattle.script_answers.specs.Replies.{Known, agents_after, event_of, known_after_call, known_after_steps, nothing_known, replies_in, texts_told}
 use Rattle.script_gate.specs.Posted.{IsPosted}
 use Rattle.script_gate.specs.Stocked.{stock_of}
-use Rattle.script_plan.proofs.PlanLaws.{Came, Finished, came, finished, part-all, prefix-all, prefix-more, whole-is, whole-of}
+use Rattle.script_plan.proofs.PlanLaws.{Came, came, finished, part-all, prefix-all, prefix-more, whole-is, whole-of}
 use Rattle.script_plan.specs.Planned.{plan_of}
 use Rattle.script_program.specs.Bodies.{bodies_of, body_next}
 use Rattle.script_program.specs.declared.body.ThreadBody.{ThreadBody}
@@ -33,7 +32,7 @@ use Rattle.script_session.proofs.SaidLaws.{IsRanEnd}
 use Rattle.script_session.specs.declared.session.Session.{Session}
 use Rattle.script_session.specs.declared.session.SessionEnd.{SessionEnd}
 use Rattle.script_session.specs.declared.session.SessionEnd.TheVariants as end
-use Rattle.script_session.specs.SoFar.{opening_run, session_at}
+use Rattle.script_session.specs.SoFar.{opening_run}
 use Rattle.script_text.specs.Script.{proc_names}
 use Rattle.script_text.specs.declared.script.Script.{Script}
 use Rattle.std.proofs.Common.{Err, List, None, Ok, Option, Result, Some, [], ap, arith, false, refl, subst, sym, ℕ, ◌++◌, ◌+◌, ◌-◌, ◌∙◌, ◌≡◌, ◌≢◌, ◌≤◌}

@@ -1,15 +1,15 @@
 -- Numbers that rise: the last is the greatest, and halving finds each.
-use Rattle.lwp_types.specs.ListLaws.{All-push, All-weaker}
+use Rattle.lwp_types.specs.ListLaws.{All-push}
 use Rattle.script_answers.specs.Replies.{is_among}
 use Rattle.script_answers.specs.Rising.{AreRising}
-use Rattle.std.proofs.Common.{Bool, Err, List, Ok, Result, [], ap, arith, eqb, false, get_or, inl, inr, length, refl, suc, sym, true, zero, ℕ, ◌++◌, ◌∙◌, ◌∷◌, ◌<◌, ◌≡◌, ◌≤◌, ◌+◌}
+use Rattle.std.proofs.Common.{Err, List, Ok, Result, [], ap, arith, false, get_or, inl, inr, length, suc, sym, zero, ℕ, ◌++◌, ◌∷◌, ◌<◌, ◌≡◌, ◌≤◌, ◌+◌}
 use Rattle.std.proofs.lemmas.Bool.{cases_lt, eq-eqb, ne_eqb}
 use Rattle.std.proofs.lemmas.Bool.Decides.{nat_tests}
 use Rattle.std.proofs.lemmas.Cmp.{ranked}
 use Rattle.std.proofs.lemmas.List.Elements.{All-from_get_or}
 use Rattle.std.proofs.lemmas.List.Folds.{list_any_at, list_any_none}
 use Rattle.std.proofs.lemmas.List.Sorted.{IsNonDecreasingBy-from_default}
-use Rattle.std.specs.List.{AllByRecursion, list_any}
+use Rattle.std.specs.List.{AllByRecursion}
 use Rattle.std.specs.List.Sorted.{IsBinarySearchResult, IsNonDecreasingBy, IsSearchInRange}
 use Rattle.std.specs.Ordering.{nat_cmp, ordering_index}
 use Rattle.std.specs.Prelude.{nat_eq}

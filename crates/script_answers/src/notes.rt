@@ -1,6 +1,6 @@
 // What is known of a client while its session is played.
 ghost use Rattle.std.specs.Prelude.{◌≡◌, ◌∷◌, ◌++◌, [], if◌then◌else◌, IfOk, OnOk};
-ghost use Rattle.script_answers.specs.Replies.{agent_born, agent_event, agents_after, is_among, is_event, reply_line, texts_told, with_agent};
+ghost use Rattle.script_answers.specs.Replies.{agent_born, agent_event, agents_after, is_among, is_event, reply_line, texts_told};
 
 use crate::event_agents::Agents;
 use lwp_types::{Call, NoMemory, Text, Tid};

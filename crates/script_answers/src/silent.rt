@@ -1,5 +1,5 @@
 // A sink that takes a trace nobody wants.
-ghost use Rattle.std.specs.Prelude.{◌≡◌, None};
+ghost use Rattle.std.specs.Prelude.{None};
 
 use lwp_types::{Failed, Sink};
 

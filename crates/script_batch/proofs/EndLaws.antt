@@ -8,7 +8,7 @@ use Rattle.script_session.specs.Outcome.{outcome_of}
 use Rattle.script_session.specs.declared.session.Session.{Session}
 use Rattle.script_session.specs.declared.session.SessionEnd.{SessionEnd}
 use Rattle.script_session.specs.declared.session.SessionEnd.TheVariants as end
-use Rattle.std.proofs.Common.{List, Option, [], arith, refl, subst, sym, ℕ, ◌≡◌, ◌≤◌}
+use Rattle.std.proofs.Common.{List, Option, [], arith, refl, subst, sym, ℕ, ◌≡◌}
 use Rattle.whole_streams.specs.Limited.{IsReadUp, IsReadWithin}
 use Rattle.whole_streams.specs.Streams.{IsFaultless, IsFaulty, IsQuiet, Stream}
 use Rattle.whole_streams.specs.Writing.{AppendsPart}

@@ -3,7 +3,7 @@ use Rattle.batch.specs.Parts.{parts_of}
 use Rattle.batch.specs.declared.part.Part.{Part}
 use Rattle.script_batch.specs.Batch.{HasBad, IsInput, Reports}
 use Rattle.script_batch.specs.Report.{report_of}
-use Rattle.std.proofs.Common.{Err, List, None, Ok, Option, Some, ap, arith, inl, inr, length, length-take, refl, sym, take, take_all, true, ℕ, ◌<◌, ◌∙◌, ◌≡◌, ◌≤◌}
+use Rattle.std.proofs.Common.{Err, List, None, Ok, Option, Some, ap, arith, inl, inr, length, length-take, refl, sym, take, take_all, ℕ, ◌<◌, ◌∙◌, ◌≡◌}
 use Rattle.std.proofs.lemmas.Bool.{cases_lt, lt-ltb}
 use Rattle.whole_streams.specs.Limited.{HasFront}
 

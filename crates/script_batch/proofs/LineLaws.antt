@@ -1,6 +1,6 @@
 -- The lines of parts, one after another.
 use Rattle.script_batch.specs.Report.{lines_from}
-use Rattle.std.proofs.Common.{List, [], ap, append-nil, append_assoc, arith, codes, decimal, drop, length, refl, suc, sym, zero, ℕ, ◌++◌, ◌+◌, ◌∙◌, ◌∷◌, ◌≡◌}
+use Rattle.std.proofs.Common.{List, ap, append_assoc, codes, decimal, suc, sym, ℕ, ◌++◌, ◌+◌, ◌∙◌, ◌∷◌, ◌≡◌}
 
 -- the line of a part
 abbrev pub line_at : ℕ → List ℕ → List ℕ

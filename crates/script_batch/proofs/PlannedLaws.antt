@@ -1,6 +1,5 @@
 -- From the clauses of a script's session, whose trace was counted, to the numbers that are told of it.
 use Rattle.whole_streams.specs.Counting.{Counting}
-use Rattle.lwp_types.specs.Streams.{after_append}
 use Rattle.pod_runner.specs.declared.session.Took.{Took}
 use Rattle.script_batch.specs.Report.{counts_of, counts_at_end}
 use Rattle.script_batch.specs.declared.report.Counts.{Counts}

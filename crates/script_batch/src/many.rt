@@ -1,6 +1,6 @@
 // An input of many scripts is read, and reported on.
 ghost use Rattle.std.specs.Prelude.{◌≡◌, ◌≤◌, All, IfErr, IfOk, Ok, OnOk};
-ghost use Rattle.batch.specs.Parts.{LiesIn, parts_of};
+ghost use Rattle.batch.specs.Parts.{LiesIn};
 ghost use Rattle.script_batch.specs.Batch.{IsBatch, IsInput, IsNoInput};
 ghost use Rattle.script_batch.specs.Report.{report_of};
 ghost use Rattle.whole_streams.specs.Limited.{IsReadUp};

@@ -1,5 +1,5 @@
 // The script as bytes.
-ghost use Rattle.std.specs.Prelude.{◌≡◌, ◌++◌, ◌<◌, ◌^◌, ◌+◌, codes, IfOk, OnOk};
+ghost use Rattle.std.specs.Prelude.{◌≡◌, ◌++◌, ◌<◌, ◌^◌, ◌+◌, IfOk, OnOk};
 ghost use Rattle.script_maker.specs.Made.{each, client_line, declarations, procedure, command, past, post_line, round, rounds, made_script};
 ghost use Rattle.script_maker.specs.Order.{IsAllowed};
 

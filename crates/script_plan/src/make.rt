@@ -1,5 +1,5 @@
 // A script is made and run, and its session is summed up.
-ghost use Rattle.std.specs.Prelude.{◌≡◌, ◌≤◌, [], IfOk, OnOk, IsErrOf, length};
+ghost use Rattle.std.specs.Prelude.{◌≡◌, ◌≤◌, IfOk, OnOk, IsErrOf, length};
 ghost use Rattle.lwp_types.specs.Streams.{Rose, after_append};
 ghost use Rattle.script_plan.specs.Make.{IsMake, is_over, summary_at_end};
 ghost use Rattle.script_maker.specs.Order.{IsAllowed};

@@ -1,6 +1,6 @@
 // Standard input and standard output.
 ghost use Rattle.std.specs.Prelude.{◌≡◌, ◌<◌, ◌≤◌, [], false, true, IfOk, IsErr, IsTrue, OnErr, OnOk, length};
-ghost use Rattle.std.specs.Io.KnownBytes.{Keeps, ReadConsumes, WriteAppends};
+ghost use Rattle.std.specs.Io.KnownBytes.{ReadConsumes};
 
 use crate::until_fault::UntilFault;
 use lwp_types::{Failed, Sink, Source};

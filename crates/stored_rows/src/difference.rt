@@ -1,5 +1,5 @@
 // The first line at which two texts differ.
-ghost use Rattle.std.specs.Prelude.{◌≡◌, ◌≤◌, ◌<◌, ◌+◌, ◌∷◌, [], IfSome, IfNone, length, take, drop};
+ghost use Rattle.std.specs.Prelude.{◌≡◌, ◌≤◌, ◌<◌, ◌+◌, IfSome, IfNone, length, take, drop};
 ghost use Rattle.stored_rows.specs.Lines.{IsFirstDifference, lines, line_end};
 
 /// A line at which two texts differ: its number, counted from 1, and what it is in each; empty, where a text has ended before it.

@@ -1,10 +1,7 @@
 // The page of a trace.
 ghost use Rattle.std.specs.Prelude.{◌≡◌, ◌++◌, true, ℕ, is_some, None, Some, OnOk, IfErr};
 ghost use Rattle.trace_lines.specs.Entries.{entry_of};
-ghost use Rattle.trace_page.specs.Frame.{tail};
 ghost use Rattle.trace_page.specs.Page.{after_line, after_lines, bad_line, group_if_shown, groups, page, whole_lines};
-ghost use Rattle.trace_page.specs.Scene.{opening};
-ghost use Rattle.trace_page.specs.Steps.{after_finish};
 
 use crate::frame::add_head;
 use crate::scene::Scene;

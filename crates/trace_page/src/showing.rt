@@ -1,5 +1,5 @@
 // A trace is read, and its page is written.
-ghost use Rattle.std.specs.Prelude.{◌≡◌, ◌++◌, [], IfOk, OnOk, map, string_bytes};
+ghost use Rattle.std.specs.Prelude.{◌≡◌, ◌++◌, IfOk, OnOk, map, string_bytes};
 ghost use Rattle.trace_page.specs.View.{EndSays, ViewSays, fault_text, line_front, status_of};
 ghost use Rattle.trace_page.specs.Words.{window_of};
 ghost use Rattle.whole_streams.specs.Streams.{sides};

@@ -1,8 +1,8 @@
 // What a line makes of all that is known, and what is drawn for it.
 ghost use Rattle.std.specs.Prelude.{◌≡◌, ◌++◌, ◌&&◌, OnOk};
-ghost use Rattle.trace_page.specs.Scene.{after_begin, after_draw, after_put, blank, lane_of, need_of, one_more, opening, place, same_bool, together, with_lane};
+ghost use Rattle.trace_page.specs.Scene.{after_begin, after_draw, after_put, blank, lane_of, need_of, one_more, opening, place, together, with_lane};
 ghost use Rattle.trace_page.specs.Spans.{after_change, next_hold};
-ghost use Rattle.trace_page.specs.Steps.{after_act, after_also, after_answer, after_call, after_carry_out, after_count, after_create, after_die, after_entry, after_event, after_exit, after_finish, after_give_up, after_grant, after_leave, after_meet, after_meet_thread, after_name, after_note, after_park, after_report, after_say, after_send, after_set, after_settle, after_show_answer, after_speak, after_tick, after_trap, all_due, arrival_shapes, asking, drawable, due, has_waited, is_call, is_past, is_shown, may_wait, owner_of, room, wait_shapes, wake_shapes, with_agent, with_closing, words_of};
+ghost use Rattle.trace_page.specs.Steps.{after_act, after_also, after_answer, after_call, after_carry_out, after_count, after_create, after_die, after_entry, after_event, after_exit, after_finish, after_give_up, after_grant, after_leave, after_meet, after_name, after_note, after_park, after_report, after_say, after_send, after_set, after_settle, after_show_answer, after_speak, after_tick, after_trap, all_due, arrival_shapes, asking, drawable, due, has_waited, is_call, is_past, is_shown, may_wait, owner_of, room, wait_shapes, wake_shapes, with_agent, with_closing, words_of};
 
 use crate::scene::{Kind, Lane, Moment, Naming, Need, Scene, Setting, Shape, Span, Way, Words};
 use crate::spans::{Change, add_bars, add_kept, agent_of, level_of, monitor_at, top_level};

@@ -1,5 +1,5 @@
 // A sink that counts what it takes.
-ghost use Rattle.std.specs.Prelude.{◌≡◌, ◌<◌, ◌≤◌, ◌++◌, [], IfOk, OnErr, length, take};
+ghost use Rattle.std.specs.Prelude.{◌≡◌, ◌<◌, ◌≤◌, [], IfOk, OnErr, length, take};
 ghost use Rattle.lwp_types.specs.Streams.{after_append, HasCause};
 
 use crate::told::{More, Told};

@@ -4,7 +4,6 @@ use Rattle.lwp_types.specs.Agents.{new_agent}
 use Rattle.lwp_types.specs.State.{State, opening_thread}
 use Rattle.lwp_types.specs.declared.call.Line.{Line}
 use Rattle.pod_runner.specs.Due.{numbers_to}
-use Rattle.pod_runner.specs.declared.session.Took.{Took}
 use Rattle.std.specs.Prelude.{None, Some, [], codes, map, ℕ, ◌+◌, ◌∷◌}
 use Rattle.worked_rows.specs.Limits.{alone}
 use Rattle.worked_rows.specs.Words.{Row, line, named, plain, pod, posted, procedure, speaking, took}

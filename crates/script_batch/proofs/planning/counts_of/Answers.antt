@@ -1,6 +1,6 @@
 use Rattle.script_batch.proofs.PlannedLaws.{ended-of, told-is}
 use Rattle.script_plan.specs.Make.{is_over}
-use Rattle.std.proofs.Common.{refl, rules, true, ◌≡◌}
+use Rattle.std.proofs.Common.{rules, true, ◌≡◌}
 use Rattle.script_batch.proofs.planning.counts_of.Goals as goal
 
 pub counts_at_end-requires : goal.counts_at_end-requires

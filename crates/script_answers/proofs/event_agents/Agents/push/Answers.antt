@@ -1,7 +1,7 @@
 use Rattle.script_answers.proofs.RisingLaws.{rising-push}
 use Rattle.script_answers.proofs.event_agents.Agents.push.Goals as goal
 use Rattle.script_answers.proofs.event_agents.Agents.push.Goals.{else-self, then-self}
-use Rattle.std.proofs.Common.{ap, sym, ◌∙◌}
+use Rattle.std.proofs.Common.{sym, ◌∙◌}
 
 pub invariant_of-self-2 : goal.invariant_of-self-2
 invariant_of-self-2 c = elim c.if-self.branch [
