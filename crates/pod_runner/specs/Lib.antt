@@ -14,7 +14,5 @@ pub mod Does
 pub mod Keeps
 pub mod Takes
 pub mod RunParts
-pub mod Live
-pub mod Inlets
 pub mod Laws
 pub mod SessionMoves

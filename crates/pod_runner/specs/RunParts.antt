@@ -8,11 +8,11 @@ use Rattle.trace_text.specs.Lines.{step_lines}
 use Rattle.std.specs.Prelude.{List, Option, ℕ, ◌≡◌}
 
 -- how the session stands that these are
-abbrev pub live_of : {B M : Type 0} → RunParts B M → Live B
+abbrev pub live_of : {B : Type 0} → RunParts B → Live B
 live_of parts = record { pod = parts.pod; rows = parts.rows; names = parts.env }
 
 -- the effects of the last step
-abbrev pub last_step_effects : {B M : Type 0} → RunParts B M → List Effect
+abbrev pub last_step_effects : {B : Type 0} → RunParts B → List Effect
 last_step_effects parts = with_call_by parts.caller parts.call parts.effects
 
 -- a step was made, in which this line was taken, if any, and these are its lines; the procedures are named so

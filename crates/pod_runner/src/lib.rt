@@ -3,16 +3,13 @@
 //! A `Run` is seen as what it plays, the lines that it has taken and how many calls it has made. Its contract is that it plays the
 //! session of the definition (`specs/Session.antt`, `specs/Play.antt`): each `turn` is one more call and each `offer` one more take,
 //! whose lines are written before it returns. `run` takes lines from a gate, each as soon as it can be delivered, and goes on until
-//! the session has ended (`specs/Eager.antt`, `specs/Over.antt`). It stands on the pod of `lwp_calls`, the events of `pod_events`, the gates of `event_gate` and
-//! the lines of `trace_text`, for every kind of body, program, gate and sink.
+//! the session has ended (`specs/Eager.antt`, `specs/Over.antt`). It stands on the pod of `lwp_calls`, the events of `pod_events`, the
+//! gates of `event_gate` and the lines of `trace_text`, for every kind of body, program, gate and sink.
 #![tactic(auto)]
 
 mod calls;
 mod drive;
-mod drive_live;
-mod inlets;
 mod laws;
-mod live;
 mod parts;
 mod phase;
 mod playing;
@@ -22,9 +19,7 @@ mod session;
 mod take_list;
 
 pub use drive::{go_round, run};
-pub use drive_live::run_live;
 pub use laws::{every_session, every_session_moves};
-pub use live::Live;
 pub use phase::{Phase, RunErr};
 pub use playing::Run;
 pub use session::{Made, Row, Took};

@@ -1,6 +1,7 @@
 // What a run moves: the pod with its own events, each live thread's body, and the names.
-ghost use Rattle.std.specs.Prelude.{◌≡◌, ◌++◌, ◌<◌, IfNone, IfOk, IfSome, OnOk, IsSome, IsTrue, None, Some, [], slice_get, length};
+ghost use Rattle.std.specs.Prelude.{◌≡◌, ◌++◌, ◌<◌, ◌≤◌, ◌^◌, IfNone, IfOk, IfSome, OnOk, IsSome, IsTrue, None, Some, [], slice_get, length};
 ghost use Rattle.std.specs.Slice.Scan.{HoldsNowhere, IsFirstPlace};
+ghost use Rattle.lwp_types.specs.State.{opening};
 ghost use Rattle.pod_events.specs.Events.{is_takeable, quiet_events};
 ghost use Rattle.pod_events.specs.Machine.{current_of};
 ghost use Rattle.pod_events.specs.Step.{event_step, leads};
@@ -15,8 +16,9 @@ use crate::calls::made_among;
 use crate::row_list::RowList;
 use crate::rows::{proc_of, settle};
 use crate::{Made, Phase, Took};
-use lwp_types::{Call, Effects, Env, NoMemory, PodEnd, Polled, Program, Tid};
-use pod_events::{Driven, EventPod, Machine};
+use lwp_calls::Pod;
+use lwp_types::{Call, Effects, Env, NoMemory, PodEnd, PodParams, Polled, Program, Tid};
+use pod_events::{Driven, EventPod};
 use std::alloc::Global;
 use text_list::TextList;
 use trace_text::StepLines;
@@ -73,9 +75,9 @@ fn carry_out<'s, M: Driven<'s>>(
     }
 }
 
-/// A machine of threads, with its own events, and its threads' bodies.
-pub(crate) struct RunParts<'s, B, M: Machine> {
-    pub(crate) pod: EventPod<'s, M>,
+/// A pod with its threads' bodies.
+pub(crate) struct RunParts<'s, B> {
+    pub(crate) pod: EventPod<'s, Pod<'s>>,
     pub(crate) rows: RowList<'s, B>,
     pub(crate) env: Env,
     pub(crate) effects: Effects<'s>,
@@ -86,7 +88,7 @@ pub(crate) struct RunParts<'s, B, M: Machine> {
 }
 
 // By hand, so that whoever drops one calls this.
-impl<'s, B: Drop, M: Machine> Drop for RunParts<'s, B, M> {
+impl<'s, B: Drop> Drop for RunParts<'s, B> {
     fn drop(self) {
         let RunParts {
             pod: _,
@@ -99,21 +101,26 @@ impl<'s, B: Drop, M: Machine> Drop for RunParts<'s, B, M> {
     }
 }
 
-impl<'s, B: Polled<'s>, M: Driven<'s>> RunParts<'s, B, M> {
+impl<'s, B: Polled<'s>> RunParts<'s, B> {
     ghost use Rattle.pod_runner.specs.RunParts.{live_of, last_step_effects, Moves};
 
     /// The first thread, before its first call.
     pub(crate) fn new<P: Program<B>>(
         alloc: Global,
-        machine: M,
+        params: PodParams,
         program: &P,
         env: Env,
-    ) -> Result<RunParts<'s, B, M>, NoMemory>
+    ) -> Result<RunParts<'s, B>, NoMemory>
+        requires least { 1 ≤ params.maxpri }
+        requires most { params.maxpri ≤ 255 }
+        requires births { 1 ≤ params.births }
+        requires few_births { params.births < 2 ^ 32 }
+        requires procs { 1 ≤ params.procs }
         ensures live { IfOk result
             (λ parts.
             live_of parts
             ≡ record {
-              pod = quiet_events (M.state machine);
+              pod = quiet_events (opening params);
               rows = rows_of_new 0
                   (slice_get (P.bodies program.now) 0);
               names = env;
@@ -123,7 +130,7 @@ impl<'s, B: Polled<'s>, M: Driven<'s>> RunParts<'s, B, M> {
         let mut rows = RowList::new(alloc);
         rows.open(program, 0, Tid { number: 0 })?;
         let effects = Effects::new(alloc)?;
-        let pod = EventPod::new(alloc, machine)?;
+        let pod = EventPod::new(alloc, Pod::new(alloc, params)?)?;
         Ok(RunParts {
             pod,
             rows,

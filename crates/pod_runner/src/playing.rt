@@ -11,7 +11,6 @@ ghost use Rattle.whole_streams.specs.Streams.{sides};
 
 use crate::parts::RunParts;
 use crate::{Made, Phase, RunErr, TakeList, Took};
-use lwp_calls::Pod;
 use lwp_types::{Body, Env, Line, NoMemory, PodParams, Polled, Program, Sink};
 use std::alloc::Global;
 use std::marker::Model;
@@ -21,7 +20,7 @@ use whole_streams::write_all;
 
 /// A run of a program, seen as what it plays and how far it is; its session is the definition's.
 pub struct Run<'s, B: Body, P: Program<B>> {
-    parts: RunParts<'s, B, Pod<'s>>,
+    parts: RunParts<'s, B>,
     program: P,
     // The procedures' names, by number.
     procs: TextList,
@@ -142,8 +141,7 @@ impl<'s, B: Polled<'s>, P: Program<B>> Run<'s, B, P> {
         let mons = env.mon_count();
         let conds = env.cond_count();
         let procs = names_of(alloc, &program)?;
-        let pod = Pod::new(alloc, params)?;
-        let parts = RunParts::new(alloc, pod, &program, env)?;
+        let parts = RunParts::new(alloc, params, &program, env)?;
         Ok(Run {
             parts,
             program,

@@ -31,7 +31,7 @@ use Rattle.lwp_types.specs.Streams.{after_append}
 use Rattle.lwp_types.specs.declared.call.Line.{Line}
 use Rattle.lwp_types.specs.declared.text.Text.{Text}
 use Rattle.pod_runner.specs.Due.{IsDefined}
-use Rattle.pod_runner.specs.Live.{Halts, NoneComes, lines_of_takes, may_lose}
+use Rattle.live_runner.specs.Live.{Halts, NoneComes, lines_of_takes, may_lose}
 use Rattle.pod_runner.specs.Over.{is_wanted, over}
 use Rattle.pod_runner.specs.Run as run
 use Rattle.pod_runner.specs.Run.{AppendsCut, Played}

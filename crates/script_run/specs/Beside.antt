@@ -6,7 +6,7 @@ use Rattle.event_gate.specs.Texts.{lines_from}
 use Rattle.live_clients.specs.Served.{AreServed, texts_of}
 use Rattle.script_program.specs.Bodies.{bodies_of, body_next}
 use Rattle.pod_runner.specs.Does.{RunsOn}
-use Rattle.pod_runner.specs.Live.{lines_of_takes, may_lose}
+use Rattle.live_runner.specs.Live.{lines_of_takes, may_lose}
 use Rattle.pod_runner.specs.Run.{Played}
 use Rattle.whole_streams.specs.Streams.{Stream}
 use Rattle.pod_runner.specs.declared.phase.RunErr.{RunErr}

@@ -4,14 +4,15 @@ ghost use Rattle.live_clients.specs.Served.{Gave, lines_in_all};
 ghost use Rattle.live_clients.specs.Ties.{IsClosed, IsSameOutside, IsTied, all_texts, events_of, intakes};
 ghost use Rattle.script_run.specs.Beside.{AreBack, GoesBeside, KnowAll};
 ghost use Rattle.script_program.specs.Bodies.{bodies_of, body_next};
-ghost use Rattle.pod_runner.specs.Live.{Answers, Halts};
+ghost use Rattle.live_runner.specs.Live.{Answers, Halts};
 ghost use Rattle.std.specs.Prelude.{IfOk, OnOk, Some, false, ◌≡◌};
 ghost use Rattle.whole_streams.specs.Streams.{sides};
 
 use event_gate::Bell;
 use live_clients::{AllPosted, Outside, closed_are_served, draws_keep_ties};
+use live_runner::{Live, run_live};
 use lwp_types::Sink;
-use pod_runner::{Live, Run, RunErr, run_live};
+use pod_runner::{Run, RunErr};
 use script_program::{ScriptProgram, ThreadBody};
 use std::sync::Wait;
 use std::thread::Threads;

@@ -7,8 +7,8 @@
 //! posted among them. A session that has come to its own end has all lines of the script posted, and hands on that they are
 //! (`LiveSession`).
 //!
-//! The crate stands on the readings and ends of `script_session`, the threads and inlets of `live_clients`, and the runs of
-//! `pod_runner`.
+//! The crate stands on the readings and ends of `script_session`, the threads and inlets of `live_clients`, and the live runs of
+//! `live_runner`.
 #![tactic(auto)]
 
 mod beside;

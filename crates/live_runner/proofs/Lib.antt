@@ -1,0 +1,5 @@
+pub mod Armed
+pub mod Lives
+pub mod Looks
+pub mod LiveRounds
+pub mod Serving
