@@ -13,4 +13,3 @@ pub mod Rounds
 pub mod Halts
 pub mod Lawfuls
 pub mod Moving
-pub mod Nexts

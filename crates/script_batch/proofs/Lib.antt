@@ -1,5 +1,4 @@
 mod PlannedLaws
 mod InputLaws
-mod LineLaws
 mod EndLaws
 mod TextLaws
