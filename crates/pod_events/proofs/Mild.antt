@@ -1,6 +1,6 @@
 -- What every change of the machine does, but for the birth of a thread and the last step of a death: nobody comes or goes, and what it
 -- tells is an answer, an exit procedure or a delivery.
-use Rattle.lwp_types.specs.Agents.{after_agent_end, agents_of, deliver, deliver_to, end_agent, event_agents, is_for, message, without_agent}
+use Rattle.lwp_types.specs.Agents.{after_agent_end, agents_of, deliver, deliver_to, end_agent, event_agents, message, without_agent}
 use Rattle.lwp_types.specs.Case.{Case, Check, refusal_case, unless}
 use Rattle.lwp_types.specs.Choice.{best_by}
 use Rattle.lwp_types.specs.Death.{answer_joiners, end_agents, refuse_receivers, refuse_sender, refuse_senders, release_all, run_all_exits, withdraw}
@@ -29,7 +29,6 @@ use Rattle.lwp_types.specs.declared.call.Answer.TheVariants as answer
 use Rattle.lwp_types.specs.declared.call.Effect.TheVariants as effect
 use Rattle.lwp_types.specs.declared.call.ExitCall.TheVariants as exit
 use Rattle.lwp_types.specs.declared.rows.Block.TheVariants as block
-use Rattle.pod_events.specs.Events.{has_agent}
 use Rattle.std.proofs.Common.{Bool, List, None, Option, Some, [], ap, cond, eqb, false, not, option_to_list, refl, true, ℕ, ◌++◌, ◌+◌, ◌-◌, ◌∙◌, ◌∷◌, ◌≡◌, ◌||◌}
 use Rattle.std.proofs.lemmas.Bool.{and_from, and_parts, or_parts}
 use Rattle.std.specs.List.{fold, list_all, list_any}
@@ -47,19 +46,31 @@ is_mild (effect.Ended status) = false
 is_mild (effect.Trapped t e) = false
 is_mild (effect.Rites a d) = false
 
--- no event has an agent that had none
-abbrev pub NoneHears : State → State → Type 0
-NoneHears s after = (e : ℕ) → has_agent s e ≡ false → has_agent after e ≡ false
+-- a test of an agent's number, its event and its owner
+abbrev pub AgentTest : Type 0
+AgentTest = ℕ → ℕ → ℕ → Bool
 
--- nor where the agents are the same
-pub hears_as : (s after : State) → after.agents ≡ s.agents → NoneHears s after
-hears_as s after same e none = ap (list_any (is_for e)) same ∙ none
+-- the agent passes it
+abbrev pub is_such : AgentTest → AgentRow → Bool
+is_such p row = p row.number row.event row.owner
 
--- who lives still does, nobody else does, no event has its first agent, and all that is told is mild
+-- no agent does
+abbrev pub NoSuchAgent : AgentTest → State → Type 0
+NoSuchAgent p s = list_any (is_such p) s.agents ≡ false
+
+-- no agent has come, and none has another event or another owner
+abbrev pub NoAgentComes : State → State → Type 0
+NoAgentComes s after = (p : AgentTest) → NoSuchAgent p s → NoSuchAgent p after
+
+-- so it is where the agents are the same
+pub comes_as : (s after : State) → after.agents ≡ s.agents → NoAgentComes s after
+comes_as s after same p none = ap (list_any (is_such p)) same ∙ none
+
+-- who lives still does, nobody else does, no agent comes, and all that is told is mild
 pub record Mild (s after : State) (es : List Effect) : Type 0 where
   pub tells : list_all is_mild es ≡ true
   pub lives : numbers after.threads ≡ numbers s.threads
-  pub heard : NoneHears s after
+  pub unjoined : NoAgentComes s after
 
 pub all-append : (xs ys : List Effect) → list_all is_mild xs ≡ true → list_all is_mild ys ≡ true → list_all is_mild (xs ++ ys) ≡ true
 all-append [] ys one two = two
@@ -69,11 +80,11 @@ all-append (x ∷ xs) ys one two =
 
 -- nothing is told, and the same live
 pub mild_quiet : (s after : State) → numbers after.threads ≡ numbers s.threads → after.agents ≡ s.agents → Mild s after []
-mild_quiet s after same agents = record { tells = refl; lives = same; heard = hears_as s after agents }
+mild_quiet s after same agents = record { tells = refl; lives = same; unjoined = comes_as s after agents }
 
 pub mild_then : (s : State) (first : Outcome) (more : State → Outcome) → Mild s first.after first.effects → Mild first.after (more first.after).after (more first.after).effects → Mild s (and_then first more).after (and_then first more).effects
 unfolding and_then
-mild_then s first more one two = record { tells = all-append first.effects (more first.after).effects one.tells two.tells; lives = two.lives ∙ one.lives; heard = λ e none. two.heard e (one.heard e none) }
+mild_then s first more one two = record { tells = all-append first.effects (more first.after).effects one.tells two.tells; lives = two.lives ∙ one.lives; unjoined = λ p none. two.unjoined p (one.unjoined p none) }
 
 pub mild_each : {A : Type 0} (change : A → State → Outcome) → ((x : A) (s : State) → Mild s (change x s).after (change x s).effects) → (xs : List A) (s : State) → Mild s (for_each change xs s).after (for_each change xs s).effects
 unfolding for_each
@@ -97,33 +108,33 @@ pub mark_numbers : (t : ℕ) (ms : List Mark) (rows : List ThreadRow) → number
 mark_numbers t ms [] = refl
 mark_numbers t ms (row ∷ rows) = ap (λ ns. row.number ∷ ns) (mark_numbers t ms rows)
 
--- agents that hold a message, or no longer do, are of the same events
-holding_heard : (e a : ℕ) (b : Bool) (rows : List AgentRow) → list_any (is_for e) (with_holding a b rows) ≡ list_any (is_for e) rows
-holding_heard e a b [] = refl
-holding_heard e a b (row ∷ rows) = ap (λ later. eqb row.event e || later) (holding_heard e a b rows)
+-- agents that hold a message, or no longer do, are the same otherwise
+holding_kept : (p : AgentTest) (a : ℕ) (b : Bool) (rows : List AgentRow) → list_any (is_such p) (with_holding a b rows) ≡ list_any (is_such p) rows
+holding_kept p a b [] = refl
+holding_kept p a b (row ∷ rows) = ap (λ later. is_such p row || later) (holding_kept p a b rows)
 
--- without one of them no event has one more
-gone_heard : (e a : ℕ) (rows : List AgentRow) → list_any (is_for e) rows ≡ false → list_any (is_for e) (without_agent a rows) ≡ false
-gone_heard e a [] none = refl
-gone_heard e a (row ∷ rows) none = by_test (is_agent_row a row) (gone_heard e a rows (or_parts (eqb row.event e) (list_any (is_for e) rows) none).1)
+-- without one of them there is none more
+gone_kept : (p : AgentTest) (a : ℕ) (rows : List AgentRow) → list_any (is_such p) rows ≡ false → list_any (is_such p) (without_agent a rows) ≡ false
+gone_kept p a [] none = refl
+gone_kept p a (row ∷ rows) none = by_test (is_agent_row a row) (gone_kept p a rows (or_parts (is_such p row) (list_any (is_such p) rows) none).1)
   where
-    by_test : (c : Bool) → list_any (is_for e) (without_agent a rows) ≡ false → list_any (is_for e) (cond (not c) (row ∷ without_agent a rows) (without_agent a rows)) ≡ false
+    by_test : (c : Bool) → list_any (is_such p) (without_agent a rows) ≡ false → list_any (is_such p) (cond (not c) (row ∷ without_agent a rows) (without_agent a rows)) ≡ false
     by_test true rest = rest
-    by_test false rest = rw ((or_parts (eqb row.event e) (list_any (is_for e) rows) none).0) rest
+    by_test false rest = rw ((or_parts (is_such p row) (list_any (is_such p) rows) none).0) rest
 
 -- single changes
 
 pub mild_unblock : (a : Answer) (t : ℕ) (s : State) → Mild s (unblock a t s).after (unblock a t s).effects
-mild_unblock a t s = record { tells = refl; lives = block_numbers t block.Not s.threads; heard = λ e none. none }
+mild_unblock a t s = record { tells = refl; lives = block_numbers t block.Not s.threads; unjoined = λ p none. none }
 
 mild_grant : (o : Option Request) (s : State) → Mild s (grant o s).after (grant o s).effects
 mild_grant None s = mild_quiet s s refl refl
-mild_grant (Some r) s = record { tells = refl; lives = block_numbers r.tid block.Not s.threads; heard = λ e none. none }
+mild_grant (Some r) s = record { tells = refl; lives = block_numbers r.tid block.Not s.threads; unjoined = λ p none. none }
 
 pub mild_release : (m : ℕ) (s : State) → Mild s (release m s).after (release m s).effects
 mild_release m s =
     let granted = mild_grant (next_owner s m) (record s { locks = without_lock m s.locks }) in
-    record { tells = granted.tells; lives = granted.lives; heard = granted.heard }
+    record { tells = granted.tells; lives = granted.lives; unjoined = granted.unjoined }
 
 pub mild_exited : (m : ℕ) (s : State) → Mild s (after_exit m s).after (after_exit m s).effects
 mild_exited m s = by_depth (nat_le (depth_in s.locks m) 1)
@@ -137,7 +148,7 @@ mild_post letter s = by_test (passes (λ (row : ThreadRow). takes_from letter.fr
   where
     by_test : (b : Bool) → Mild s (cond b (unblock (as_answer letter) letter.to (record s { letters = s.letters ++ as_received letter ∷ [] })) (still (record s { letters = s.letters ++ letter ∷ [] }))).after
         (cond b (unblock (as_answer letter) letter.to (record s { letters = s.letters ++ as_received letter ∷ [] })) (still (record s { letters = s.letters ++ letter ∷ [] }))).effects
-    by_test true = record { tells = refl; lives = block_numbers letter.to block.Not s.threads; heard = λ e none. none }
+    by_test true = record { tells = refl; lives = block_numbers letter.to block.Not s.threads; unjoined = λ p none. none }
     by_test false = mild_quiet s _ refl refl
 
 pub mild_replied : (u : ℕ) (text : List ℕ) (s : State) → Mild s (after_reply u text s).after (after_reply u text s).effects
@@ -145,18 +156,18 @@ mild_replied u text s = by_agent (is_agent s u)
   where
     by_agent : (b : Bool) → Mild s (cond b (still (record s { letters = without_letter u s.letters; agents = with_holding u false s.agents })) (unblock (answer.Reply text) u (record s { letters = without_letter u s.letters }))).after
         (cond b (still (record s { letters = without_letter u s.letters; agents = with_holding u false s.agents })) (unblock (answer.Reply text) u (record s { letters = without_letter u s.letters }))).effects
-    by_agent true = record { tells = refl; lives = refl; heard = λ e none. holding_heard e u false s.agents ∙ none }
-    by_agent false = record { tells = refl; lives = block_numbers u block.Not s.threads; heard = λ e none. none }
+    by_agent true = record { tells = refl; lives = refl; unjoined = λ p none. holding_kept p u false s.agents ∙ none }
+    by_agent false = record { tells = refl; lives = block_numbers u block.Not s.threads; unjoined = λ p none. none }
 
 pub mild_waited : (t c : ℕ) (o : Option Lock) (s : State) → Mild s (after_wait t c o s).after (after_wait t c o s).effects
 mild_waited t c None s = mild_quiet s s refl refl
 mild_waited t c (Some lock) s =
     let freed = mild_release lock.mon (after_block (record s { waits = s.waits ++ record { cond = c; tid = t; depth = lock.depth } ∷ [] }) t (block.Waiting c)) in
-    record { tells = freed.tells; lives = freed.lives ∙ block_numbers t (block.Waiting c) s.threads; heard = freed.heard }
+    record { tells = freed.tells; lives = freed.lives ∙ block_numbers t (block.Waiting c) s.threads; unjoined = freed.unjoined }
 
 pub mild_end_agent : (a : ℕ) (s : State) → Mild s (end_agent a s).after (end_agent a s).effects
 mild_end_agent a s = mild_then s (for_each (unblock nonexist) (receivers_of s a) s) (λ now. still (after_agent_end a now)) (mild_each (unblock nonexist) (mild_unblock nonexist) (receivers_of s a) s)
-    (record { tells = refl; lives = refl; heard = λ e none. gone_heard e a _ none })
+    (record { tells = refl; lives = refl; unjoined = λ p none. gone_kept p a _ none })
 
 woken_numbers : (m : ℕ) (ws : List WaitRow) (s : State) → numbers (fold (λ now w. after_wake m w now) s ws).threads ≡ numbers s.threads
 woken_numbers m [] s = refl
@@ -202,12 +213,12 @@ mild_exit_case s t (exit.Note text) = mild_quiet s s refl refl
 mild_run : (t : ℕ) (x : ExitMark) (s : State) → Mild s (run_exit t x s).after (run_exit t x s).effects
 mild_run t x s =
     let made = mild_exit_case s t x.call in
-    record { tells = all-append (exit_case s t x.call).others _ made.tells refl; lives = made.lives; heard = made.heard }
+    record { tells = all-append (exit_case s t x.call).others _ made.tells refl; lives = made.lives; unjoined = made.unjoined }
 
 pub mild_unwind : (t : ℕ) (kept gone : List Mark) (s : State) → Mild s (unwind t kept gone s).after (unwind t kept gone s).effects
 mild_unwind t kept gone s =
     let run = mild_each (run_exit t) (mild_run t) (exits_of gone) (with_marks_of s t kept) in
-    record { tells = run.tells; lives = run.lives ∙ mark_numbers t kept s.threads; heard = run.heard }
+    record { tells = run.tells; lives = run.lives ∙ mark_numbers t kept s.threads; unjoined = run.unjoined }
 
 -- deliveries
 
@@ -215,7 +226,7 @@ mild_deliver_to : (text : List ℕ) (row : AgentRow) (s : State) → Mild s (del
 mild_deliver_to text row s = mild_then s
     (record { after = record s { agents = with_holding row.number true s.agents }; effects = effect.Delivered row.number row.event ∷ [] })
     (post (message text row))
-    (record { tells = refl; lives = refl; heard = λ e none. holding_heard e row.number true s.agents ∙ none })
+    (record { tells = refl; lives = refl; unjoined = λ p none. holding_kept p row.number true s.agents ∙ none })
     (mild_post _ _)
 
 mild_time_out : (t : ℕ) (s : State) → Mild s (time_out t s).after (time_out t s).effects
@@ -225,7 +236,7 @@ mild_tick : (s : State) → Mild s (tick s).after (tick s).effects
 mild_tick s = mild_then s
     (record { after = after_tick s; effects = effect.Ticked (s.now + 1) ∷ [] })
     (λ now. for_each time_out (due_threads now) now)
-    (record { tells = refl; lives = refl; heard = λ e none. none })
+    (record { tells = refl; lives = refl; unjoined = λ p none. none })
     (mild_each time_out mild_time_out (due_threads (after_tick s)) (after_tick s))
 
 pub mild_deliver : (s : State) (e : ℕ) (text : List ℕ) → Mild s (deliver s e text).after (deliver s e text).effects
@@ -251,7 +262,7 @@ pub mild_agents : (t : ℕ) (s : State) → Mild s (end_agents t s).after (end_a
 mild_agents t s = mild_each end_agent mild_end_agent (agents_of s.agents t) s
 
 mild_refusal : (x : ℕ) (s : State) → Mild s (refuse_sender x s).after (refuse_sender x s).effects
-mild_refusal x s = record { tells = refl; lives = block_numbers x block.Not s.threads; heard = λ e none. none }
+mild_refusal x s = record { tells = refl; lives = block_numbers x block.Not s.threads; unjoined = λ p none. none }
 
 pub mild_senders : (t : ℕ) (s : State) → Mild s (refuse_senders t s).after (refuse_senders t s).effects
 mild_senders t s = mild_each refuse_sender mild_refusal (senders_to s.letters t) s

@@ -1,5 +1,5 @@
 -- What each call of the machine may come to: at most one thread dies by it, and one is born by a Create alone.
-use Rattle.lwp_types.specs.Agents.{end_agent}
+use Rattle.lwp_types.specs.Agents.{end_agent, new_agent}
 use Rattle.lwp_types.specs.Case.{Case, Check, answer_case, is_no_id, refusal_case, silent_case, unless, value_case, with_zero}
 use Rattle.lwp_types.specs.CountLaws.{count-cons, count_found, one, length-failed}
 use Rattle.lwp_types.specs.Death.{answer_joiners, bury, death, destroy, end_agents, refuse_receivers, refuse_senders, release_all, return_from, run_all_exits, withdraw}
@@ -8,7 +8,7 @@ use Rattle.lwp_types.specs.Messages.{next_letter, post, receive_by}
 use Rattle.lwp_types.specs.Monitors.{after_request, enter_case, is_owned_by_other}
 use Rattle.lwp_types.specs.Exceptions.{caught_marks, first_frames, frames, handler_of, later_frames, with_match}
 use Rattle.lwp_types.specs.MonitorRelease.{last_lock}
-use Rattle.lwp_types.specs.State.{Outcome, State, ThreadRow, and_then, in_order, is_agent, is_number, is_thread, marks_in, numbers, still, thread_of}
+use Rattle.lwp_types.specs.State.{Outcome, State, ThreadRow, and_then, in_order, is_agent, is_number, is_thread, marks_in, numbers, passes, still, thread_of}
 use Rattle.lwp_types.specs.Step.{case_of}
 use Rattle.lwp_types.specs.Threads.{after_create, new_thread}
 use Rattle.lwp_types.specs.Unblock.{after_block, after_block_for}
@@ -18,6 +18,7 @@ use Rattle.lwp_types.specs.declared.call.Effect.{Effect}
 use Rattle.lwp_types.specs.declared.call.Flags.{Flags}
 use Rattle.lwp_types.specs.declared.call.Func.{Func}
 use Rattle.lwp_types.specs.declared.call.Mode.{Mode}
+use Rattle.lwp_types.specs.declared.rows.AgentRow.{AgentRow}
 use Rattle.lwp_types.specs.declared.rows.Found.{Found}
 use Rattle.lwp_types.specs.declared.rows.Letter.{Letter}
 use Rattle.lwp_types.specs.declared.call.Call.TheVariants as call
@@ -26,13 +27,13 @@ use Rattle.lwp_types.specs.declared.call.Func.TheVariants as func
 use Rattle.lwp_types.specs.declared.call.LwpErr.TheVariants as error
 use Rattle.lwp_types.specs.declared.call.Mode.TheVariants as mode
 use Rattle.lwp_types.specs.declared.rows.Block.TheVariants as block
-use Rattle.pod_events.proofs.Mild.{Mild, NoneHears, block_numbers, is_mild, mark_numbers, mild_agents, mild_end_agent, mild_exited, mild_exits, mild_joiners, mild_post, mild_quiet, mild_receivers, mild_release, mild_releases, mild_replied, mild_senders, mild_unwind, mild_waited, mild_waking, mild_withdraw, priority_numbers, suspension_numbers, unless_mild}
+use Rattle.pod_events.proofs.Mild.{AgentTest, Mild, NoAgentComes, NoSuchAgent, block_numbers, is_mild, is_such, mark_numbers, mild_agents, mild_end_agent, mild_exited, mild_exits, mild_joiners, mild_post, mild_quiet, mild_receivers, mild_release, mild_releases, mild_replied, mild_senders, mild_unwind, mild_waited, mild_waking, mild_withdraw, priority_numbers, suspension_numbers, unless_mild}
 use Rattle.pod_events.specs.Fates.{births_by, victim}
 use Rattle.pod_events.specs.Rites.{deaths}
 use Rattle.pod_events.specs.Traps.{agent_event_of}
-use Rattle.std.proofs.Common.{Bool, List, None, Option, Some, [], ap, arith, cond, count_by, eqb, false, length, length-append, not, refl, sym, true, ℕ, ◌++◌, ◌+◌, ◌-◌, ◌∙◌, ◌∷◌, ◌≡◌, ◌≤◌, ◌||◌}
-use Rattle.std.proofs.lemmas.Bool.{and_from, and_parts}
-use Rattle.std.specs.List.{list_all}
+use Rattle.std.proofs.Common.{Bool, List, None, Option, Some, [], ap, arith, cond, count_by, eqb, false, filter, length, length-append, not, refl, sym, true, ℕ, ◌++◌, ◌+◌, ◌-◌, ◌∙◌, ◌∷◌, ◌≡◌, ◌≤◌, ◌||◌}
+use Rattle.std.proofs.lemmas.Bool.{and_from, and_parts, or_parts}
+use Rattle.std.specs.List.{list_all, list_any}
 use Rattle.std.proofs.Common.{inl, inr, ◌⊎◌}
 use Rattle.std.specs.Prelude.{is_some, nat_le}
 
@@ -111,13 +112,18 @@ tame-append (x ∷ xs) ys one two =
     let parts = and_parts (is_tame x) (list_all is_tame xs) one in
     and_from _ _ parts.0 (tame-append xs ys parts.1 two)
 
--- by a call of t nobody, or this thread, dies; if t lives, no more of the live are left than are paid for; and no event has its first
--- agent, unless one was asked for
+-- no thread's number passes a test
+abbrev pub NoSuchThread : (ℕ → Bool) → State → Type 0
+NoSuchThread q s = list_any q (numbers s.threads) ≡ false
+
+-- by a call of t nobody, or this thread, dies; if t lives, no more of the live are left than are paid for; no thread comes but the next
+-- to be born, if one is; and no agent but one that t asked for
 pub record Toll (s : State) (t : ℕ) (victim : Option ℕ) (births : ℕ) (asked : Option ℕ) (after : State) (es : List Effect) : Type 0 where
   pub dead : (deaths es ≡ []) ⊎ ((d : ℕ) × (victim ≡ Some d) × (deaths es ≡ d ∷ []))
   pub live : is_thread s t ≡ true → length after.threads + length (deaths es) ≤ length s.threads + births
   pub kept : length after.threads ≤ length s.threads + births
-  pub heard : asked ≡ None → NoneHears s after
+  pub unjoined : (p : AgentTest) → passes (λ e. p s.births e t) asked ≡ false → NoSuchAgent p s → NoSuchAgent p after
+  pub unborn : (q : ℕ → Bool) → (births ≡ 0) ⊎ (q s.births ≡ false) → NoSuchThread q s → NoSuchThread q after
   pub tame : list_all is_tame es ≡ true
 
 pub mild_toll : {s after : State} {es : List Effect} (t : ℕ) (victim : Option ℕ) (births : ℕ) → Mild s after es → Toll s t victim births None after es
@@ -125,7 +131,8 @@ mild_toll {s = s} {after = after} {es = es} t victim births mild = record {
   dead = inl (mild_deathless es mild.tells);
   live = λ lives. omega (arith, ap length (mild_deathless es mild.tells), length-numbers s.threads, length-numbers after.threads, ap length mild.lives);
   kept = omega (arith, length-numbers s.threads, length-numbers after.threads, ap length mild.lives);
-  heard = λ none. mild.heard;
+  unjoined = λ p other. mild.unjoined p;
+  unborn = λ q pays none. ap (list_any q) mild.lives ∙ none;
   tame = mild_tame es mild.tells;
 }
 
@@ -135,7 +142,8 @@ mild_toll {s = s} {after = after} {es = es} t victim births mild = record {
 record Buried (s : State) (t : ℕ) (out : Outcome) : Type 0 where
   pub dead : deaths out.effects ≡ t ∷ []
   pub live : length out.after.threads + count_by (is_number t) s.threads ≡ length s.threads
-  pub heard : NoneHears s out.after
+  pub unjoined : NoAgentComes s out.after
+  pub unborn : (q : ℕ → Bool) → NoSuchThread q s → NoSuchThread q out.after
   pub tame : list_all is_tame out.effects ≡ true
 
 buried_first : (t : ℕ) (change : State → Outcome) (changes : List (State → Outcome)) (s : State) → Mild s (change s).after (change s).effects → Buried (change s).after t (in_order changes (change s).after) → Buried s t (in_order (change ∷ changes) s)
@@ -143,13 +151,23 @@ unfolding in_order and_then
 buried_first t change changes s mild rest = record {
   dead = deaths-append (change s).effects (in_order changes (change s).after).effects ∙ ap (λ ns. ns ++ deaths (in_order changes (change s).after).effects) (mild_deathless (change s).effects mild.tells) ∙ rest.dead;
   live = omega (arith, rest.live, count-numbers t (change s).after.threads s.threads mild.lives, length-numbers s.threads, length-numbers (change s).after.threads, ap length mild.lives);
-  heard = λ e none. rest.heard e (mild.heard e none);
+  unjoined = λ p none. rest.unjoined p (mild.unjoined p none);
+  unborn = λ q none. rest.unborn q (ap (list_any q) mild.lives ∙ none);
   tame = tame-append (change s).effects (in_order changes (change s).after).effects (mild_tame (change s).effects mild.tells) rest.tame;
 }
 
+gone_numbers : (q : ℕ → Bool) (t : ℕ) (rows : List ThreadRow) → list_any q (numbers rows) ≡ false → list_any q (numbers (filter (λ (row : ThreadRow). not (eqb row.number t)) rows)) ≡ false
+gone_numbers q t [] none = refl
+gone_numbers q t (row ∷ rows) none = by_test (eqb row.number t) (gone_numbers q t rows (or_parts (q row.number) (list_any q (numbers rows)) none).1)
+  where
+    by_test : (c : Bool) → list_any q (numbers (filter (λ (row : ThreadRow). not (eqb row.number t)) rows)) ≡ false
+        → list_any q (numbers (cond (not c) (row ∷ filter (λ (row : ThreadRow). not (eqb row.number t)) rows) (filter (λ (row : ThreadRow). not (eqb row.number t)) rows))) ≡ false
+    by_test true rest = rest
+    by_test false rest = rw ((or_parts (q row.number) (list_any q (numbers rows)) none).0) rest
+
 buried_last : (t : ℕ) (s : State) → Buried s t (in_order (bury t ∷ []) s)
 unfolding in_order and_then
-buried_last t s = record { dead = refl; live = length-failed (is_number t) s.threads; heard = λ e none. none; tame = refl }
+buried_last t s = record { dead = refl; live = length-failed (is_number t) s.threads; unjoined = λ p none. none; unborn = λ q none. gone_numbers q t s.threads none; tame = refl }
 
 death_buries : (t : ℕ) (s : State) → Buried s t (death t s)
 death_buries t s =
@@ -176,7 +194,8 @@ death_toll s t u there =
       dead = inr (u, refl, buried.dead);
       live = λ lives. omega (arith, buried.live, ap length buried.dead, lives_once s u (there lives));
       kept = omega (arith, buried.live);
-      heard = λ none. buried.heard;
+      unjoined = λ p other. buried.unjoined p;
+      unborn = λ q pays. buried.unborn q;
       tame = buried.tame;
     }
 
@@ -221,14 +240,26 @@ return_toll s t = by_frames (nat_le 2 (frames (marks_in s t)))
     by_frames true = mild_toll t (Some t) 0 (mild_unwind t (first_frames (frames (marks_in s t) - 1) (marks_in s t)) (later_frames (frames (marks_in s t) - 1) (marks_in s t)) s)
     by_frames false = death_toll s t t (λ lives. lives)
 
+-- one thread more
+added_number : (q : ℕ → Bool) (rows : List ThreadRow) (row : ThreadRow) → list_any q (numbers rows) ≡ false → q row.number ≡ false → list_any q (numbers (rows ++ row ∷ [])) ≡ false
+added_number q [] row none other = rw other refl
+added_number q (x ∷ rows) row none other =
+    let parts = or_parts (q x.number) (list_any q (numbers rows)) none in
+    rw (parts.0) (added_number q rows row parts.1 other)
+
 create_toll : (s : State) (t number prio : ℕ) (flags : Flags) (checks : List Check) (own : Answer) → Toll s t None 1 None (unless s checks (answer_case (after_create s prio flags) own)).after (unless s checks (answer_case (after_create s prio flags) own)).others
 create_toll s t number prio flags checks own = unless_toll t None 1 s checks _ (λ passed. record {
   dead = inl refl;
   live = λ lives. omega (arith, length-append s.threads (new_thread s.births prio flags ∷ []));
   kept = omega (arith, length-append s.threads (new_thread s.births prio flags ∷ []));
-  heard = λ none e unheard. unheard;
+  unjoined = λ p other none. none;
+  unborn = λ q pays none. added_number q s.threads (new_thread s.births prio flags) none (paid q pays);
   tame = refl;
 })
+  where
+    paid : (q : ℕ → Bool) → (◌≡◌ {A = ℕ} 1 0) ⊎ (q s.births ≡ false) → q s.births ≡ false
+    paid q (inl e) = absurd (cc)
+    paid q (inr other) = other
 
 cond_mild : (s : State) (b : Bool) (one two : Case) → Mild s one.after one.others → Mild s two.after two.others → Mild s (cond b one two).after (cond b one two).others
 cond_mild s true one two first second = first
@@ -257,7 +288,7 @@ notified_mild s t p f func.Nothing = caught_mild s t p f
 send_mild : (s : State) (letter : Letter) (t : ℕ) → Mild s (silent_case (post letter (after_block s t block.Sending))).after (silent_case (post letter (after_block s t block.Sending))).others
 send_mild s letter t =
     let posted = mild_post letter (after_block s t block.Sending) in
-    record { tells = posted.tells; lives = posted.lives ∙ block_numbers t block.Sending s.threads; heard = posted.heard }
+    record { tells = posted.tells; lives = posted.lives ∙ block_numbers t block.Sending s.threads; unjoined = posted.unjoined }
 
 checked : {s : State} (t : ℕ) (checks : List Check) (otherwise : Case) → Mild s otherwise.after otherwise.others → Toll s t None 0 None (unless s checks otherwise).after (unless s checks otherwise).others
 checked {s = s} t checks otherwise mild = mild_toll t None 0 (unless_mild s checks otherwise mild)
@@ -265,20 +296,29 @@ checked {s = s} t checks otherwise mild = mild_toll t None 0 (unless_mild s chec
 quiet : {s after : State} → numbers after.threads ≡ numbers s.threads → after.agents ≡ s.agents → Mild s after []
 quiet {s = s} {after = after} same agents = mild_quiet s after same agents
 
+-- one agent more
+added_agent : (p : AgentTest) (rows : List AgentRow) (row : AgentRow) → list_any (is_such p) rows ≡ false → is_such p row ≡ false → list_any (is_such p) (rows ++ row ∷ []) ≡ false
+added_agent p [] row none other = rw other refl
+added_agent p (x ∷ rows) row none other =
+    let parts = or_parts (is_such p x) (list_any (is_such p) rows) none in
+    rw (parts.0) (added_agent p rows row parts.1 other)
+
 -- an Agent changes no thread, and it alone brings an agent
-agent_toll : (s : State) (t e : ℕ) (checks : List Check) (otherwise : Case) → numbers otherwise.after.threads ≡ numbers s.threads → list_all is_mild otherwise.others ≡ true → Toll s t None 0 (Some e) (unless s checks otherwise).after (unless s checks otherwise).others
+agent_toll : (s : State) (t e : ℕ) (checks : List Check) (otherwise : Case) → numbers otherwise.after.threads ≡ numbers s.threads → list_all is_mild otherwise.others ≡ true → ((p : AgentTest) → p s.births e t ≡ false → NoSuchAgent p s → NoSuchAgent p otherwise.after)
+    → Toll s t None 0 (Some e) (unless s checks otherwise).after (unless s checks otherwise).others
 unfolding unless
-agent_toll s t e [] otherwise same tells = record {
+agent_toll s t e [] otherwise same tells joins = record {
   dead = inl (mild_deathless otherwise.others tells);
   live = λ lives. omega (arith, ap length (mild_deathless otherwise.others tells), length-numbers s.threads, length-numbers otherwise.after.threads, ap length same);
   kept = omega (arith, length-numbers s.threads, length-numbers otherwise.after.threads, ap length same);
-  heard = λ none. absurd (cc);
+  unjoined = joins;
+  unborn = λ q pays none. ap (list_any q) same ∙ none;
   tame = mild_tame otherwise.others tells;
 }
-agent_toll s t e (check ∷ checks) otherwise same tells = by_test check.0 (agent_toll s t e checks otherwise same tells)
+agent_toll s t e (check ∷ checks) otherwise same tells joins = by_test check.0 (agent_toll s t e checks otherwise same tells joins)
   where
     by_test : (b : Bool) → Toll s t None 0 (Some e) (unless s checks otherwise).after (unless s checks otherwise).others → Toll s t None 0 (Some e) (cond b (refusal_case s check.1) (unless s checks otherwise)).after (cond b (refusal_case s check.1) (unless s checks otherwise)).others
-    by_test true rest = let toll = mild_toll t None 0 (mild_quiet s s refl refl) in record { dead = toll.dead; live = toll.live; kept = toll.kept; heard = λ none. absurd (cc); tame = toll.tame }
+    by_test true rest = let toll = mild_toll t None 0 (mild_quiet s s refl refl) in record { dead = toll.dead; live = toll.live; kept = toll.kept; unjoined = λ p other none. none; unborn = toll.unborn; tame = toll.tame }
     by_test false rest = rest
 
 -- of every call: the last line is for each that is refused by its checks or else leaves the threads' numbers and the agents as they are
@@ -315,7 +355,7 @@ case_toll s t (call.OnExit x) = checked t _ _ (quiet (mark_numbers t _ s.threads
 case_toll s t (call.Raise p) = checked t _ _ (match_mild s (catch_case s t p) (handler_of s t p) (caught_mild s t p))
 case_toll s t (call.ExcNotify p) = checked t _ _ (match_mild s (λ f. excnotify_case_by s t p f f.func) (handler_of s t p) (λ f. notified_mild s t p f f.func))
 case_toll s t (call.Bound p) = checked t _ _ (match_mild s _ (handler_of s t p) (λ f. mild_quiet s s refl refl))
-case_toll s t (call.Agent e) = agent_toll s t e _ _ refl refl
+case_toll s t (call.Agent e) = agent_toll s t e _ _ refl refl (λ p other none. added_agent p s.agents (new_agent s.births e t) none other)
 case_toll s t call.Agents = mild_toll t None 0 (mild_quiet s s refl refl)
 case_toll s t (call.Trap e) = mild_toll t None 0 (mild_quiet s s refl refl)
 case_toll s t (call.Say text) = mild_toll t None 0 (mild_quiet s s refl refl)

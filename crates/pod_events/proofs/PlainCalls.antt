@@ -6,7 +6,7 @@ use Rattle.lwp_types.specs.declared.call.Effect.{Effect}
 use Rattle.lwp_types.specs.declared.call.LwpErr.TheVariants as error
 use Rattle.pod_events.proofs.Notified.{turn_of}
 use Rattle.pod_events.proofs.QuietPods.{said-none}
-use Rattle.pod_events.proofs.Tolls.{step_deathless, step_heard, step_kept}
+use Rattle.pod_events.proofs.Tolls.{step_deathless, step_kept, step_unjoined}
 use Rattle.pod_events.specs.Events.{EventOutcome, EventState, after_pass_on, has_agent, is_trapped, rites_event}
 use Rattle.pod_events.specs.Fates.{asks_no_event, births_by, is_machines, is_plain, victim}
 use Rattle.pod_events.specs.Machine.{call_effects, current_of}
@@ -68,7 +68,7 @@ module _ (es : EventState) (t : ℕ) (c : Call) (turn : current_of es.state ≡ 
         by_cause (inl nobody) =
             ap (λ ds. cond (has_agent (step es.state c).after rites_event) (dead_to_report es.state ds) []) (step_deathless es.state t (turn_of es.state t turn).chosen c nobody)
             ∙ either (has_agent (step es.state c).after rites_event)
-        by_cause (inr silent) = ap (λ b. cond b (dead_to_report es.state (deaths (step es.state c).effects)) []) (step_heard es.state t (turn_of es.state t turn).chosen c alone.no_agent rites_event silent)
+        by_cause (inr silent) = ap (λ b. cond b (dead_to_report es.state (deaths (step es.state c).effects)) []) (step_unjoined es.state t (turn_of es.state t turn).chosen c (λ n e owner. eqb e rites_event) (ap (passes (λ e. eqb e rites_event)) alone.no_agent) silent)
 
     alone_step : event_step es c ≡ after_pass_on es (step es.state c)
     unfolding event_step event_step_by

@@ -1,12 +1,14 @@
 -- The pod's own events, over a whole session.
 use Rattle.lwp_types.specs.State.{opening}
 use Rattle.pod_events.proofs.ReportLaws.{every_death_is_reported}
+use Rattle.pod_events.proofs.TrapAgents.{traps_have_no_agents}
 use Rattle.pod_events.proofs.TrapLaws.{traps_are_raised_once}
 use Rattle.pod_events.specs.Events.{EventState, quiet_events}
 use Rattle.pod_events.specs.Laws.{is_raised, pends, reports_of_moves}
 use Rattle.pod_events.specs.Moves.{EventMove, after_moves, event_move}
 use Rattle.pod_runner.proofs.Moving.{sessions_are_moves}
-use Rattle.session_laws.specs.Events.{PodEventsAreExact}
+use Rattle.session_laws.specs.Events.{PodEventsAreExact, TrapsHaveNoHearers}
+use Rattle.session_laws.specs.Sessions.{InEverySession}
 use Rattle.std.proofs.Common.{List, [], ap, arith, count_by, refl, sym, ◌++◌, ◌∙◌, ◌∷◌, ◌≡◌}
 
 moved-append : (before later : List EventMove) (es : EventState) → after_moves (before ++ later) es ≡ after_moves later (after_moves before es)
@@ -29,3 +31,8 @@ pod_events_are_exact B setting low high takes n h =
           let none : pends e start ≡ 0 = refl in
           omega (arith, traps_are_raised_once e moved.moves start moved.can, ap (count_by (is_raised e)) moved.effects_are, ap (pends e) moved.pod_is, none);
     }
+
+pub traps_have_no_hearers : (B : Type 0) → InEverySession B TrapsHaveNoHearers
+traps_have_no_hearers B setting low high takes n h =
+    let moved = sessions_are_moves B setting takes n h in
+    rw (moved.pod_is) (traps_have_no_agents.1 moved.moves (quiet_events (opening setting.params)) (traps_have_no_agents.0 (opening setting.params)))

@@ -1,11 +1,11 @@
 -- The pod's own events, over a whole session: deaths are reported, and traps are raised.
 use Rattle.lwp_types.specs.State.{opening}
 use Rattle.pod_events.specs.Events.{EventState, quiet_events}
-use Rattle.pod_events.specs.Laws.{AlwaysHeard, CanMove, is_raised, reports_due, pends, reports_of_moves, traps_in}
+use Rattle.pod_events.specs.Laws.{AlwaysHeard, CanMove, TrapsAreUnheard, is_raised, reports_due, pends, reports_of_moves, traps_in}
 use Rattle.pod_events.specs.Moves.{EventMove, after_moves, effects_of}
 use Rattle.pod_runner.specs.Due.{IsDefined}
 use Rattle.pod_runner.specs.Play.{play}
-use Rattle.pod_runner.specs.Session.{Made, Setting}
+use Rattle.pod_runner.specs.Session.{Made, Session, Setting}
 use Rattle.pod_runner.specs.SessionMoves.{effects_in}
 use Rattle.pod_runner.specs.declared.session.Took.{Took}
 use Rattle.std.specs.List.{count_by}
@@ -30,3 +30,7 @@ abbrev pub PodEventsAreExact : Type 0 → Type 0
 PodEventsAreExact B = (setting : Setting B) → 1 ≤ setting.params.maxpri
     → setting.params.maxpri ≤ 255 → (takes : List Took) (n : ℕ) → IsDefined setting takes n
     → IsExact (quiet_events (opening setting.params)) (play setting takes n).live.pod (play setting takes n).steps
+
+-- no event is both trapped and heard by an agent
+abbrev pub TrapsHaveNoHearers : {B : Type 0} → Session B → Type 0
+TrapsHaveNoHearers session = TrapsAreUnheard session.live.pod

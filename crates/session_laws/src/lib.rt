@@ -9,6 +9,7 @@
 //! | each number is given to one of them, in order | `EachNumberIsGivenOnce` (`specs/Exits.antt`), `StepsNumberExits`, `DeliveriesNumberNone` (`specs/Numbers.antt`) |
 //! | the clock ticks by lines of its event alone; only Create and Agent bear anybody; the number of procedures stays | `StepsKeepTheClock`, `DeliveriesTick`, `StepsBearNone`, `DeliveriesBearNone`, `StepsKeepProcs`, `DeliveriesKeepProcs` (`specs/Numbers.antt`) |
 //! | each death of an unmarked thread is reported once, in order, or waits; each line taken as a trap is raised once, or is to be | `PodEventsAreExact` (`specs/Events.antt`) |
+//! | no event is both trapped and heard by an agent | `TrapsHaveNoHearers` (`specs/Events.antt`) |
 //!
 //! `InEverySession` (`specs/Sessions.antt`) is said of all sessions that there are: whatever bodies do and whenever lines are
 //! taken, after each call and each take.
@@ -20,7 +21,7 @@
 #![tactic(auto)]
 
 ghost use Rattle.session_laws.specs.Deaths.{EachDiesOnce, TheDeadRunNothing, TheDeadStayForgotten};
-ghost use Rattle.session_laws.specs.Events.{PodEventsAreExact};
+ghost use Rattle.session_laws.specs.Events.{PodEventsAreExact, TrapsHaveNoHearers};
 ghost use Rattle.session_laws.specs.Exits.{EachExitHasItsFate, EachExitOnce, EachNumberIsGivenOnce, EachSetExitOnce, TheDeadHaveRunTheirExits};
 ghost use Rattle.session_laws.specs.Numbers.{DeliveriesBearNone, DeliveriesKeepProcs, DeliveriesNumberNone, DeliveriesTick, StepsBearNone, StepsKeepProcs, StepsKeepTheClock, StepsNumberExits};
 ghost use Rattle.session_laws.specs.Sessions.{InEverySession};
@@ -111,4 +112,9 @@ pub fn every_delivery_of_the_procedures()
 /// a trap is raised once, or is to be.
 pub fn every_pod_event<B: Body>()
     ensures { PodEventsAreExact B }
+{}
+
+/// No event is both trapped and heard by an agent.
+pub fn every_trapped_event<B: Body>()
+    ensures { InEverySession B TrapsHaveNoHearers }
 {}
