@@ -18,6 +18,7 @@ mod Dying
 mod OwnSteps
 mod TalkShort
 mod Fadings
+mod Owning
 mod Lost
 mod Phases
 mod Alone

@@ -2,8 +2,9 @@
 use Rattle.answer_laws.proofs.AgentTexts.{At, at_of}
 use Rattle.answer_laws.proofs.Events.{rites_same}
 use Rattle.answer_laws.proofs.Others.{deliveries_leave_it}
-use Rattle.answer_laws.proofs.OwnSteps.{event_is, mute_but, mute_said, others_reply_nothing}
+use Rattle.answer_laws.proofs.OwnSteps.{done_by, event_is, mute_but, mute_said, others_reply_nothing}
 use Rattle.answer_laws.proofs.Owners.{blocked_row, other_row, told_itself}
+use Rattle.answer_laws.proofs.Owning.{IsOwned, is_of_another, owned_at_birth, owned_by_call, owned_by_take, owned_thread, receivers_own, same_owner}
 use Rattle.answer_laws.proofs.PodSteps.{tame_deliver}
 use Rattle.answer_laws.proofs.SessionSteps.{told_any}
 use Rattle.answer_laws.proofs.Sights.{answers_append}
@@ -13,8 +14,9 @@ use Rattle.answer_laws.proofs.Naming.{from_null_names}
 use Rattle.answer_laws.proofs.Openings.{sessions_are_reached}
 use Rattle.answer_laws.proofs.Servings.{Grows, gone_grows, moved_fades, moved_lawful}
 use Rattle.answer_laws.specs.Clients.{Step, replies_of_step, replies_accepted, reply_to}
+use Rattle.answer_laws.specs.Events.{machine_of}
 use Rattle.answer_laws.specs.Served.{CanGoOn, after_move, after_moves, step_of, steps_of}
-use Rattle.answer_laws.specs.Written.{ClientsAreWritten, RepliesAreWritten, is_reply_of, is_reply_to, replies_are_of, text_lines}
+use Rattle.answer_laws.specs.Written.{ClientsAreWritten, OwnersAloneReply, RepliesAreWritten, is_asking_of, is_reply_of, is_reply_to, owns, replies_are_of, text_lines}
 use Rattle.lwp_types.specs.Names.{names_for_poll}
 use Rattle.pod_laws.proofs.Opening.{Lawful-opening}
 use Rattle.pod_runner.specs.Play.{play}
@@ -48,25 +50,28 @@ use Rattle.lwp_types.specs.declared.call.Effect.{Effect}
 use Rattle.lwp_types.specs.declared.call.LwpErr.{LwpErr}
 use Rattle.lwp_types.specs.declared.rows.Block.{Block}
 use Rattle.lwp_types.specs.declared.rows.Letter.{Letter}
+use Rattle.pod_events.proofs.Mild.{NoSuchAgent}
 use Rattle.pod_events.proofs.MildCalls.{case_toll, is_tame}
 use Rattle.pod_events.specs.Events.{EventState, is_trapped, rites_event}
+use Rattle.pod_events.specs.Fates.{births_by}
 use Rattle.pod_events.specs.Rites.{after_first_report, as_rites, report_text, reports_after, after_rites}
 use Rattle.pod_events.specs.Step.{event_step}
 use Rattle.pod_events.specs.Traps.{Trapping, after_call as traps_made, after_call_as, after_machine_step, after_trap, after_trap_and_call as traps_called, agent_event_of, but_call, is_catch, is_given, notice, after_refusal, trap_of, trap_refusal}
 use Rattle.pod_laws.proofs.Chosen.{chosen}
 use Rattle.pod_laws.proofs.Elements.{differ}
 use Rattle.pod_laws.proofs.EveryStep.{Lawful-step}
+use Rattle.pod_laws.proofs.Fading.{deliver_fades}
 use Rattle.pod_laws.proofs.Rowed.{once_threads}
 use Rattle.pod_laws.specs.Waiters.{is_told, is_zero}
 use Rattle.pod_runner.specs.Calls.{call_after_effect, call_with_answer, call_by_effect, call_of_effects, unanswered_call}
 use Rattle.pod_runner.specs.Calls.{is_zero as made_zero}
 use Rattle.pod_runner.specs.Session.{thread_in}
 use Rattle.pod_runner.specs.declared.session.Made.{Made}
-use Rattle.std.proofs.Common.{Bool, List, None, Option, Some, [], ap, append-nil, append_assoc, arith, cond, drop, eqb, false, inl, inr, length, not, refl, subst, sym, true, ℕ, ◌&&◌, ◌++◌, ◌∙◌, ◌∷◌, ◌≡◌, ◌≢◌, ◌≤◌, ◌||◌, ◌⊎◌}
-use Rattle.std.proofs.lemmas.Bool.{and_parts, cases_eq, eq-eqb, eqb-true, ne_eqb}
+use Rattle.std.proofs.Common.{Bool, List, None, Option, Some, [], ap, append-nil, append_assoc, arith, cond, drop, eqb, false, inl, inr, length, not, refl, subst, sym, true, ℕ, ◌&&◌, ◌++◌, ◌<◌, ◌∙◌, ◌∷◌, ◌≡◌, ◌≢◌, ◌≤◌, ◌||◌, ◌⊎◌}
+use Rattle.std.proofs.lemmas.Bool.{and_from, and_parts, cases_eq, cases_lt, eq-eqb, eqb-true, ne_eqb, or_parts}
 use Rattle.std.specs.List.{fold, list_all, list_any}
 use Rattle.std.specs.Option.{option_to_list}
-use Rattle.std.specs.Prelude.{is_none, map, nat_lt, option_map}
+use Rattle.std.specs.Prelude.{is_none, is_some, map, nat_lt, option_map}
 use Rattle.lwp_types.specs.declared.call.Answer.TheVariants as answer
 use Rattle.lwp_types.specs.declared.call.Call.TheVariants as call
 use Rattle.lwp_types.specs.declared.call.Effect.TheVariants as effect
@@ -223,22 +228,33 @@ unreported t dead after was free = rites_same t dead (deliver after rites_event 
 
 -- ---- what a caller is told
 
--- of a call: an accepted reply is the last word, and goes to somebody who was there; and an agent that is given is new
-pub record Heard (st : State) (c : Call) (xs : List Answer) : Type 0 where
-  pub reply : (v : ℕ) (text : List ℕ) → c ≡ call.Reply v text → (last_zero false xs ≡ list_any is_zero xs) × (list_any is_zero xs ≡ true → is_id st v ≡ true)
-  pub agent : (e b : ℕ) → c ≡ call.Agent e → last_thread None xs ≡ Some b → b ≡ st.births
+-- v is there, and if it is an agent, t is its owner
+pub record IsRepliedTo (t v : ℕ) (st : State) : Type 0 where
+  pub there : is_id st v ≡ true
+  pub owned : NoSuchAgent (is_of_another t v) st
+
+-- the number was the next to be given, and it was
+pub record IsGiven (b : ℕ) (st after : State) : Type 0 where
+  pub next : b ≡ st.births
+  pub born : b < after.births
+
+-- of a call of t: an accepted reply is the last word, and goes to somebody who was there, an agent's to that of t; and an agent that is
+-- given is new
+pub record Heard (t : ℕ) (st : State) (c : Call) (after : State) (xs : List Answer) : Type 0 where
+  pub reply : (v : ℕ) (text : List ℕ) → c ≡ call.Reply v text → (last_zero false xs ≡ list_any is_zero xs) × (list_any is_zero xs ≡ true → IsRepliedTo t v st)
+  pub agent : (e b : ℕ) → c ≡ call.Agent e → last_thread None xs ≡ Some b → IsGiven b st after
 
 -- its effects so
-pub record Says (t : ℕ) (st : State) (c : Call) (es : List Effect) : Type 0 where
+pub record Says (t : ℕ) (st : State) (c : Call) (after : State) (es : List Effect) : Type 0 where
   pub rest : List Effect
   pub is : es ≡ effect.Called t c ∷ rest
-  pub heard : Heard st c (answers_to t rest)
+  pub heard : Heard t st c after (answers_to t rest)
 
 -- what becomes of a step: its call is told, perhaps behind a trap, or none is
-pub data Form (t : ℕ) (st : State) (c : Call) (es : List Effect) : Type 0 where
-  Plain : Says t st c es → Form t st c es
-  Behind : (e : ℕ) (fs : List Effect) → es ≡ effect.Trapped t e ∷ fs → Says t st c fs → Form t st c es
-  Muffled : call_of_effects es ≡ None → ((s a : ℕ) → replies_of_step s a es ≡ []) → Form t st c es
+pub data Form (t : ℕ) (st : State) (c : Call) (after : State) (es : List Effect) : Type 0 where
+  Plain : Says t st c after es → Form t st c after es
+  Behind : (e : ℕ) (fs : List Effect) → es ≡ effect.Trapped t e ∷ fs → Says t st c after fs → Form t st c after es
+  Muffled : call_of_effects es ≡ None → ((s a : ℕ) → replies_of_step s a es ≡ []) → Form t st c after es
 
 module _ (t : ℕ) (c : Call) where
   abbrev Headed : List Effect → Type 0
@@ -262,6 +278,15 @@ module _ (t : ℕ) (c : Call) where
       by_armed true [] = refl
       by_armed false rs = refl
       by_armed true (dead ∷ later) = answers_append t es (map (as_rites dead) (deliver after rites_event (report_text dead)).effects) ∙ ap (λ xs. answers_to t es ++ xs) (unreported t dead after was free) ∙ append-nil (answers_to t es)
+
+-- a report takes no number back
+said_births : (after : State) (es : List Effect) (reports : List ℕ) → after.births ≤ (after_rites after es reports).state.births
+said_births after es reports = by_armed (is_event_armed after rites_event) reports
+  where
+    by_armed : (b : Bool) (rs : List ℕ) → after.births ≤ (cond b (after_first_report after es rs) (record { state = after; reports = rs; effects = es })).state.births
+    by_armed true [] = omega arith
+    by_armed false rs = omega arith
+    by_armed true (dead ∷ later) = (deliver_fades 0 after rites_event (report_text dead)).births
 
 module _ (st : State) (was : Lawful st None) (t : ℕ) (turn : choice st ≡ Some t) where
   free_now : IsFree st t
@@ -293,10 +318,10 @@ module _ (st : State) (was : Lawful st None) (t : ℕ) (turn : choice st ≡ Som
 
   record Replied (v : ℕ) (out : Outcome) : Type 0 where
     agrees : last_zero false (answers_to t out.effects) ≡ list_any is_zero (answers_to t out.effects)
-    there : list_any is_zero (answers_to t out.effects) ≡ true → is_id st v ≡ true
+    there : list_any is_zero (answers_to t out.effects) ≡ true → IsRepliedTo t v st
     free : IsFree out.after t
 
-  replied_made : (v : ℕ) (text : List ℕ) (made : Case) (xs : List Answer) → answers_to t made.others ++ option_to_list made.own ≡ xs → last_zero false xs ≡ list_any is_zero xs → (list_any is_zero xs ≡ true → is_id st v ≡ true) → IsFree made.after t → Replied v (step_outcome t (call.Reply v text) made)
+  replied_made : (v : ℕ) (text : List ℕ) (made : Case) (xs : List Answer) → answers_to t made.others ++ option_to_list made.own ≡ xs → last_zero false xs ≡ list_any is_zero xs → (list_any is_zero xs ≡ true → IsRepliedTo t v st) → IsFree made.after t → Replied v (step_outcome t (call.Reply v text) made)
   replied_made v text made xs is agrees there free =
       let told_so = told_itself t (call.Reply v text) made ∙ is in
       record {
@@ -322,7 +347,7 @@ module _ (st : State) (was : Lawful st None) (t : ℕ) (turn : choice st ≡ Som
           by_same (inl same) = ap (option_map (λ (row : ThreadRow). row.block)) (subst (λ n. thread_of (unblock (answer.Reply text) n (record st { letters = without_letter v st.letters })).after t ≡ Some (record here.row { block = block.Not })) (sym same) (blocked_row t block.Not st.threads here.row here.known))
           by_same (inr other) = ap (option_map (λ (row : ThreadRow). row.block)) (other_row v t block.Not st.threads other) ∙ free_now
 
-      by_kind : is_id st v ≡ true → (b d : Bool) → eqb v t ≡ d
+      by_kind : IsRepliedTo t v st → (b d : Bool) → eqb v t ≡ d
           → (case_of st t (call.Reply v text) ≡ with_zero (cond b (still (record st { letters = without_letter v st.letters; agents = with_holding v false st.agents })) (unblock (answer.Reply text) v (record st { letters = without_letter v st.letters }))))
           → Replied v (step_outcome t (call.Reply v text) (case_of st t (call.Reply v text)))
       by_kind there true d e is = subst (λ made. Replied v (step_outcome t (call.Reply v text) made)) (sym is) (replied_made v text (with_zero (still (record st { letters = without_letter v st.letters; agents = with_holding v false st.agents }))) (zero_answer ∷ []) refl refl (λ any. there) free_now)
@@ -331,12 +356,12 @@ module _ (st : State) (was : Lawful st None) (t : ℕ) (turn : choice st ≡ Som
 
       by_checks : Checked st (is_no_id st v ∷ (is_none (received_letter st.letters t v), error.NoWait) ∷ (passes (λ (letter : Letter). nat_lt letter.room (length text)) (received_letter st.letters t v), error.InvalidArg) ∷ []) (with_zero (after_reply v text st)) → Replied v (step_outcome t (call.Reply v text) (case_of st t (call.Reply v text)))
       by_checks (Struck e is) = subst (λ made. Replied v (step_outcome t (call.Reply v text) made)) (sym is) (replied_made v text (refusal_case st e) (answer.Refused e ∷ []) refl refl (λ any. absurd (cc)) free_now)
-      by_checks (Free passed is) = by_kind (not_not (is_id st v) passed.0) (is_agent st v) (eqb v t) refl is
+      by_checks (Free passed is) = by_kind (record { there = not_not (is_id st v) passed.0; owned = receivers_own st was t v passed.1.0 }) (is_agent st v) (eqb v t) refl is
 
   -- ---- an agent
 
   record Given (out : Trapping) : Type 0 where
-    new : (b : ℕ) → last_thread None (answers_to t out.effects) ≡ Some b → b ≡ st.births
+    new : (b : ℕ) → last_thread None (answers_to t out.effects) ≡ Some b → IsGiven b st out.state
     lawful : Lawful out.state None
     free : IsFree out.state t
 
@@ -346,22 +371,22 @@ module _ (st : State) (was : Lawful st None) (t : ℕ) (turn : choice st ≡ Som
       ask : Call
       ask = call.Agent e
 
-      new_of : (out : Outcome) (xs : List Answer) → answers_to t out.effects ≡ xs → ((b : ℕ) → last_thread None xs ≡ Some b → b ≡ st.births) → (b : ℕ) → last_thread None (answers_to t out.effects) ≡ Some b → b ≡ st.births
+      new_of : (out : Outcome) (xs : List Answer) → answers_to t out.effects ≡ xs → ((b : ℕ) → last_thread None xs ≡ Some b → IsGiven b st out.after) → (b : ℕ) → last_thread None (answers_to t out.effects) ≡ Some b → IsGiven b st out.after
       new_of out xs is new b given = new b (ap (last_thread None) (sym is) ∙ given)
 
       by_checks : Checked st (((eqb e 0) || nat_lt 32 e, error.InvalidArg) ∷ is_full 256 st.agents ∷ is_at_limit st.births st ∷ []) (answer_case (after_agent_birth st t e) (answer.Thread st.births))
-          → ((b : ℕ) → last_thread None (answers_to t (step_outcome t (call.Agent e) (case_of st t (call.Agent e))).effects) ≡ Some b → b ≡ st.births) × IsFree (step_outcome t (call.Agent e) (case_of st t (call.Agent e))).after t
+          → ((b : ℕ) → last_thread None (answers_to t (step_outcome t (call.Agent e) (case_of st t (call.Agent e))).effects) ≡ Some b → IsGiven b st (step_outcome t (call.Agent e) (case_of st t (call.Agent e))).after) × IsFree (step_outcome t (call.Agent e) (case_of st t (call.Agent e))).after t
       by_checks (Struck why is) = (
         new_of (step_outcome t (call.Agent e) (case_of st t (call.Agent e))) (answer.Refused why ∷ []) (ap (λ made. answers_to t (step_outcome t (call.Agent e) made).effects) is ∙ told_itself t (call.Agent e) (refusal_case st why)) (λ b bad. absurd (cc)),
         ap (λ made. (sight (step_outcome t (call.Agent e) made).after t).waits) is ∙ free_now,
       )
       by_checks (Free passed is) = (
-        new_of (step_outcome t (call.Agent e) (case_of st t (call.Agent e))) (answer.Thread st.births ∷ []) (ap (λ made. answers_to t (step_outcome t (call.Agent e) made).effects) is ∙ told_itself t (call.Agent e) (answer_case (after_agent_birth st t e) (answer.Thread st.births))) (λ b same. sym (unsome same)),
+        new_of (step_outcome t (call.Agent e) (case_of st t (call.Agent e))) (answer.Thread st.births ∷ []) (ap (λ made. answers_to t (step_outcome t (call.Agent e) made).effects) is ∙ told_itself t (call.Agent e) (answer_case (after_agent_birth st t e) (answer.Thread st.births))) (λ b same. record { next = sym (unsome same); born = omega (arith, unsome same, ap (λ (made : Case). made.after.births) is) }),
         ap (λ made. (sight (step_outcome t (call.Agent e) made).after t).waits) is ∙ free_now,
       )
 
-      stepped_so : ((b : ℕ) → last_thread None (answers_to t (step st (call.Agent e)).effects) ≡ Some b → b ≡ st.births) × IsFree (step st (call.Agent e)).after t
-      stepped_so = subst (λ (out : Outcome). ((b : ℕ) → last_thread None (answers_to t out.effects) ≡ Some b → b ≡ st.births) × IsFree out.after t) (sym (step_is (call.Agent e))) (by_checks (checked st _ _))
+      stepped_so : ((b : ℕ) → last_thread None (answers_to t (step st (call.Agent e)).effects) ≡ Some b → IsGiven b st (step st (call.Agent e)).after) × IsFree (step st (call.Agent e)).after t
+      stepped_so = subst (λ (out : Outcome). ((b : ℕ) → last_thread None (answers_to t out.effects) ≡ Some b → IsGiven b st out.after) × IsFree out.after t) (sym (step_is (call.Agent e))) (by_checks (checked st _ _))
 
       refused_so : answers_to t (effect.Called t (call.Agent e) ∷ effect.Answered t (answer.Refused error.InUse) ∷ []) ≡ answer.Refused error.InUse ∷ []
       refused_so = rw (eq-eqb t t refl) refl
@@ -383,11 +408,14 @@ module _ (st : State) (was : Lawful st None) (t : ℕ) (turn : choice st ≡ Som
     rest_told : (c : Call) → answers_to t (drop 1 (All c)) ≡ answers_to t (All c)
     rest_told c = sym (ap (answers_to t) (headed_all c))
 
+    abbrev After : Call → State
+    After c = (after_rites (traps_made st trapped t c).state (traps_made st trapped t c).effects reports).state
+
     abbrev ReplyGoal : ℕ → Call → Type 0
-    ReplyGoal v c = (last_zero false (answers_to t (drop 1 (All c))) ≡ list_any is_zero (answers_to t (drop 1 (All c)))) × (list_any is_zero (answers_to t (drop 1 (All c))) ≡ true → is_id st v ≡ true)
+    ReplyGoal v c = (last_zero false (answers_to t (drop 1 (All c))) ≡ list_any is_zero (answers_to t (drop 1 (All c)))) × (list_any is_zero (answers_to t (drop 1 (All c))) ≡ true → IsRepliedTo t v st)
 
     abbrev AgentGoal : ℕ → Call → Type 0
-    AgentGoal b c = last_thread None (answers_to t (drop 1 (All c))) ≡ Some b → b ≡ st.births
+    AgentGoal b c = last_thread None (answers_to t (drop 1 (All c))) ≡ Some b → IsGiven b st (After c)
 
     reply_goal : (v : ℕ) (text : List ℕ) → ReplyGoal v (call.Reply v text)
     reply_goal v text =
@@ -401,9 +429,10 @@ module _ (st : State) (was : Lawful st None) (t : ℕ) (turn : choice st ≡ Som
     agent_goal e b given =
         let g = given_made trapped e in
         let out = traps_made st trapped t (call.Agent e) in
-        g.new b (ap (last_thread None) (sym (rest_told (call.Agent e) ∙ said_answers t (call.Agent e) out.state out.effects reports g.lawful g.free)) ∙ given)
+        let new = g.new b (ap (last_thread None) (sym (rest_told (call.Agent e) ∙ said_answers t (call.Agent e) out.state out.effects reports g.lawful g.free)) ∙ given) in
+        record { next = new.next; born = omega (arith, new.born, said_births out.state out.effects reports) }
 
-  says_made : (trapped : List Bool) (c : Call) (reports : List ℕ) → Says t st c (after_rites (traps_made st trapped t c).state (traps_made st trapped t c).effects reports).effects
+  says_made : (trapped : List Bool) (c : Call) (reports : List ℕ) → Says t st c (after_rites (traps_made st trapped t c).state (traps_made st trapped t c).effects reports).state (after_rites (traps_made st trapped t c).state (traps_made st trapped t c).effects reports).effects
   says_made trapped c reports = record {
     rest = drop 1 (All trapped reports c);
     is = headed_all trapped reports c;
@@ -421,30 +450,41 @@ trapped_said t e after es reports = by_armed (is_event_armed after rites_event) 
     by_armed false rs = refl
     by_armed true (dead ∷ later) = refl
 
-module _ (es : EventState) (was : Lawful es.state None) (t : ℕ) (turn : choice es.state ≡ Some t) (c : Call) where
-  abbrev Done : Trapping → List Effect
-  Done out = (after_rites out.state out.effects (reports_after es.state out.state es.reports out.effects)).effects
+trapped_state : (t e : ℕ) (after : State) (es : List Effect) (reports : List ℕ) → (after_rites after es reports).state ≡ (after_rites after (effect.Trapped t e ∷ es) reports).state
+trapped_state t e after es reports = by_armed (is_event_armed after rites_event) reports
+  where
+    by_armed : (b : Bool) (rs : List ℕ) → (cond b (after_first_report after es rs) (record { state = after; reports = rs; effects = es })).state ≡ (cond b (after_first_report after (effect.Trapped t e ∷ es) rs) (record { state = after; reports = rs; effects = effect.Trapped t e ∷ es })).state
+    by_armed true [] = refl
+    by_armed false rs = refl
+    by_armed true (dead ∷ later) = refl
 
-  form_by : (p : Option ℕ) → Form t es.state c (Done (traps_called es.state es.trapped t c p))
+module _ (es : EventState) (was : Lawful es.state None) (t : ℕ) (turn : choice es.state ≡ Some t) (c : Call) where
+  abbrev Done : Trapping → Outcome
+  Done out = done_by es out
+
+  abbrev FormOf : Outcome → Type 0
+  FormOf out = Form t es.state c out.after out.effects
+
+  form_by : (p : Option ℕ) → FormOf (Done (traps_called es.state es.trapped t c p))
   form_by None = let out = traps_made es.state es.trapped t c in Plain (says_made es.state was t turn es.trapped c (reports_after es.state out.state es.reports out.effects))
   form_by (Some e) = by_given (passes is_given (notice es.state t e)) (passes is_catch (notice es.state t e))
     where
-      muffled : (d : Call) → Form t es.state c (Done (record { state = (step es.state d).after; trapped = es.trapped; effects = effect.Trapped t e ∷ drop 1 (step es.state d).effects }))
+      muffled : (d : Call) → FormOf (Done (record { state = (step es.state d).after; trapped = es.trapped; effects = effect.Trapped t e ∷ drop 1 (step es.state d).effects }))
       muffled d =
           let fs = effect.Trapped t e ∷ drop 1 (step es.state d).effects in
           let reports = reports_after es.state (step es.state d).after es.reports fs in
           Muffled (callless_said (step es.state d).after fs reports (λ ys none. callless_but es.state d ys none)) (λ s a. mute_said s a (step es.state d).after fs reports (λ ys none. mute_but s a es.state d ys none))
 
-      by_given : (b d : Bool) → Form t es.state c (Done (let out = cond b (traps_made es.state es.trapped t c) (cond d (after_machine_step es.trapped (but_call (step es.state (call.ExcNotify e)))) (after_machine_step es.trapped (but_call (step es.state (call.Destroy t))))) in record out { effects = effect.Trapped t e ∷ out.effects }))
+      by_given : (b d : Bool) → FormOf (Done (let out = cond b (traps_made es.state es.trapped t c) (cond d (after_machine_step es.trapped (but_call (step es.state (call.ExcNotify e)))) (after_machine_step es.trapped (but_call (step es.state (call.Destroy t))))) in record out { effects = effect.Trapped t e ∷ out.effects }))
       by_given true d =
           let out = traps_made es.state es.trapped t c in
           let reports = reports_after es.state out.state es.reports (effect.Trapped t e ∷ out.effects) in
-          Behind e (after_rites out.state out.effects reports).effects (trapped_said t e out.state out.effects reports) (says_made es.state was t turn es.trapped c reports)
+          Behind e (after_rites out.state out.effects reports).effects (trapped_said t e out.state out.effects reports) (subst (λ (now : State). Says t es.state c now (after_rites out.state out.effects reports).effects) (trapped_state t e out.state out.effects reports) (says_made es.state was t turn es.trapped c reports))
       by_given false true = muffled (call.ExcNotify e)
       by_given false false = muffled (call.Destroy t)
 
-  pub form_of : Form t es.state c (event_step es c).effects
-  form_of = subst (λ (out : Outcome). Form t es.state c out.effects) (sym (event_is es t c turn)) (form_by es.pending)
+  pub form_of : FormOf (machine_of (event_step es c))
+  form_of = subst FormOf (sym (event_is es t c turn)) (form_by es.pending)
 
 -- ---- what it comes to
 
@@ -452,12 +492,12 @@ module _ (es : EventState) (was : Lawful es.state None) (t : ℕ) (turn : choice
 pub data Kind (c : Call) : Type 0 where
   IsReply : (v : ℕ) (text : List ℕ) → c ≡ call.Reply v text → Kind c
   IsAgent : (e : ℕ) → c ≡ call.Agent e → Kind c
-  IsOther : ((agents : List ℕ) → reply_line agents c ≡ []) → ((a : ℕ) → reply_to a c ≡ []) → agent_event c ≡ None → Kind c
+  IsOther : ((agents : List ℕ) → reply_line agents c ≡ []) → ((a : ℕ) → reply_to a c ≡ []) → ((a : ℕ) → is_reply_to a c ≡ false) → agent_event c ≡ None → Kind c
 
 pub kind_of : (c : Call) → Kind c
 kind_of (call.Reply v text) = IsReply v text refl
 kind_of (call.Agent e) = IsAgent e refl
-kind_of _ = IsOther (λ agents. refl) (λ a. refl) refl
+kind_of _ = IsOther (λ agents. refl) (λ a. refl) (λ a. refl) refl
 
 -- the agent of the event that a call has made, if there is one
 abbrev pub asked : Option ℕ → Option Made → Option ℕ
@@ -465,14 +505,27 @@ asked event None = None
 asked event (Some made) = asked_of event made
 
 -- of a step's call, and of the accepted replies of s to a in the step
-pub record Facts (s e a : ℕ) (st : State) (o : Option Made) (rs : List (List ℕ)) : Type 0 where
+pub record Facts (s e a : ℕ) (st after : State) (o : Option Made) (rs : List (List ℕ)) : Type 0 where
   pub written : is_reply_of s a o ≡ true → texts_told (a ∷ []) o ≡ text_lines rs
   pub unborn : st.births ≤ a → rs ≡ []
   pub new : (b : ℕ) → asked (Some e) o ≡ Some b → b ≡ st.births
   pub untold : texts_told [] o ≡ []
+  -- nobody replies to who isn't born, and to an agent of s nobody else
+  pub unreplied : st.births ≤ a → is_reply_of s a o ≡ true
+  pub of_owner : IsOwned s a st → is_reply_of s a o ≡ true
+  -- if s asks for a, that is the next to be born, and s owns it
+  pub asks : is_asking_of s a o ≡ true → (a ≡ st.births) × IsOwned s a after
 
-no_facts : (s e a : ℕ) (st : State) → Facts s e a st None []
-no_facts s e a st = record { written = λ of. refl; unborn = λ low. refl; new = λ b bad. absurd (cc); untold = refl }
+no_facts : (s e a : ℕ) (st after : State) → Facts s e a st after None []
+no_facts s e a st after = record {
+  written = λ of. refl;
+  unborn = λ low. refl;
+  new = λ b bad. absurd (cc);
+  untold = refl;
+  unreplied = λ low. refl;
+  of_owner = λ owned. refl;
+  asks = λ bad. differ (sym bad);
+}
 
 eqb_turned : (m n : ℕ) → eqb m n ≡ eqb n m
 eqb_turned m n = by_same (cases_eq m n)
@@ -502,15 +555,26 @@ none_of : {X : Type 0} (b : Bool) (xs : List X) → xs ≡ [] → cond b xs [] �
 none_of true xs none = none
 none_of false xs none = refl
 
-module _ (s e a : ℕ) (st : State) (was : Lawful st None) (t : ℕ) where
+-- an accepted reply of another is refuted
+reply_so : (z q d : Bool) → (z ≡ true → q ≡ true → d ≡ false → ⊥) → (not (q && z) || d) ≡ true
+reply_so z false d refuted = refl
+reply_so false true d refuted = refl
+reply_so true true true refuted = refl
+reply_so true true false refuted = absurd (refuted refl refl refl)
+
+module _ (s e a : ℕ) (st after : State) (was : Lawful st None) (t : ℕ) where
+  -- what comes of it where s is given a
+  abbrev pub Bears : Call → Type 0
+  Bears c = births_by c ≡ 0 → t ≡ s → a ≡ st.births → a < after.births → IsOwned s a after
+
   module _ (rest : List Effect) where
     abbrev z : Bool
     z = last_zero false (answers_to t rest)
 
     -- by the call's own words
-    facts_made : (c : Call) → Heard st c (answers_to t rest) → (m : Made) → m.call ≡ c → m.tid ≡ t → m.zero ≡ last_zero false (answers_to t rest) → m.thread ≡ last_thread None (answers_to t rest)
-        → Facts s e a st (Some m) (replies_of_step s a (effect.Called t c ∷ rest))
-    facts_made c heard m call_is tid_is zero_is thread_is = by_kind (kind_of c)
+    facts_made : (c : Call) → Bears c → Heard t st c after (answers_to t rest) → (m : Made) → m.call ≡ c → m.tid ≡ t → m.zero ≡ last_zero false (answers_to t rest) → m.thread ≡ last_thread None (answers_to t rest)
+        → Facts s e a st after (Some m) (replies_of_step s a (effect.Called t c ∷ rest))
+    facts_made c bears heard m call_is tid_is zero_is thread_is = by_kind (kind_of c)
       where
         told_is : (agents : List ℕ) → texts_told agents (Some m) ≡ cond z (reply_line agents c) []
         told_is agents = λ i. cond (zero_is i) (reply_line agents (call_is i)) []
@@ -524,26 +588,53 @@ module _ (s e a : ℕ) (st : State) (was : Lawful st None) (t : ℕ) where
         asked_is : asked (Some e) (Some m) ≡ cond (is_event (Some e) (agent_event c)) (last_thread None (answers_to t rest)) None
         asked_is = λ i. cond (is_event (Some e) (agent_event (call_is i))) (thread_is i) None
 
+        asking_is : is_asking_of s a (Some m) ≡ ((is_some (agent_event c) && passes (λ b. eqb b a) (last_thread None (answers_to t rest))) && eqb t s)
+        asking_is = λ i. (is_some (agent_event (call_is i)) && passes (λ b. eqb b a) (thread_is i)) && eqb (tid_is i) s
+
+        -- what asks for no agent
+        not_asking : (o : Option ℕ) → o ≡ None → agent_event c ≡ o → is_asking_of s a (Some m) ≡ true → (a ≡ st.births) × IsOwned s a after
+        not_asking o none is asking = differ (sym asking ∙ asking_is ∙ ap (λ o. (is_some o && passes (λ b. eqb b a) (last_thread None (answers_to t rest))) && eqb t s) (is ∙ none))
+
+        -- what is no reply to a
+        not_reply : is_reply_to a c ≡ false → is_reply_of s a (Some m) ≡ true
+        not_reply none = of_is ∙ ap (λ b. not (b && z) || eqb t s) none
+
         never : (o : Option ℕ) → o ≡ None → (b : ℕ) → asked (Some e) (Some m) ≡ Some b → agent_event c ≡ o → b ≡ st.births
         never o none b given is = absurd (let bad : None ≡ Some b = sym (ap (λ o. cond (is_event (Some e) o) (last_thread None (answers_to t rest)) None) (is ∙ none)) ∙ sym asked_is ∙ given in cc)
 
-        by_kind : Kind c → Facts s e a st (Some m) (replies_of_step s a (effect.Called t c ∷ rest))
-        by_kind (IsOther lines replies asks) = record {
+        by_kind : Kind c → Facts s e a st after (Some m) (replies_of_step s a (effect.Called t c ∷ rest))
+        by_kind (IsOther lines replies unsaid asks) = record {
           written = λ of. told_is (a ∷ []) ∙ none_of z (reply_line (a ∷ []) c) (lines (a ∷ [])) ∙ ap text_lines (sym (no_line a (eqb t s && list_any (is_told s is_zero) rest) c (replies a)));
           unborn = λ low. no_line a (eqb t s && list_any (is_told s is_zero) rest) c (replies a);
           new = λ b given. never None refl b given asks;
           untold = told_is [] ∙ none_of z (reply_line [] c) (lines []);
+          unreplied = λ low. not_reply (unsaid a);
+          of_owner = λ owned. not_reply (unsaid a);
+          asks = not_asking None refl asks;
         }
         by_kind (IsAgent n is) = record {
           written = λ of. told_is (a ∷ []) ∙ none_of z (reply_line (a ∷ []) c) (ap (reply_line (a ∷ [])) is) ∙ ap text_lines (sym (no_line a (eqb t s && list_any (is_told s is_zero) rest) c (ap (reply_to a) is)));
           unborn = λ low. no_line a (eqb t s && list_any (is_told s is_zero) rest) c (ap (reply_to a) is);
           new = λ b given. by_event b (eqb n e) (sym (ap (λ o. cond (is_event (Some e) o) (last_thread None (answers_to t rest)) None) (ap agent_event is)) ∙ sym asked_is ∙ given);
           untold = told_is [] ∙ none_of z (reply_line [] c) (ap (reply_line []) is);
+          unreplied = λ low. not_reply (ap (is_reply_to a) is);
+          of_owner = λ owned. not_reply (ap (is_reply_to a) is);
+          asks = λ asking. by_parts (and_parts (is_some (agent_event c) && passes (λ b. eqb b a) (last_thread None (answers_to t rest))) (eqb t s) (sym asking_is ∙ asking));
         }
           where
             by_event : (b : ℕ) (d : Bool) → cond d (last_thread None (answers_to t rest)) None ≡ Some b → b ≡ st.births
-            by_event b true given = heard.agent n b is given
+            by_event b true given = (heard.agent n b is given).next
             by_event b false given = absurd (cc)
+
+            by_thread : (o : Option ℕ) → last_thread None (answers_to t rest) ≡ o → passes (λ b. eqb b a) o ≡ true → eqb t s ≡ true → (a ≡ st.births) × IsOwned s a after
+            by_thread None none bad caller = differ (sym bad)
+            by_thread (Some b) given same caller =
+                let new = heard.agent n b is given in
+                let next : a ≡ st.births = sym (eqb-true b a same) ∙ new.next in
+                (next, bears (ap births_by is) (eqb-true t s caller) next (omega (arith, eqb-true b a same, new.born)))
+
+            by_parts : ((is_some (agent_event c) && passes (λ b. eqb b a) (last_thread None (answers_to t rest))) ≡ true) × (eqb t s ≡ true) → (a ≡ st.births) × IsOwned s a after
+            by_parts both = by_thread (last_thread None (answers_to t rest)) refl (and_parts (is_some (agent_event c)) (passes (λ b. eqb b a) (last_thread None (answers_to t rest))) both.0).1 both.1
         by_kind (IsReply v text is) = record {
           written = λ of. told_is (a ∷ []) ∙ ap (λ c. cond z (reply_line (a ∷ []) c) []) is
               ∙ one_line text z (eqb a v) (eqb v a) (eqb t s) (list_any (is_told s is_zero) rest) (eqb_turned a v) (any_is v text is) (sym (ap (λ c. not (is_reply_to a c && z) || eqb t s) is) ∙ sym of_is ∙ of)
@@ -551,29 +642,42 @@ module _ (s e a : ℕ) (st : State) (was : Lawful st None) (t : ℕ) where
           unborn = λ low. ap (λ c. cond (eqb t s && list_any (is_told s is_zero) rest) (reply_to a c) []) is ∙ by_tests low (eqb t s) (list_any (is_told s is_zero) rest) (eqb v a) refl refl refl;
           new = λ b given. never None refl b given (ap agent_event is);
           untold = told_is [] ∙ none_of z (reply_line [] c) (ap (reply_line []) is);
+          unreplied = λ low. of_is ∙ ap (λ c. not (is_reply_to a c && z) || eqb t s) is ∙ reply_so z (eqb v a) (eqb t s) (λ accepted same other. unborn_reply low accepted same);
+          of_owner = λ owned. of_is ∙ ap (λ c. not (is_reply_to a c && z) || eqb t s) is ∙ reply_so z (eqb v a) (eqb t s) (λ accepted same other. others_reply owned accepted same other);
+          asks = not_asking None refl (ap agent_event is);
         }
           where
+            -- whom an accepted reply goes to
+            replied_to : z ≡ true → eqb v a ≡ true → IsRepliedTo t a st
+            replied_to accepted same = subst (λ n. IsRepliedTo t n st) (eqb-true v a same) ((heard.reply v text is).1 (sym (heard.reply v text is).0 ∙ accepted))
+
+            unborn_reply : st.births ≤ a → z ≡ true → eqb v a ≡ true → ⊥
+            unborn_reply low accepted same = differ (sym (replied_to accepted same).there ∙ unborn_absent st was a low)
+
+            others_reply : IsOwned s a st → z ≡ true → eqb v a ≡ true → eqb t s ≡ false → ⊥
+            others_reply owned accepted same other =
+                let to = replied_to accepted same in
+                differ (sym (eq-eqb t s (same_owner s t a st to.there (owned_thread s a st owned) owned.no_other to.owned)) ∙ other)
+
             by_tests : st.births ≤ a → (d any q : Bool) → eqb t s ≡ d → list_any (is_told s is_zero) rest ≡ any → eqb v a ≡ q → cond (d && any) (cond q (text ∷ []) []) [] ≡ []
             by_tests low false any q e f g = refl
             by_tests low true false q e f g = refl
             by_tests low true true false e f g = refl
-            by_tests low true true true e f g =
-                let there = (heard.reply v text is).1 (sym (heard.reply v text is).0 ∙ sym (any_is v text is e) ∙ f) in
-                differ (sym there ∙ ap (is_id st) (eqb-true v a g) ∙ unborn_absent st was a low)
+            by_tests low true true true e f g = absurd (unborn_reply low (sym (any_is v text is e) ∙ f) g)
 
-    facts_called : (c : Call) → Heard st c (answers_to t rest) → Facts s e a st (call_of_effects (effect.Called t c ∷ rest)) (replies_of_step s a (effect.Called t c ∷ rest))
-    facts_called c heard =
+    facts_called : (c : Call) → Bears c → Heard t st c after (answers_to t rest) → Facts s e a st after (call_of_effects (effect.Called t c ∷ rest)) (replies_of_step s a (effect.Called t c ∷ rest))
+    facts_called c bears heard =
         let m = unanswered_call t c in
-        subst (λ o. Facts s e a st o (replies_of_step s a (effect.Called t c ∷ rest))) (sym (call_stays m rest))
-        (facts_made c heard (fold call_after_effect m rest) (same_call m rest).0 (same_call m rest).1 (heard_call m rest).0 (heard_call m rest).1)
+        subst (λ o. Facts s e a st after o (replies_of_step s a (effect.Called t c ∷ rest))) (sym (call_stays m rest))
+        (facts_made c bears heard (fold call_after_effect m rest) (same_call m rest).0 (same_call m rest).1 (heard_call m rest).0 (heard_call m rest).1)
 
-  facts_said : (c : Call) (es : List Effect) → Says t st c es → Facts s e a st (call_of_effects es) (replies_of_step s a es)
-  facts_said c es says = subst (λ es. Facts s e a st (call_of_effects es) (replies_of_step s a es)) (sym says.is) (facts_called says.rest c says.heard)
+  facts_said : (c : Call) (es : List Effect) → Bears c → Says t st c after es → Facts s e a st after (call_of_effects es) (replies_of_step s a es)
+  facts_said c es bears says = subst (λ es. Facts s e a st after (call_of_effects es) (replies_of_step s a es)) (sym says.is) (facts_called says.rest c bears says.heard)
 
-  pub facts_form : (c : Call) (es : List Effect) → Form t st c es → Facts s e a st (call_of_effects es) (replies_of_step s a es)
-  facts_form c es (Plain says) = facts_said c es says
-  facts_form c es (Behind n fs is says) = subst (λ es. Facts s e a st (call_of_effects es) (replies_of_step s a es)) (sym is) (facts_said c fs says)
-  facts_form c es (Muffled none mute) = subst (λ o. Facts s e a st o (replies_of_step s a es)) (sym none) (subst (Facts s e a st None) (sym (mute s a)) (no_facts s e a st))
+  pub facts_form : (c : Call) (es : List Effect) → Bears c → Form t st c after es → Facts s e a st after (call_of_effects es) (replies_of_step s a es)
+  facts_form c es bears (Plain says) = facts_said c es bears says
+  facts_form c es bears (Behind n fs is says) = subst (λ es. Facts s e a st after (call_of_effects es) (replies_of_step s a es)) (sym is) (facts_said c fs bears says)
+  facts_form c es bears (Muffled none mute) = subst (λ o. Facts s e a st after o (replies_of_step s a es)) (sym none) (subst (Facts s e a st after None) (sym (mute s a)) (no_facts s e a st after))
 
 -- ---- over a session
 
@@ -620,18 +724,24 @@ module _ {B : Type 0} (setting : Setting B) (s e a : ℕ) where
 
   -- ---- a move
 
-  move_facts : (session : Session B) (m : Option Took) → Lawful session.live.pod.state None → Facts s e a session.live.pod.state (call_of session m) (replies_of_step s a (made_of session m).effects)
+  move_facts : (session : Session B) (m : Option Took) → Lawful session.live.pod.state None → Facts s e a session.live.pod.state (after_move setting session m).live.pod.state (call_of session m) (replies_of_step s a (made_of session m).effects)
   unfolding move call_move take_move
   move_facts session None was = by_choice (choice session.live.pod.state) refl
     where
-      by_row : (t : ℕ) → choice session.live.pod.state ≡ Some t → (o : Option (Row B)) → Facts s e a session.live.pod.state (call_of_effects (move_row setting.next setting.bodies session.live t o).effects) (replies_of_step s a (move_row setting.next setting.bodies session.live t o).effects)
-      by_row t turn None = no_facts s e a session.live.pod.state
-      by_row t turn (Some row) = let c = (setting.next row.body (names_for_poll t session.live.names) row.answer).0 in facts_form s e a session.live.pod.state was t c (event_step session.live.pod c).effects (form_of session.live.pod was t turn c)
+      pod : EventState
+      pod = session.live.pod
 
-      by_choice : (o : Option ℕ) → choice session.live.pod.state ≡ o → Facts s e a session.live.pod.state (call_of_effects (move_by setting.next setting.bodies session.live o).effects) (replies_of_step s a (move_by setting.next setting.bodies session.live o).effects)
-      by_choice None is = no_facts s e a session.live.pod.state
+      by_row : (t : ℕ) → choice pod.state ≡ Some t → (o : Option (Row B)) → Facts s e a pod.state (move_row setting.next setting.bodies session.live t o).live.pod.state (call_of_effects (move_row setting.next setting.bodies session.live t o).effects) (replies_of_step s a (move_row setting.next setting.bodies session.live t o).effects)
+      by_row t turn None = no_facts s e a pod.state pod.state
+      by_row t turn (Some row) =
+          let c = (setting.next row.body (names_for_poll t session.live.names) row.answer).0 in
+          facts_form s e a pod.state (event_step pod c).after.state was t c (event_step pod c).effects
+          (λ none caller next born. owned_at_birth s t a pod was c turn none caller (omega (arith, next)) born) (form_of pod was t turn c)
+
+      by_choice : (o : Option ℕ) → choice pod.state ≡ o → Facts s e a pod.state (move_by setting.next setting.bodies session.live o).live.pod.state (call_of_effects (move_by setting.next setting.bodies session.live o).effects) (replies_of_step s a (move_by setting.next setting.bodies session.live o).effects)
+      by_choice None is = no_facts s e a pod.state pod.state
       by_choice (Some t) is = by_row t is (row_of t session.live.rows)
-  move_facts session (Some took) was = subst (Facts s e a session.live.pod.state None) (sym ((others_reply_nothing s a session.live.pod).1 took.event took.line.text)) (no_facts s e a session.live.pod.state)
+  move_facts session (Some took) was = subst (Facts s e a session.live.pod.state (after_move setting session (Some took)).live.pod.state None) (sym ((others_reply_nothing s a session.live.pod).1 took.event took.line.text)) (no_facts s e a session.live.pod.state (after_move setting session (Some took)).live.pod.state)
 
   -- the agents so far stay
   agents_stay : (moves : List (Option Took)) (session : Session B) → More (known session).agents (known (after_moves setting moves session)).agents
@@ -675,7 +785,7 @@ module _ {B : Type 0} (setting : Setting B) (s e a : ℕ) where
       → (end : List ℕ) → end ≡ a ∷ [] → More (known (after_move setting session m)).agents end → Stage session → Stage (after_move setting session m)
   stage_next session m was low of end last more (Before none unsaid silent) = by_asked (asked (Some e) (call_of session m)) (agents_then session m ∙ ap (λ xs. with_agent xs (asked (Some e) (call_of session m))) none)
     where
-      facts : Facts s e a session.live.pod.state (call_of session m) (replies_of_step s a (made_of session m).effects)
+      facts : Facts s e a session.live.pod.state (after_move setting session m).live.pod.state (call_of session m) (replies_of_step s a (made_of session m).effects)
       facts = move_facts session m was
 
       said_none : said (after_move setting session m) ≡ []
@@ -689,7 +799,7 @@ module _ {B : Type 0} (setting : Setting B) (s e a : ℕ) where
       by_asked (Some b) agents = During (agents ∙ ap (λ n. n ∷ []) (first_is (known (after_move setting session m)).agents end b agents last more)) (replies_none ∙ ap text_lines (sym said_none))
   stage_next session m was low of end last more (During one told_so) = by_asked (asked (Some e) (call_of session m)) (agents_then session m ∙ ap (λ xs. with_agent xs (asked (Some e) (call_of session m))) one)
     where
-      facts : Facts s e a session.live.pod.state (call_of session m) (replies_of_step s a (made_of session m).effects)
+      facts : Facts s e a session.live.pod.state (after_move setting session m).live.pod.state (call_of session m) (replies_of_step s a (made_of session m).effects)
       facts = move_facts session m was
 
       replies_so : (known (after_move setting session m)).replies ≡ text_lines (said (after_move setting session m))
@@ -717,9 +827,91 @@ module _ {B : Type 0} (setting : Setting B) (s e a : ℕ) where
   written_of session last (Before none unsaid silent) = absurd (let bad : [] ≡ a ∷ [] = sym none ∙ last in cc)
   written_of session last (During one told_so) = told_so
 
+  -- ---- who replies to an agent
+
+  -- a isn't born yet, or was and s hasn't asked for it, or s owns it; in the first case and the last all replies to it so far are of s
+  data Holding (session : Session B) : Type 0 where
+    Unborn : session.live.pod.state.births ≤ a → owns s a session.steps ≡ false → replies_are_of s a session.steps ≡ true → Holding session
+    Anothers : a < session.live.pod.state.births → owns s a session.steps ≡ false → Holding session
+    Held : IsOwned s a session.live.pod.state → replies_are_of s a session.steps ≡ true → Holding session
+
+  replies_next : (session : Session B) (m : Option Took) → replies_are_of s a session.steps ≡ true → is_reply_of s a (call_of session m) ≡ true → replies_are_of s a (after_move setting session m).steps ≡ true
+  replies_next session m so next =
+      ap (replies_are_of s a) (pushed session m)
+      ∙ list_all-append (λ (step : Sessions.Made). is_reply_of s a (call_in step.take step.effects)) session.steps (made_of session m ∷ [])
+      ∙ and_from (replies_are_of s a session.steps) (replies_are_of s a (made_of session m ∷ [])) so (and_from (is_reply_of s a (call_of session m)) true next refl)
+
+  owns_push : (steps : List Sessions.Made) (step : Sessions.Made) → owns s a steps ≡ false → is_asking_of s a (call_in step.take step.effects) ≡ false → owns s a (steps ++ step ∷ []) ≡ false
+  owns_push [] step none next = rw next refl
+  owns_push (x ∷ steps) step none next =
+      let parts = or_parts (is_asking_of s a (call_in x.take x.effects)) (owns s a steps) none in
+      rw (parts.0) (owns_push steps step parts.1 next)
+
+  owns_next : (session : Session B) (m : Option Took) → owns s a session.steps ≡ false → is_asking_of s a (call_of session m) ≡ false → owns s a (after_move setting session m).steps ≡ false
+  owns_next session m so next = ap (owns s a) (pushed session m) ∙ owns_push session.steps (made_of session m) so next
+
+  moved_owned : (session : Session B) (m : Option Took) → IsOwned s a session.live.pod.state → IsOwned s a (after_move setting session m).live.pod.state
+  unfolding move call_move take_move
+  moved_owned session None owned = by_choice (choice session.live.pod.state)
+    where
+      by_row : (t : ℕ) (o : Option (Row B)) → IsOwned s a (move_row setting.next setting.bodies session.live t o).live.pod.state
+      by_row t None = owned
+      by_row t (Some row) = owned_by_call s a session.live.pod (setting.next row.body (names_for_poll t session.live.names) row.answer).0 owned
+
+      by_choice : (o : Option ℕ) → IsOwned s a (move_by setting.next setting.bodies session.live o).live.pod.state
+      by_choice None = owned
+      by_choice (Some t) = by_row t (row_of t session.live.rows)
+  moved_owned session (Some took) owned = owned_by_take s a session.live.pod took.event took.line.text owned
+
+  holding_next : (session : Session B) (m : Option Took) → Lawful session.live.pod.state None → Holding session → Holding (after_move setting session m)
+  holding_next session m was (Held owned of) = Held (moved_owned session m owned) (replies_next session m of ((move_facts session m was).of_owner owned))
+  holding_next session m was (Anothers high none) = by_asking (is_asking_of s a (call_of session m)) refl
+    where
+      by_asking : (b : Bool) → is_asking_of s a (call_of session m) ≡ b → Holding (after_move setting session m)
+      by_asking true asking = absurd (omega (arith, high, ((move_facts session m was).asks asking).0))
+      by_asking false silent = Anothers (omega (arith, high, (moved_fades setting 0 session m).births)) (owns_next session m none silent)
+  holding_next session m was (Unborn low none of) = by_asking (is_asking_of s a (call_of session m)) refl
+    where
+      next : Session B
+      next = after_move setting session m
+
+      of_next : replies_are_of s a next.steps ≡ true
+      of_next = replies_next session m of ((move_facts session m was).unreplied low)
+
+      by_births : owns s a next.steps ≡ false → (a < next.live.pod.state.births) ⊎ (next.live.pod.state.births ≤ a) → Holding next
+      by_births none (inl high) = Anothers high none
+      by_births none (inr low) = Unborn low none of_next
+
+      by_asking : (b : Bool) → is_asking_of s a (call_of session m) ≡ b → Holding next
+      by_asking true asking = Held ((move_facts session m was).asks asking).1 of_next
+      by_asking false silent = by_births (owns_next session m none silent) (cases_lt a next.live.pod.state.births)
+
+  holdings : (moves : List (Option Took)) (session : Session B) → Lawful session.live.pod.state None → CanGoOn setting moves session → Holding session → Holding (after_moves setting moves session)
+  holdings [] session was can holding = holding
+  holdings (m ∷ ms) session was can holding = holdings ms (after_move setting session m) (moved_lawful setting session m can.0 was) can.1 (holding_next session m was holding)
+
+  held_replies : (session : Session B) → owns s a session.steps ≡ true → Holding session → replies_are_of s a session.steps ≡ true
+  held_replies session its (Unborn low none of) = of
+  held_replies session its (Anothers high none) = differ (sym its ∙ none)
+  held_replies session its (Held owned of) = of
+
+pub owners_alone_reply : (B : Type 0) → OwnersAloneReply B
+owners_alone_reply B setting least most takes n defined s a its =
+    let r = sessions_are_reached B setting takes n defined in
+    let start = opening_session setting in
+    let is : (play setting takes n).steps ≡ (after_moves setting r.moves start).steps = ap (λ (x : Session B). x.steps) r.is in
+    ap (replies_are_of s a) is
+    ∙ held_replies setting s 0 a (after_moves setting r.moves start) (ap (owns s a) (sym is) ∙ its)
+    (holdings setting s 0 a r.moves start (Lawful-opening setting.params least most) r.can (opened (cases_lt a start.live.pod.state.births)))
+  where
+    opened : (a < (opening_session setting).live.pod.state.births) ⊎ ((opening_session setting).live.pod.state.births ≤ a) → Holding setting s 0 a (opening_session setting)
+    opened (inl high) = Anothers high refl
+    opened (inr low) = Unborn low refl refl
+
 pub replies_are_written : (B : Type 0) → RepliesAreWritten B
 unfolding replies_in
-replies_are_written B setting least most takes n defined s e a agents of =
+replies_are_written B setting least most takes n defined s e a agents its =
+    let of = owners_alone_reply B setting least most takes n defined s a its in
     let r = sessions_are_reached B setting takes n defined in
     let start = opening_session setting in
     let is : (play setting takes n).steps ≡ (after_moves setting r.moves start).steps = ap (λ (x : Session B). x.steps) r.is in
@@ -729,8 +921,8 @@ replies_are_written B setting least most takes n defined s e a agents of =
     ∙ ap (λ steps. text_lines (replies_accepted s a (steps_of steps))) (sym is)
 
 pub clients_are_written : ClientsAreWritten
-clients_are_written script least most takes n defined s k in_s in_k event place apart early begins_s body_s begins_k body_k serves lines client e a its agents of = record {
+clients_are_written script least most takes n defined s k in_s in_k event place apart early begins_s body_s begins_k body_k serves lines client e a event_is agents its = record {
   texts = replies_accepted s a (steps_of (session_at script takes n).steps);
   first = from_null_names (bodies_of script) (params_of script) (length script.names.threads) (length script.names.mons) (length script.names.conds) least most takes n defined s k in_s in_k event place apart early begins_s body_s begins_k body_k serves lines a;
-  written = ap (λ o. replies_in o (session_at script takes n).steps) its ∙ replies_are_written ThreadBody (setting_of script) least most takes n defined s e a agents of;
+  written = ap (λ o. replies_in o (session_at script takes n).steps) event_is ∙ replies_are_written ThreadBody (setting_of script) least most takes n defined s e a agents its;
 }

@@ -1,5 +1,6 @@
 -- Steps of two sessions, worked out by hand. The store is thread 1, the client's session 2, and its agent 4.
 use Rattle.answer_laws.specs.Births.{begins_in, is_unsent_till}
+use Rattle.answer_laws.specs.Written.{owns, replies_are_of}
 use Rattle.answer_laws.specs.Clients.{Step, all_sends_to, texts_delivered, replies_accepted}
 use Rattle.lwp_types.specs.Names.{null_id}
 use Rattle.lwp_types.specs.Unblock.{nonexist, zero_answer}
@@ -91,3 +92,15 @@ sent_between = call_made (effect.Called 0 (call.Create 5 2 plain) ∷ effect.Ans
 abbrev pub Wait : List Made → Type 0
 Wait steps = (is_unsent_till 2 1 steps ≡ false) × (is_unsent_till 4 1 steps ≡ true)
     × (is_unsent_till 2 0 steps ≡ true) × (is_unsent_till 1 1 steps ≡ true)
+
+-- thread 1 asks for an agent, 4; a reply of thread 0 to that is refused, and one of thread 1 is accepted
+abbrev pub replied_by_owner : List Made
+replied_by_owner = call_made (effect.Called 1 (call.Agent 1) ∷ effect.Answered 1 (answer.Thread 4) ∷ [])
+    ∷ call_made (effect.Called 0 (call.Reply 4 (codes "no")) ∷ effect.Answered 0 nonexist ∷ [])
+    ∷ call_made (effect.Called 1 (call.Reply 4 (codes "hi")) ∷ effect.Answered 1 zero_answer ∷ [])
+    ∷ []
+
+-- thread 1 owns the agent, and nobody else does; of the accepted replies to it, all are of thread 1
+abbrev pub Own : List Made → Type 0
+Own steps = (owns 1 4 steps ≡ true) × (owns 0 4 steps ≡ false)
+    × (replies_are_of 1 4 steps ≡ true) × (replies_are_of 0 4 steps ≡ false)

@@ -1,7 +1,7 @@
-// Two talks, the steps of two sessions and the births of two threads, worked out by hand.
+// Two talks, the steps of some sessions and the births of two threads, worked out by hand.
 ghost use Rattle.std.specs.Prelude.{[], codes, false, true, ◌∷◌};
 ghost use Rattle.answer_laws.specs.Clients.{IsAnsweredInTurn};
-ghost use Rattle.answer_laws.specs.ClientRows.{Begin, Tells, Wait, asked_and_quit, sent_between, trapped_and_gone, two_created};
+ghost use Rattle.answer_laws.specs.ClientRows.{Begin, Own, Tells, Wait, asked_and_quit, replied_by_owner, sent_between, trapped_and_gone, two_created};
 ghost use Rattle.answer_laws.specs.Rows.{Comes, answers_of_a, answers_of_b, lines_of_a, lines_of_b, talk_of_a, talk_of_b};
 
 /// A client that asks for what another has put, says what is no command, and quits: the other's key isn't there.
@@ -35,4 +35,9 @@ pub fn threads_that_begin()
 /// Who has sent nothing when another is born, whatever else it calls.
 pub fn threads_that_wait()
     ensures { Wait sent_between }
+{}
+
+/// Who owns an agent, and whose replies to it are accepted.
+pub fn threads_that_own()
+    ensures { Own replied_by_owner }
 {}
