@@ -1,5 +1,5 @@
 // The agents under each key, which is their event or their owner.
-ghost use Rattle.std.specs.Prelude.{◌≡◌, ◌++◌, ◌+◌, ◌<◌, ◌≤◌, IsTrue, OnOk, OnErr, [], ◌∷◌, length, slice_get, true, vec_capacity};
+ghost use Rattle.std.specs.Prelude.{◌≡◌, ◌++◌, ◌+◌, ◌<◌, ◌≤◌, IsTrue, OnOk, [], ◌∷◌, length, slice_get, true, vec_capacity};
 ghost use Rattle.lwp_types.specs.State.{all_below, member, without};
 ghost use Rattle.agents.specs.Index.{AreOrdered, IsCut, IsPastLesser, Puts, is_before, is_below, is_up_to, numbers_under};
 

@@ -1,5 +1,5 @@
 // Where the parts of a text lie.
-ghost use Rattle.std.specs.Prelude.{◌≡◌, ◌<◌, ◌≤◌, All, Err, IfOk, IfSome, IsErrOf, Ok, drop, length, ℕ};
+ghost use Rattle.std.specs.Prelude.{◌≡◌, ◌<◌, ◌≤◌, All, Err, IfOk, IfSome, IsErrOf, Ok, length, ℕ};
 ghost use Rattle.batch.specs.Parts.{LiesIn, part_at, parts_of};
 
 use crate::lines::{length_told, line_length};

@@ -19,7 +19,7 @@ use Rattle.lwp_types.specs.Death.{end_agents}
 use Rattle.lwp_types.specs.Lawful.{is_same_option}
 use Rattle.lwp_types.specs.Messages.{receivers_of, without_letter}
 use Rattle.lwp_types.specs.State as machine
-use Rattle.lwp_types.specs.State.{Outcome, State, ThreadRow, agent_of, and_then, for_each, is_agent, is_agent_row, is_not_blocked, is_number, is_thread, passes, still, times_in, with_block}
+use Rattle.lwp_types.specs.State.{Outcome, State, ThreadRow, agent_of, and_then, for_each, is_agent, is_agent_row, is_not_blocked, is_number, is_thread, passes, still, times_in}
 use Rattle.lwp_types.specs.Unblock.{nonexist, unblock}
 use Rattle.lwp_types.specs.declared.call.Answer.{Answer}
 use Rattle.lwp_types.specs.declared.call.Effect.{Effect}

@@ -17,7 +17,7 @@ use Rattle.lwp_types.specs.FirstLaws.{finds_best}
 use Rattle.lwp_types.specs.MonitorRelease.{last_lock}
 use Rattle.lwp_types.specs.State.{State, is_empty, is_thread, passes, priority_in}
 use Rattle.lwp_types.specs.Conditions as machine
-use Rattle.lwp_types.specs.Conditions.{after_wake, after_wake_all, broadcast, cond_send, condition_of, is_condition, notify, waking}
+use Rattle.lwp_types.specs.Conditions.{after_wake, cond_send, condition_of, is_condition, notify, waking}
 use Rattle.lwp_types.specs.declared.call.LwpErr.TheVariants as error
 use Rattle.lwp_types.specs.declared.rows.CondRow.{CondRow}
 use Rattle.lwp_types.specs.declared.rows.WaitRow.{WaitRow}

@@ -1,6 +1,5 @@
 -- A thread that waits for nothing stands nowhere among those that wait.
 use Rattle.conditions.specs.ConditionTable as cond_table
-use Rattle.conditions.specs.declared.waits.WaitRec.{WaitRec}
 use Rattle.death_cleanup.specs.Moves.{after_withdraw, pair_with_block}
 use Rattle.death_cleanup.specs.Ties.{LawfulParts}
 use Rattle.death_cleanup.specs.View.{state_of}
@@ -13,14 +12,13 @@ use Rattle.lwp_types.specs.State.{ThreadRow, is_blocked_in, is_not_blocked, is_t
 use Rattle.lwp_types.specs.declared.rows.Block.{Block}
 use Rattle.lwp_types.specs.declared.rows.Block.TheVariants as block
 use Rattle.monitors.specs.MonitorTable as mon_table
-use Rattle.monitors.specs.declared.requests.EntryRequest.{EntryRequest}
 use Rattle.pod_laws.proofs.Elements.{find_passes}
 use Rattle.pod_laws.proofs.LetterMoves.{letters_counted}
 use Rattle.pod_laws.proofs.LockMoves.{requester_enters, waiter_waits}
 use Rattle.pod_sched.specs.Schedule as sched
-use Rattle.std.proofs.Common.{Bool, List, None, Option, Some, [], ap, arith, count_by, eqb, false, map, not, refl, sym, true, ℕ, ◌&&◌, ◌≤◌, ◌∙◌, ◌∷◌, ◌≡◌}
+use Rattle.std.proofs.Common.{Bool, List, None, Option, Some, [], ap, arith, count_by, eqb, false, map, not, refl, sym, true, ℕ, ◌&&◌, ◌∙◌, ◌∷◌, ◌≡◌}
 use Rattle.std.proofs.lemmas.Bool.{eq-eqb}
-use Rattle.std.specs.List.{filter, find}
+use Rattle.std.specs.List.{find}
 use Rattle.std.specs.Prelude.{is_some}
 
 not_waiting : (b : Block) → not (is_not_blocked b) ≡ false → b ≡ block.Not

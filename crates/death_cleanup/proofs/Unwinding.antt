@@ -18,7 +18,7 @@ use Rattle.lwp_types.specs.Exceptions.{exits_of, is_exit}
 use Rattle.lwp_types.specs.Lawful.{is_same_option}
 use Rattle.lwp_types.specs.ListLaws.{All-weaker}
 use Rattle.lwp_types.specs.State as machine
-use Rattle.lwp_types.specs.State.{Outcome, State, ThreadRow, and_then, for_each, is_number, is_thread, marks_in, row_with_marks, thread_of, with_marks, with_marks_of}
+use Rattle.lwp_types.specs.State.{Outcome, State, ThreadRow, and_then, for_each, is_thread, marks_in, row_with_marks, with_marks, with_marks_of}
 use Rattle.lwp_types.specs.Unblock.{zero_answer}
 use Rattle.lwp_types.specs.declared.call.Effect.{Effect}
 use Rattle.lwp_types.specs.declared.call.Effect.TheVariants as effect

@@ -1,5 +1,5 @@
 // Frames go, and the exit procedures that they have set are run.
-ghost use Rattle.std.specs.Prelude.{◌≡◌, ◌≤◌, IsTrue, Some, map};
+ghost use Rattle.std.specs.Prelude.{◌≡◌, ◌≤◌, Some, map};
 ghost use Rattle.exceptions.specs.Stack.{UnwindsAll, UnwindsTo, unwound_all, unwound_to};
 ghost use Rattle.lwp_types.specs.Death.{run_all_exits};
 ghost use Rattle.lwp_types.specs.Exits.{unwind};

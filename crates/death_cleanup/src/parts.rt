@@ -10,7 +10,7 @@ ghost use Rattle.pod_sched.specs.Schedule as sched;
 ghost use Rattle.death_cleanup.specs.Comes.{CameTo};
 ghost use Rattle.death_cleanup.specs.Moves.{after_wake, pair_with_block};
 ghost use Rattle.death_cleanup.specs.Ties.{InStep};
-ghost use Rattle.death_cleanup.specs.View.{rows_of, state_of};
+ghost use Rattle.death_cleanup.specs.View.{state_of};
 
 use crate::named::Named;
 use crate::rows::Kind;

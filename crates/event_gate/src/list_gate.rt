@@ -1,6 +1,6 @@
 // All lines of the outside in place before a pod runs.
-ghost use Rattle.std.specs.Prelude.{◌≡◌, ◌<◌, All, IfOk, OnOk, length};
-ghost use Rattle.event_gate.specs.Shelves.{after_add_to, after_take_from, bare_rack, first_left, full_shelves, left_in_all, left_of_client};
+ghost use Rattle.std.specs.Prelude.{◌≡◌, ◌<◌, All, IfOk, length};
+ghost use Rattle.event_gate.specs.Shelves.{after_add_to, bare_rack, full_shelves, left_in_all, left_of_client};
 
 use crate::gate::Gate;
 use crate::rack::Rack;

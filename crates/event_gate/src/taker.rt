@@ -1,5 +1,5 @@
 // The end of a port that the runner takes from.
-ghost use Rattle.std.specs.Prelude.{true, ◌≡◌, ◌↔◌, ◌%◌, ◌^◌, ◌∷◌, [], List, IfOk, IfSome, IfNone, IsTrue, IsNone};
+ghost use Rattle.std.specs.Prelude.{true, ◌≡◌, ◌↔◌, ◌%◌, ◌^◌, [], IfOk, IfSome, IfNone, IsTrue, IsNone};
 ghost use Rattle.event_gate.specs.Ends.{TakesLine, FindsNothing, TakesIn, IsTold, IsAllTaken, IsOpen, IsOpenGauge, new_taking, left_of, port_id};
 ghost use Rattle.std.specs.Arc.{arc_value};
 ghost use Rattle.crossbeam_queue.specs.SegTies.{IsSegPassOf};

@@ -1,7 +1,7 @@
 // The two ends of a lane, over one table.
 ghost use Rattle.std.specs.Prelude.{◌≡◌, ◌↔◌, ◌<◌, ◌≤◌, true, false, [], length, IfSome, IfNone, IfOk, IsNone, IsTrue};
 ghost use Rattle.std.specs.Arc.{arc_value};
-ghost use Rattle.lanes.specs.Lane.{after_post, after_take_in, Sees};
+ghost use Rattle.lanes.specs.Lane.{after_post};
 ghost use Rattle.lanes.specs.Ends.{line_more, lane_posting, new_lane_taking, lane_left, LaneTakes, LaneFindsNothing, LaneTakesIn, IsLaneTold, IsLaneTaken, IsAtLane, IsLanePoster, Hits, Misses, TakesInSeat};
 
 use crate::rule::{InLane, Learn, Look, Open, Publish, Reserve, TakeIn};

@@ -1,5 +1,5 @@
 // What a client's text asks for.
-ghost use Rattle.line_server.specs.Commands.{Command, Put, Get, Del, is_key_byte, key_len, put_command, alone, command_by, command_by_word, command_of};
+ghost use Rattle.line_server.specs.Commands.{Put, Get, Del, is_key_byte, key_len, put_command, command_by, command_of};
 ghost use Rattle.line_server.specs.Read.{read_command};
 ghost use Rattle.std.specs.Option.{option_map};
 ghost use Rattle.lwp_types.specs.TextFields.{is_text};

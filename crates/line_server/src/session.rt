@@ -1,7 +1,6 @@
 // A thread that serves the client of one event.
 ghost use Rattle.line_server.specs.Sessions.{session_receives, session_returns, session_replies, session_next, session_next-keeps_lengths, session_opening, session_turn_after_letter, session_reads, session_turn_after_reply, session_turn_after_agent, session_at, session_by};
 ghost use Rattle.line_server.specs.Tables.{is_quit};
-ghost use Rattle.line_server.specs.Turns.{is_replied};
 ghost use Rattle.line_server.specs.declared.session.SessionPlace.TheVariants as place_kind;
 ghost use Rattle.lwp_types.specs.TextFields.{is_text};
 ghost use Rattle.lwp_types.specs.declared.call.Call.TheVariants as call_kind;

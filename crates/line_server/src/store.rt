@@ -1,5 +1,5 @@
 // A thread that keeps tables for those that send to it.
-ghost use Rattle.line_server.specs.Stores.{is_invalid, store_by, store_next, store_next-keeps_lengths, store_opening, store_receives, store_turn_after_letter, store_turn_after_reply, store_tells, served_sender, tables_after};
+ghost use Rattle.line_server.specs.Stores.{store_by, store_next, store_next-keeps_lengths, store_opening, store_receives, store_turn_after_letter, store_turn_after_reply, store_tells, served_sender, tables_after};
 ghost use Rattle.std.specs.Prelude.{◌≡◌, IfOk, OnOk};
 
 use crate::calls::{set_recv, set_reply, set_return, set_word};

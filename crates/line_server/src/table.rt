@@ -1,7 +1,7 @@
 // What one client has put into a store.
 ghost use Rattle.line_server.specs.Commands.{command_of};
 ghost use Rattle.line_server.specs.Tables.{at_key, served_text, served_put, served_del, get_reply};
-ghost use Rattle.lwp_types.specs.TextFields.{is_printable, is_text};
+ghost use Rattle.lwp_types.specs.TextFields.{is_printable};
 ghost use Rattle.std.specs.Prelude.{◌≡◌, ◌≤◌, [], length, IfOk, IsTrue, OnOk};
 
 use crate::command::{Asked, command_of};

@@ -1,5 +1,4 @@
 // How the inlets are opened.
-ghost use Rattle.event_gate.specs.Port.{is_noted};
 ghost use Rattle.live_clients.specs.Inlets.{fresh, is_lane};
 ghost use Rattle.live_clients.specs.Opening.{AreOpen, AreSeated};
 ghost use Rattle.live_clients.specs.Served.{clients_of};

@@ -200,7 +200,6 @@ impl<'s> Drop for Outside<'s> {
 
 impl<'s> Outside<'s> {
     ghost use Rattle.event_gate.specs.Inlet.{EachInlet};
-    ghost use Rattle.event_gate.specs.Shelves.{event_of};
     ghost use Rattle.live_clients.specs.Inlets.{fresh};
     ghost use Rattle.live_clients.specs.Served.{AreServed, Hears, lines_in_all};
     ghost use Rattle.live_clients.specs.Ties.{AreTied, IsClosed, IsSameOutside, IsTied, all_texts, events_of, intakes};

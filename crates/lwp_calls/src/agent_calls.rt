@@ -1,6 +1,6 @@
 // Calls on agents.
-ghost use Rattle.std.specs.Prelude.{◌≡◌, ◌<◌, ◌≤◌, Some, None, IsErr, IsTrue, OnErr, OnOk, [], length};
-ghost use Rattle.death_cleanup.specs.Comes.{Answers, CameTo};
+ghost use Rattle.std.specs.Prelude.{◌≡◌, ◌<◌, ◌≤◌, None, IsErr, IsTrue, OnErr, OnOk, [], length};
+ghost use Rattle.death_cleanup.specs.Comes.{CameTo};
 ghost use Rattle.death_cleanup.specs.Ties.{InStep, LawfulParts};
 ghost use Rattle.death_cleanup.specs.View.{state_of};
 ghost use Rattle.lwp_types.specs.Agents.{after_agent_birth, make_agent};

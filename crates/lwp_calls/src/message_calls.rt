@@ -1,6 +1,6 @@
 // Calls on messages: a sender waits for the reply.
 ghost use Rattle.std.specs.Prelude.{◌≡◌, ◌<◌, ◌≤◌, ◌==◌, ◌∷◌, false, Some, None, IsErr, IsTrue, OnErr, OnOk, length, option_map, []};
-ghost use Rattle.death_cleanup.specs.Comes.{Answers, CameTo};
+ghost use Rattle.death_cleanup.specs.Comes.{CameTo};
 ghost use Rattle.death_cleanup.specs.Ties.{InStep, LawfulParts};
 ghost use Rattle.death_cleanup.specs.View.{state_of};
 ghost use Rattle.lwp_types.specs.Case.{answer_by, list_case};

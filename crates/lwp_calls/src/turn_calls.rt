@@ -1,5 +1,5 @@
 // Calls that move threads in the order.
-ghost use Rattle.std.specs.Prelude.{◌≡◌, ◌≤◌, length, Some, IsTrue, [], None};
+ghost use Rattle.std.specs.Prelude.{◌≡◌, ◌≤◌, length, IsTrue, [], None};
 ghost use Rattle.death_cleanup.specs.Comes.{Answers};
 ghost use Rattle.death_cleanup.specs.Ties.{InStep};
 ghost use Rattle.death_cleanup.specs.View.{state_of};

@@ -1,5 +1,5 @@
 -- What a text may hold, and what it is made of.
-use Rattle.std.specs.Prelude.{ℕ, ◌≤◌, Bool, ◌&&◌, nat_le, List, ◌++◌, ◌∷◌, codes, length, take}
+use Rattle.std.specs.Prelude.{ℕ, ◌≤◌, Bool, ◌&&◌, nat_le, List, ◌++◌, codes, length, take}
 use Rattle.lwp_types.specs.declared.words.Words.{Words}
 use Rattle.lwp_types.specs.declared.words.Words.TheVariants as words
 use Rattle.std.specs.List.{list_all}

@@ -1,4 +1,5 @@
--- What a run is before a step. Callers see the session alone.
+-- What a run is before a step: what the private functions of a run need of it, here and in `live_runner`. Whoever calls
+-- a run from without sees the session alone.
 use Rattle.lwp_types.specs.Poll.{Next}
 use Rattle.pod_runner.specs.Due.{IsDefined}
 use Rattle.pod_runner.specs.Run.{Played, setting_of}

@@ -1,5 +1,5 @@
 // The scheduler.
-ghost use Rattle.std.specs.Prelude.{◌≡◌, ◌+◌, ◌<◌, ◌≤◌, ◌==◌, Some, false, length, option_map, true, IsTrue, IsOk, IfOk, OnOk, OnErr};
+ghost use Rattle.std.specs.Prelude.{◌≡◌, ◌+◌, ◌<◌, ◌≤◌, Some, false, length, option_map, IsTrue, IsOk, IfOk, OnOk, OnErr};
 ghost use Rattle.lwp_types.specs.First.{FindsBest};
 ghost use Rattle.pod_sched.specs.Schedule.{IsOrdered, after_admit, after_block, after_leave, after_pop, after_resched, after_reserve, after_resume, after_set_priority, after_set_timer, after_suspend, after_tick, after_unblock, after_yield, choice, empty_schedule, first_due, first_of, has_timer, is_blocked_in, is_eligible_in, knows, prio_in, priority_in, with_maxpri};
 

@@ -1,6 +1,5 @@
 // The procedures that a text declares.
 ghost use Rattle.std.specs.Prelude.{◌≡◌};
-ghost use Rattle.script_lines.specs.Words.{behind};
 ghost use Rattle.script_text.specs.Declaring.{native_on, only_name, proc_on, spaced_word};
 
 use crate::lines::first_line;

@@ -1,5 +1,5 @@
 // What the statements of a script call. A call is set where the last one lay.
-ghost use Rattle.std.specs.Prelude.{◌≡◌, ◌<◌, ◌≤◌, ◌^◌, length, option_map};
+ghost use Rattle.std.specs.Prelude.{◌≡◌, ◌<◌, ◌^◌, length, option_map};
 ghost use Rattle.lwp_types.specs.declared.call.Call.TheVariants as call_kind;
 ghost use Rattle.script_text.specs.Script.{proc_number, proc_places};
 ghost use Rattle.script_body.specs.Calls.{who_id, exit_call_of, plain_call, lock_call, thread_call, call_of};

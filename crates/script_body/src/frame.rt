@@ -1,5 +1,5 @@
 // A procedure that was begun and hasn't returned.
-ghost use Rattle.std.specs.Prelude.{◌≡◌, ◌==◌, not, length, slice_get, IfOk, OnOk};
+ghost use Rattle.std.specs.Prelude.{◌≡◌, ◌==◌, not, length, slice_get, OnOk};
 ghost use Rattle.script_body.specs.Frame.{opening_frame, with_handler, without_handler, with_caught};
 
 use lwp_types::NoMemory;

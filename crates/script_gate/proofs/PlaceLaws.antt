@@ -1,6 +1,6 @@
 -- What a take and a post more make of the lines by their places, and of the counts.
 use Rattle.event_gate.proofs.ShelfLaws.{Counts, add_next, add_of, begins, no_counts, take_of, taken_none}
-use Rattle.event_gate.specs.Shelves.{Shelf, Shelves, after_add_to, after_next, after_take_from, bare, bare_rack, first_left, full_shelves, has_left, left_in_all, left_of_client, shelf_of, with_one_more}
+use Rattle.event_gate.specs.Shelves.{Shelf, after_add_to, after_next, after_take_from, bare, bare_rack, first_left, full_shelves, has_left, left_in_all, left_of_client, shelf_of, with_one_more}
 use Rattle.lwp_types.specs.declared.call.Line.{Line}
 use Rattle.script_gate.specs.Posted.{IsPosted}
 use Rattle.script_gate.specs.Stocked.{stock_of}

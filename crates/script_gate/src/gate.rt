@@ -1,6 +1,6 @@
 // A gate that borrows the script whose lines it has.
 ghost use Rattle.std.specs.Prelude.{◌≡◌, IfOk};
-ghost use Rattle.event_gate.specs.Shelves.{after_take_from, first_left, left_of_client};
+ghost use Rattle.event_gate.specs.Shelves.{left_of_client};
 ghost use Rattle.script_gate.specs.Posted.{IsPosted};
 ghost use Rattle.script_gate.specs.Places.{line_at};
 ghost use Rattle.script_gate.specs.Stocked.{stock_of};

@@ -1,10 +1,10 @@
 // A line, taken apart by its row of the table.
-ghost use Rattle.std.specs.Prelude.{◌≡◌, ℕ, List, [], drop, take, length, Some, None, option_map, if◌then◌else◌};
+ghost use Rattle.std.specs.Prelude.{◌≡◌, [], drop, Some, None, option_map};
 ghost use Rattle.script_lines.specs.Words.{is_name};
 ghost use Rattle.script_lines.specs.Table.{is_half, key_length};
 ghost use Rattle.script_lines.specs.Line.{blank};
 ghost use Rattle.trace_text.specs.Lines.{flags_text};
-ghost use Rattle.script_lines.specs.Reading.{flags_by, flags_in, flags_at, room_at, client_at, event_at, agent_event_at, mode_at, pattern_at, func_at, value_at, test_at, name_in, who_at, source_at, session_at, built_at, fill_word, fill_text, fill_test, fill_built, slot_at, fill, phrase_by_key, phrase_at};
+ghost use Rattle.script_lines.specs.Reading.{flags_by, flags_in, flags_at, room_at, client_at, event_at, agent_event_at, mode_at, pattern_at, func_at, value_at, test_at, name_in, who_at, source_at, session_at, built_at, fill_word, fill_text, fill_test, fill_built, slot_at, fill, phrase_at};
 
 use crate::table::{Kind, Op, Test, Whom};
 use crate::words::{is_name, is_text, number_at, reach};

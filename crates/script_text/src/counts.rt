@@ -20,7 +20,7 @@ impl Model for Counts {
 }
 
 impl Counts {
-    ghost use Rattle.std.specs.Prelude.{◌≡◌, [], ◌∷◌, ◌++◌, length, slice_index_or, ◌≤◌, OnOk, OnErr, IfOk};
+    ghost use Rattle.std.specs.Prelude.{◌≡◌, [], ◌∷◌, ◌++◌, length, slice_index_or, ◌≤◌, OnOk, OnErr};
     ghost use Rattle.script_text.specs.Meaning.{after_raise};
 
     /// No clients.

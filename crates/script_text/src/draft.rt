@@ -1,5 +1,5 @@
 // A script that grows line by line.
-ghost use Rattle.std.specs.Prelude.{◌≡◌, ◌++◌, ◌∷◌, [], Some, IfOk, OnOk, option_map, option_to_list};
+ghost use Rattle.std.specs.Prelude.{◌≡◌, ◌++◌, Some, IfOk, OnOk, option_map, option_to_list};
 ghost use Rattle.script_text.specs.Meaning.{after_name, with_text_of, places_of, who_of, from_of, exit_statement, plain_statement, lock_statement, thread_statement, statement_of, with_statement, native_kind};
 ghost use Rattle.script_text.specs.declared.script.Stmt.TheVariants as stmt;
 
@@ -309,7 +309,7 @@ impl Draft {
     ghost use Rattle.std.specs.Prelude.{IfOk, IsTrue, length};
     ghost use Rattle.lwp_types.specs.TextFields.{is_text};
     ghost use Rattle.script_lines.specs.Line.{posting, saying};
-    ghost use Rattle.script_text.specs.Meaning.{empty_draft, after_add_at, after_add, after_enter, with_last_procedure, after_name, places_of, with_post, with_text};
+    ghost use Rattle.script_text.specs.Meaning.{empty_draft, after_add_at, after_add, with_last_procedure, after_name, places_of, with_post, with_text};
 
     /// No lines.
     pub fn new(alloc: Global) -> Draft

@@ -1,5 +1,5 @@
 // The lines of a text that comes in pieces.
-ghost use Rattle.std.specs.Prelude.{◌≡◌, ◌≤◌, ◌<◌, ◌+◌, ◌∷◌, ◌++◌, ◌&&◌, [], fold, length, IfSome, IfNone, OnOk};
+ghost use Rattle.std.specs.Prelude.{◌≡◌, ◌<◌, ◌+◌, ◌∷◌, ◌++◌, ◌&&◌, [], fold, length, IfSome, IfNone, OnOk};
 ghost use Rattle.lwp_types.specs.TextFields.{is_printable};
 ghost use Rattle.script_text.specs.Kept.{kept_bytes};
 ghost use Rattle.script_text.specs.Pieces.{IsTail};

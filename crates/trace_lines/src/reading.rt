@@ -1,5 +1,5 @@
 // What a line tells.
-ghost use Rattle.std.specs.Prelude.{◌≡◌, ◌&&◌, bytes_eq};
+ghost use Rattle.std.specs.Prelude.{◌≡◌};
 ghost use Rattle.trace_lines.specs.Entries.{also_entry, answer_entry, call_entry, entry_of, event_entry, exit_entry, exit_entry_by, gain_of, id_of, is_closing, is_suspended, line_verb, rites_entry, statement_verb, taken_post, taken_post_of, target_of, thread_entry, tick_entry, trap_entry, verb_of, who_of};
 ghost use Rattle.trace_lines.specs.Words.{behind, number, rest, word};
 

@@ -1,8 +1,7 @@
 // What calls are answered.
-ghost use Rattle.std.specs.Prelude.{◌≡◌, ◌≤◌, ◌<◌, ◌+◌, ◌++◌, ◌∷◌, [], IfOk, codes, length, take};
-ghost use Rattle.std.specs.Fmt.{decimal};
+ghost use Rattle.std.specs.Prelude.{◌≡◌, ◌≤◌, ◌<◌, ◌+◌, ◌++◌, ◌∷◌, [], IfOk, length, take};
 ghost use Rattle.std.specs.List.{flat_map};
-ghost use Rattle.trace_text.specs.Lines.{id_text, ids_text, answer_text};
+ghost use Rattle.trace_text.specs.Lines.{id_text, answer_text};
 
 use crate::calls::{put_word_id, put_word_number, put_word_text};
 use crate::room::make_room;

@@ -1,6 +1,6 @@
 // How a session comes to its end, and the lines behind its last step.
 ghost use Rattle.std.specs.Prelude.{◌≡◌, ◌++◌, OnOk, IfOk};
-ghost use Rattle.trace_text.specs.Lines.{halt_text, left_text, left_texts, end_text};
+ghost use Rattle.trace_text.specs.Lines.{halt_text, left_text, end_text};
 
 use crate::words::{add_number, add_word, add_word_number};
 use lwp_types::NoMemory;

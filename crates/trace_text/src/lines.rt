@@ -1,6 +1,6 @@
 // The line of each effect.
 ghost use Rattle.std.specs.Prelude.{◌≡◌, ◌≤◌, ◌<◌, ◌+◌, ◌++◌, [], IfOk, None, length, option_copied, take};
-ghost use Rattle.trace_text.specs.Lines.{with_space, posted_text, taken_text, ticked_text, delivered_text, tick_text, trapped_text, rites_text, line_text, ended_line, step_lines};
+ghost use Rattle.trace_text.specs.Lines.{posted_text, taken_text, ticked_text, delivered_text, tick_text, trapped_text, rites_text, line_text, ended_line, step_lines};
 
 use crate::answers::add_answer;
 use crate::calls::{put_call, put_exit, put_word_id, put_word_number};

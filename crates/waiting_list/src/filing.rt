@@ -1,9 +1,9 @@
 // How those that wait are filed, and numbered anew where no greater number is left.
-ghost use Rattle.std.specs.Prelude.{None, [], ◌∷◌, ◌++◌, ◌+◌, ◌≡◌, ◌<◌, ◌≤◌, ◌^◌, ℕ, IsSome, IsTrue, length, map, slice_index_or, slice_set, OnOk};
+ghost use Rattle.std.specs.Prelude.{None, [], ◌∷◌, ◌++◌, ◌+◌, ◌≡◌, ◌<◌, ◌≤◌, ℕ, IsSome, IsTrue, length, map, slice_index_or, slice_set, OnOk};
 ghost use Rattle.std.specs.List.{AllByRecursion, remove};
 ghost use Rattle.std.specs.VecDeque.{deque_capacity};
 ghost use Rattle.thread_index.specs.Index.{IsEmpty, Puts, count_of, place_of, width_of};
-ghost use Rattle.waiting_list.specs.Entries.{AreRising, IsFiled, IsIndexed, IsKnown, IsLike, IsOnce, IsPrioritized, IsSortedOut, arrival_key, arrivals, rank_of, waiting_of, with_arrivals};
+ghost use Rattle.waiting_list.specs.Entries.{IsFiled, IsIndexed, IsKnown, IsLike, IsOnce, IsPrioritized, IsSortedOut, arrival_key, arrivals, rank_of, waiting_of, with_arrivals};
 
 use crate::keys::{self, Key};
 use crate::rows::{Entry, arrival_key, rank_of, take_out};

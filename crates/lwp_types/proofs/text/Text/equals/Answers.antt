@@ -1,4 +1,4 @@
-use Rattle.std.proofs.Common.{Bor, List, None, Some, subst, ℕ, ◌++◌, ◌≡◌, ◌≢◌}
+use Rattle.std.proofs.Common.{Bor, List, subst, ℕ, ◌++◌, ◌≡◌, ◌≢◌}
 use Rattle.std.proofs.lemmas.Bool.Decides.{Decides-eqb}
 use Rattle.std.proofs.lemmas.Slice.Eq.{strip_prefix_is}
 use Rattle.std.specs.Option.{MatchOption}

@@ -1,4 +1,4 @@
-use Rattle.std.proofs.Common.{arith, refl, sym, ◌∙◌}
+use Rattle.std.proofs.Common.{arith, refl, ◌∙◌}
 use Rattle.stale_ids.proofs.IndexLemmas.{at_number, found_value, found_full, found_written, length-pairs, IsSound-write}
 use Rattle.stale_ids.proofs.registry.Registry.value_at.Goals as goal
 

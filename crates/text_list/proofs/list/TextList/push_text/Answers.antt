@@ -1,10 +1,9 @@
-use Rattle.std.proofs.Common.{◌≡◌, ◌+◌, ◌++◌, ◌∷◌, [], ap, arith, rules, subst, sym, length, length-append, ◌∙◌, List, ℕ}
+use Rattle.std.proofs.Common.{◌≡◌, ◌+◌, ◌++◌, ◌∷◌, [], rules, subst, sym, length, length-append, ◌∙◌, List, ℕ}
 use mathlib.Core.List.{append_assoc}
 use Rattle.std.specs.List.{AllByRecursion}
 use Rattle.std.specs.Prelude.{IsTrue}
 use Rattle.lwp_types.specs.TextFields.{is_text}
 use Rattle.text_list.specs.Texts.{AreWithin, texts_in}
-use Rattle.text_list.specs.declared.list.Span.{Span}
 use Rattle.text_list.proofs.TextLaws.{on_err, texts_push, texts_same, within_push, are_push, within_bytes, are_bytes}
 use Rattle.text_list.proofs.list.TextList.push_text.Goals as goal
 
