@@ -6,7 +6,7 @@ use Rattle.event_gate.specs.Texts.{lines_from}
 use Rattle.live_clients.specs.Inlets.{is_lane}
 use Rattle.lwp_types.specs.declared.call.Line.{Line}
 use Rattle.std.specs.List.{All, filter, range_with_len, slice_index_or}
-use Rattle.std.specs.Prelude.{Bool, List, [], ◌++◌, eqb, false, length, sum_by, take, true, ℕ, ◌<◌, ◌≡◌, ◌≤◌, ◌+◌}
+use Rattle.std.specs.Prelude.{Bool, List, [], ◌++◌, eqb, false, length, sum_by, take, true, ℕ, ◌<◌, ◌≡◌, ◌≤◌}
 
 -- the clients that post to an event, in order
 abbrev pub clients_of : List ℕ → ℕ → List ℕ

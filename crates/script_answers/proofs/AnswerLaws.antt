@@ -17,7 +17,6 @@ use Rattle.pod_runner.specs.Session as Sessions
 use Rattle.pod_runner.specs.Session.{Setting}
 use Rattle.pod_runner.specs.declared.phase.RunErr.{RunErr}
 use Rattle.pod_runner.specs.declared.phase.RunErr.TheVariants as fails
-use Rattle.pod_runner.specs.declared.session.Made.{Made}
 use Rattle.script_answers.proofs.KnownLaws.{advanced-before, advanced-called, advanced-still, replies-grow, round-ends, round-goes-on}
 use Rattle.script_answers.specs.Answers.{AnswersSay, IsCutOff, IsStopped, IsTold}
 use Rattle.script_answers.specs.Replies.{Known, agents_after, event_of, known_after_call, known_after_steps, nothing_known, replies_in, texts_told}

@@ -12,7 +12,7 @@ use Rattle.pod_runner.specs.Run.{but_last}
 use Rattle.pod_runner.specs.Session.{Made, call_step, move, take_move}
 use Rattle.pod_runner.specs.declared.session.Took.{Took}
 use Rattle.script_answers.specs.Replies.{Known, call_in, known_after_call, known_after_steps, known_after_step, nothing_known, replies_in, texts_told}
-use Rattle.std.proofs.Common.{Bool, List, None, Option, Some, [], ap, append-nil, append_assoc, arith, false, refl, sym, true, ℕ, ◌++◌, ◌+◌, ◌∙◌, ◌∷◌, ◌≡◌, ◌≢◌}
+use Rattle.std.proofs.Common.{Bool, List, None, Option, Some, [], ap, append-nil, append_assoc, arith, false, refl, sym, true, ℕ, ◌++◌, ◌∙◌, ◌∷◌, ◌≡◌, ◌≢◌}
 use Rattle.std.proofs.lemmas.List.Sums.{fold-append}
 use Rattle.std.specs.List.{fold}
 use Rattle.trace_text.specs.declared.ends.Halt.{Halt}
