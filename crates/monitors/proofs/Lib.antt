@@ -1,8 +1,7 @@
 pub mod KeptLemmas
 pub mod LiveLaws
-pub mod LockLaws
-pub mod HeldLaws
+pub mod SlotLaws
+pub mod LinkLaws
 pub mod Room
 pub mod Machine
 pub mod Lines
-pub mod OwnerLaws

@@ -3,16 +3,16 @@
 //! The contract of each call is one equation between lists: the live monitors, the held locks in the order of their
 //! acquisition, the requests in the order of their arrival (`specs/MonitorTable.antt`). It says for the monitors by
 //! themselves what the machine of `lwp_types` does to a pod's; the operations on locks are cited from there. A request
-//! keeps its thread's priority, which the machine looks up. Requests stand in a `waiting_list`; else the crate stands on
-//! `lwp_types` alone.
+//! keeps its thread's priority, which the machine looks up. Requests stand in a `waiting_list`, and locks are found by
+//! `thread_index`.
 #![tactic(auto)]
 
 mod laws;
 mod live;
 mod locks;
 mod monitors;
-mod owners;
 mod requests;
+mod slots;
 
 pub use laws::{every_change, every_question, every_rank};
 pub use monitors::Monitors;

@@ -1,265 +1,353 @@
-// The locks of the held monitors: in the order in which they were acquired, and the same by rising monitors.
-ghost use Rattle.std.specs.Prelude.{[], ◌∷◌, ◌++◌, ◌≡◌, ◌<◌, ◌≤◌, if◌then◌else◌, ◌==◌, ℕ, IfNone, IfSome, Some, length, vec_capacity};
-ghost use Rattle.std.specs.List.{insert, remove};
+// The locks of the held monitors. They lie in the order in which they were acquired, and are found by their monitors, and by their
+// owners the last of each, so that nobody goes over the locks of others.
+ghost use Rattle.std.specs.Prelude.{[], ◌∷◌, ◌++◌, ◌≡◌, ◌+◌, ◌<◌, ◌≤◌, None, Some, ℕ, IsSome, OnOk, is_some, length, slice_set, take, true, vec_capacity};
 ghost use Rattle.lwp_types.specs.Monitors.{depth_in, with_depth};
-ghost use Rattle.lwp_types.specs.MonitorRelease.{last_lock, lock_of, locks_on, without_lock};
-ghost use Rattle.monitors.specs.Held.{AreOrdered, IsGapAt, IsLockAt};
-ghost use Rattle.monitors.specs.Owners.{IsCounted};
+ghost use Rattle.lwp_types.specs.MonitorRelease.{is_owned_by, last_lock, lock_of, locks_on, without_lock};
+ghost use Rattle.monitors.specs.Held.{HasPlaces, IsTied};
+ghost use Rattle.monitors.specs.Slots.{AreLinked, IsByMonitor, IsByOwner, IsLastIn, LeadsOn, has_in, slot_at};
+ghost use Rattle.thread_index.specs.Index.{IsEmpty, Puts, count_of, place_of, width_of};
+ghost use Rattle.thread_index.specs.Living.{living};
 
-use crate::owners::{count_in, count_out, holds_none};
-use lwp_types::{Lock, Mid, Tid};
+use crate::slots::{Link, close_up, deepen, last_on, link_of, lock_at};
+use lwp_types::{Lock, Mid, NoMemory, Tid};
+use std::alloc::Global;
+use thread_index::Index;
 
-// Where the lock of the monitor stands, by rising monitors.
-#[inline(never)]
-fn place_by_halves(held: &[Lock], mon: Mid) -> Option<usize>
-    requires { AreOrdered held.now }
-    ensures none { IfNone result (locks_on held.now mon ≡ 0) }
-    ensures some { IfSome result (IsLockAt mon held.now) }
-{
-    let at = held.partition_point(|lock| lock.mon.number < mon.number);
-    match held.get(at) {
-        Some(lock) if lock.mon == mon => Some(at),
-        _ => None,
+/// The locks.
+pub struct Locks {
+    // In the order of acquisition. Some slots are empty.
+    pub slots: Vec<Option<Lock>>,
+    // Of each slot, whose it is, and where that thread's lock before lies.
+    pub links: Vec<Link>,
+    // The slot of each monitor's lock.
+    pub held: Index,
+    // The slot of the lock that a thread acquired last.
+    pub last: Index,
+    // So many locks have room, and there may be twice as many slots.
+    pub room: usize,
+}
+
+// By hand, so that whoever drops one calls this.
+impl Drop for Locks {
+    fn drop(self) {
+        let Locks {
+            slots: _,
+            links: _,
+            held: _,
+            last: _,
+            room: _,
+        } = self;
     }
 }
 
-// The same. Whoever asks mostly asks for the last, or for one behind it that nobody holds.
+// An index goes by threads' numbers; a monitor's will do as well.
 #[inline(always)]
-fn place_of(held: &[Lock], mon: Mid) -> Option<usize>
-    requires { AreOrdered held.now }
-    ensures none { IfNone result (locks_on held.now mon ≡ 0) }
-    ensures some { IfSome result (IsLockAt mon held.now) }
+fn key_of(mon: Mid) -> Tid
+    ensures { result ≡ mon }
 {
-    let last = held.last()?;
-    if last.mon.number < mon.number {
-        return None;
+    Tid { number: mon.number }
+}
+
+// The lock in the slot behind all others is found by its owner, as the last of his. Answers its link.
+#[inline(always)]
+fn file_owner(
+    last: &mut Index,
+    links: &mut Vec<Link>,
+    slot: usize,
+    lock: &Lock,
+    _slots: &[Option<Lock>],
+)
+    requires owners { IsByOwner _slots.now links.old.items last.old }
+    requires behind { slot ≡ length _slots.now }
+    requires links_fit { length links.old.items < vec_capacity links.old }
+    requires cells { 1 ≤ width_of last.old }
+    requires room { length links.old.items < last.old.room }
+    ensures owners { IsByOwner (_slots.now ++ Some lock.now ∷ []) links.new.items last.new }
+    ensures capacity { vec_capacity links.new ≡ vec_capacity links.old }
+    ensures width { width_of last.new ≡ width_of last.old }
+    ensures index_room { last.new.room ≡ last.old.room }
+{
+    let below = last.place_of(lock.owner);
+    if below.is_some() {
+        last.take(lock.owner);
     }
-    if last.mon == mon {
-        return Some(held.len() - 1);
-    }
-    place_by_halves(held, mon)
+    links.push_reserved(Link {
+        owner: lock.owner,
+        below,
+    });
+    last.put(lock.owner, slot);
 }
 
-// The lock of the monitor, if it is held.
-pub fn lock_of(held: &[Lock], mon: Mid) -> Option<Lock>
-    requires { AreOrdered held.now }
-    ensures { result ≡ lock_of held.now mon }
+// The owner's last lock is gone: the one before it is his last, where the way leads to one.
+fn relink(
+    last: &mut Index,
+    slots: &[Option<Lock>],
+    links: &[Link],
+    way: Option<usize>,
+    end: usize,
+    owner: Tid,
+)
+    requires linked { AreLinked slots.now links.now }
+    requires leads { LeadsOn owner slots.now links.now end way }
+    requires within { end ≤ length links.now }
+    requires known { IsSome (place_of last.old owner) }
+    requires cells { 1 ≤ width_of last.old }
+    requires room { count_of last.old ≤ last.old.room }
+    ensures owner { IsLastIn (is_owned_by owner) slots.now end (place_of last.new owner) }
+    ensures others { (t : ℕ) → (t ≡ owner → ⊥) → place_of last.new t ≡ place_of last.old t }
+    ensures fewer { count_of last.new ≤ count_of last.old }
+    ensures gone { way ≡ None → count_of last.new + 1 ≡ count_of last.old }
+    ensures width { width_of last.new ≡ width_of last.old }
+    ensures index_room { last.new.room ≡ last.old.room }
 {
-    let at = place_of(held, mon)?;
-    Some(held[at])
-}
-
-// How often the monitor's owner has entered it, and 0 where it is free.
-pub fn depth_of(held: &[Lock], mon: Mid) -> u32
-    requires { AreOrdered held.now }
-    ensures { result ≡ depth_in held.now mon }
-{
-    lock_of(held, mon).map_or(0, |lock| lock.depth)
-}
-
-// Of the thread's locks the one that it acquired last, from the last of all locks on.
-#[inline(never)]
-fn last_by_steps(locks: &[Lock], tid: Tid) -> Option<Lock>
-    ensures { result ≡ last_lock locks.now tid }
-{
-    locks.iter().rev().copied().find(|lock| lock.owner == tid)
-}
-
-// The same. Most threads that die hold none, and then nobody's locks are gone over.
-pub fn last_lock(locks: &[Lock], owners: &[u16], tid: Tid) -> Option<Lock>
-    requires { IsCounted locks.now owners.now }
-    ensures { result ≡ last_lock locks.now tid }
-{
-    if holds_none(owners, tid) {
-        None
-    } else {
-        last_by_steps(locks, tid)
+    last.take(owner);
+    if let Some(slot) = last_on(slots, links, way, end, owner) {
+        last.put(owner, slot);
     }
 }
 
-// Where the lock of the monitor stands in the order of acquisition. Whoever holds several mostly leaves the last first.
-fn last_place(locks: &[Lock], mon: Mid) -> Option<usize>
-    ensures none { IfNone result (locks_on locks.now mon ≡ 0) }
-    ensures some { IfSome result (IsLockAt mon locks.now) }
+// The last slot goes, and with it the last lock of its owner.
+fn cut(
+    slots: &mut Vec<Option<Lock>>,
+    links: &mut Vec<Link>,
+    last: &mut Index,
+    slot: usize,
+    owner: Tid,
+)
+    requires owners { IsByOwner slots.old.items links.old.items last.old }
+    requires end { slot + 1 ≡ length slots.old.items }
+    requires has { has_in (is_owned_by owner) slots.old.items slot ≡ true }
+    requires cells { 1 ≤ width_of last.old }
+    requires room { length links.old.items ≤ last.old.room }
+    ensures owners { IsByOwner slots.new.items links.new.items last.new }
+    ensures items { slots.new.items ≡ take slot slots.old.items }
+    ensures capacity { vec_capacity slots.new ≡ vec_capacity slots.old }
+    ensures links_capacity { vec_capacity links.new ≡ vec_capacity links.old }
+    ensures width { width_of last.new ≡ width_of last.old }
+    ensures index_room { last.new.room ≡ last.old.room }
 {
-    let mut behind = locks.len();
-    while behind > 0 {
-        behind -= 1;
-        if locks[behind].mon == mon {
-            return Some(behind);
+    let below = link_of(links, slot).below;
+    slots.pop();
+    links.pop();
+    relink(last, slots, links, below, slot, owner);
+}
+
+// The slot is empty from now on.
+fn empty(slots: &mut Vec<Option<Lock>>, links: &[Link], last: &mut Index, slot: usize, owner: Tid)
+    requires owners { IsByOwner slots.old.items links.now last.old }
+    requires has { has_in (is_owned_by owner) slots.old.items slot ≡ true }
+    requires cells { 1 ≤ width_of last.old }
+    requires room { length links.now ≤ last.old.room }
+    ensures owners { IsByOwner slots.new.items links.now last.new }
+    ensures items { slots.new.items ≡ slice_set slots.old.items slot None }
+    ensures capacity { vec_capacity slots.new ≡ vec_capacity slots.old }
+    ensures width { width_of last.new ≡ width_of last.old }
+    ensures index_room { last.new.room ≡ last.old.room }
+{
+    slots[slot] = None;
+    if last.place_of(owner) == Some(slot) {
+        relink(last, slots, links, link_of(links, slot).below, slot, owner);
+    }
+}
+
+// All locks are found, where none is found yet and no slot is empty.
+fn refile(slots: &[Option<Lock>], links: &mut Vec<Link>, held: &mut Index, last: &mut Index)
+    requires whole { (i : ℕ) → i < length slots.now → is_some (slot_at slots.now i) ≡ true }
+    requires once { (m : ℕ) → locks_on (living slots.now) m ≤ 1 }
+    requires links_bare { links.old.items ≡ [] }
+    requires held_bare { IsEmpty held.old }
+    requires last_bare { IsEmpty last.old }
+    requires links_fit { length slots.now ≤ vec_capacity links.old }
+    requires held_cells { length slots.now ≤ width_of held.old }
+    requires held_room { width_of held.old ≤ held.old.room }
+    requires last_cells { length slots.now ≤ width_of last.old }
+    requires last_room { width_of last.old ≤ last.old.room }
+    ensures by_monitor { IsByMonitor slots.now held.new }
+    ensures by_owner { IsByOwner slots.now links.new.items last.new }
+    ensures capacity { vec_capacity links.new ≡ vec_capacity links.old }
+    ensures held_width { width_of held.new ≡ width_of held.old }
+    ensures held_index { held.new.room ≡ held.old.room }
+    ensures last_width { width_of last.new ≡ width_of last.old }
+    ensures last_index { last.new.room ≡ last.old.room }
+{
+    for slot in 0..slots.len() {
+        let Some(lock) = lock_at(slots, slot) else {
+            return;
+        };
+        file_owner(last, links, slot, &lock, &slots[..slot]);
+        held.put(key_of(lock.mon), slot);
+    }
+}
+
+impl Locks {
+    /// No lock, and room for none.
+    pub fn new(alloc: Global) -> Locks
+        ensures tied { IsTied result }
+        ensures locks { result.slots.items ≡ [] }
+        ensures room { result.room ≡ 0 }
+    {
+        Locks {
+            slots: Vec::new(alloc),
+            links: Vec::new(alloc),
+            held: Index::new(alloc),
+            last: Index::new(alloc),
+            room: 0,
         }
     }
-    None
-}
 
-// Takes out the lock that stands there; the last is no move of others.
-#[inline(always)]
-#[tactic(auto, using(crate::proofs::LockLaws::remove_last))]
-fn take_at(locks: &mut Vec<Lock>, at: usize)
-    requires { at < length locks.old.items }
-    ensures items { locks.new.items ≡ remove locks.old.items at }
-    ensures capacity { vec_capacity locks.new ≡ vec_capacity locks.old }
-{
-    if at + 1 == locks.len() {
-        locks.pop();
-    } else {
-        locks.remove(at);
+    /// The lock of the monitor, if it is held.
+    pub fn lock_of(&self, mon: Mid) -> Option<Lock>
+        requires tied { IsTied self.now }
+        requires once { (m : ℕ) → locks_on (living self.now.slots.items) m ≤ 1 }
+        ensures { result ≡ lock_of (living self.now.slots.items) mon }
+    {
+        let slot = self.held.place_of(key_of(mon))?;
+        lock_at(&self.slots, slot)
     }
-}
 
-// Puts in a lock there, where there is room.
-#[inline(always)]
-#[tactic(auto, using(crate::proofs::LockLaws::insert_last))]
-fn put_at(locks: &mut Vec<Lock>, at: usize, lock: Lock)
-    requires place { at ≤ length locks.old.items }
-    requires room { length locks.old.items < vec_capacity locks.old }
-    ensures items { locks.new.items ≡ insert locks.old.items at lock }
-    ensures capacity { vec_capacity locks.new ≡ vec_capacity locks.old }
-{
-    if at == locks.len() {
-        locks.push_reserved(lock);
-    } else {
-        // There is room, so no memory is asked for.
-        let _ = locks.insert(at, lock);
+    /// How often the monitor's owner has entered it, and 0 where it is free.
+    pub fn depth_of(&self, mon: Mid) -> u32
+        requires tied { IsTied self.now }
+        requires once { (m : ℕ) → locks_on (living self.now.slots.items) m ≤ 1 }
+        ensures { result ≡ depth_in (living self.now.slots.items) mon }
+    {
+        self.lock_of(mon).map_or(0, |lock| lock.depth)
     }
-}
 
-// Where a lock of the monitor belongs, by rising monitors.
-#[inline(never)]
-fn gap_by_halves(held: &[Lock], mon: Mid) -> usize
-    requires { AreOrdered held.now }
-    ensures { IsGapAt mon held.now result }
-{
-    held.partition_point(|other| other.mon.number < mon.number)
-}
-
-// The same. Most belong behind the last.
-#[inline(always)]
-fn gap_for(held: &[Lock], mon: Mid) -> usize
-    requires { AreOrdered held.now }
-    ensures { IsGapAt mon held.now result }
-{
-    let Some(last) = held.last() else {
-        return held.len();
-    };
-    if mon.number < last.mon.number {
-        return gap_by_halves(held, mon);
+    /// Of the thread's locks the one that it acquired last.
+    pub fn last_lock(&self, tid: Tid) -> Option<Lock>
+        requires { IsTied self.now }
+        ensures { result ≡ last_lock (living self.now.slots.items) tid }
+    {
+        let slot = self.last.place_of(tid)?;
+        lock_at(&self.slots, slot)
     }
-    held.len()
-}
 
-// One lock more, by rising monitors.
-fn hold(held: &mut Vec<Lock>, lock: Lock)
-    requires ordered { AreOrdered held.old.items }
-    requires free { locks_on held.old.items lock.mon ≡ 0 }
-    requires room { length held.old.items < vec_capacity held.old }
-    ensures ordered { AreOrdered held.new.items }
-    ensures locks { (m : ℕ) →
-        lock_of held.new.items m ≡ (if lock.mon == m then Some lock else lock_of held.old.items m) }
-    ensures capacity { vec_capacity held.new ≡ vec_capacity held.old }
-{
-    let at = gap_for(held, lock.mon);
-    put_at(held, at, lock);
-}
-
-// A free monitor is held.
-pub fn acquire(locks: &mut Vec<Lock>, held: &mut Vec<Lock>, owners: &mut Vec<u16>, lock: &Lock)
-    requires counted { IsCounted locks.old.items owners.old.items }
-    requires counters { 4096 ≤ length owners.old.items }
-    requires few { length locks.old.items ≤ 256 }
-    requires ordered { AreOrdered held.old.items }
-    requires free { locks_on held.old.items lock.now.mon ≡ 0 }
-    requires room { length locks.old.items < vec_capacity locks.old }
-    requires held_room { length held.old.items < vec_capacity held.old }
-    ensures items { locks.new.items ≡ locks.old.items ++ lock.now ∷ [] }
-    ensures capacity { vec_capacity locks.new ≡ vec_capacity locks.old }
-    ensures ordered { AreOrdered held.new.items }
-    ensures held { (m : ℕ) →
-        lock_of held.new.items m
-        ≡ (if lock.now.mon == m then Some lock.now else lock_of held.old.items m) }
-    ensures held_capacity { vec_capacity held.new ≡ vec_capacity held.old }
-    ensures counted { IsCounted locks.new.items owners.new.items }
-    ensures counters { length owners.new.items ≡ length owners.old.items }
-{
-    hold(held, *lock);
-    locks.push_reserved(*lock);
-    count_in(owners, lock.owner);
-}
-
-// The monitor is held at this depth, in the order of acquisition.
-fn deepen_last(locks: &mut Vec<Lock>, mon: Mid, depth: u32)
-    requires { (m : ℕ) → locks_on locks.old.items m ≤ 1 }
-    ensures items { locks.new.items ≡ with_depth mon depth locks.old.items }
-    ensures capacity { vec_capacity locks.new ≡ vec_capacity locks.old }
-{
-    if let Some(at) = last_place(locks, mon) {
-        locks[at].depth = depth;
+    // The empty slots go, and the locks are found in their new ones.
+    #[inline(never)]
+    fn pack(&mut self)
+        requires places { HasPlaces self.old }
+        requires once { (m : ℕ) → locks_on (living self.old.slots.items) m ≤ 1 }
+        requires few { length (living self.old.slots.items) ≤ self.old.room }
+        ensures tied { IsTied self.new }
+        ensures locks { living self.new.slots.items ≡ living self.old.slots.items }
+        ensures closed { length self.new.slots.items ≡ length (living self.old.slots.items) }
+        ensures room { self.new.room ≡ self.old.room }
+    {
+        close_up(&mut self.slots);
+        self.links.clear();
+        self.held.clear();
+        self.last.clear();
+        refile(&self.slots, &mut self.links, &mut self.held, &mut self.last);
     }
-}
 
-// The same by rising monitors.
-fn deepen_held(held: &mut Vec<Lock>, mon: Mid, depth: u32)
-    requires { AreOrdered held.old.items }
-    ensures items { held.new.items ≡ with_depth mon depth held.old.items }
-    ensures capacity { vec_capacity held.new ≡ vec_capacity held.old }
-{
-    if let Some(at) = place_of(held, mon) {
-        held[at].depth = depth;
+    /// Makes room for so many locks.
+    pub fn reserve(&mut self, room: usize) -> Result<(), NoMemory>
+        requires tied { IsTied self.old }
+        requires once { (m : ℕ) → locks_on (living self.old.slots.items) m ≤ 1 }
+        requires few { length (living self.old.slots.items) ≤ self.old.room }
+        requires most { room ≤ 256 }
+        ensures tied { IsTied self.new }
+        ensures locks { living self.new.slots.items ≡ living self.old.slots.items }
+        ensures more { self.old.room ≤ self.new.room }
+        ensures ok { OnOk result (room ≤ self.new.room) }
+    {
+        if room <= self.room {
+            return Ok(());
+        }
+        // Twice as many and one more, so that they are seldom made anew.
+        let room = room + self.room;
+        self.slots.reserve(room + room - self.slots.len())?;
+        self.links.reserve(room + room - self.links.len())?;
+        let held = Index::with_cells(*self.slots.allocator(), room)?;
+        let last = Index::with_cells(*self.slots.allocator(), room + room)?;
+        self.held = held;
+        self.last = last;
+        self.room = room;
+        self.pack();
+        Ok(())
     }
-}
 
-// Nobody holds the monitor, in the order of acquisition.
-fn take_last(locks: &mut Vec<Lock>, owners: &mut Vec<u16>, mon: Mid)
-    requires once { (m : ℕ) → locks_on locks.old.items m ≤ 1 }
-    requires counted { IsCounted locks.old.items owners.old.items }
-    ensures items { locks.new.items ≡ without_lock mon locks.old.items }
-    ensures capacity { vec_capacity locks.new ≡ vec_capacity locks.old }
-    ensures counted { IsCounted locks.new.items owners.new.items }
-    ensures counters { length owners.new.items ≡ length owners.old.items }
-{
-    if let Some(at) = last_place(locks, mon) {
-        let owner = locks[at].owner;
-        count_out(owners, owner);
-        take_at(locks, at);
+    // Makes a slot for one lock more: where there is none left, the empty slots go.
+    #[inline(always)]
+    fn make_slot(&mut self)
+        requires tied { IsTied self.old }
+        requires once { (m : ℕ) → locks_on (living self.old.slots.items) m ≤ 1 }
+        requires few { length (living self.old.slots.items) < self.old.room }
+        ensures tied { IsTied self.new }
+        ensures locks { living self.new.slots.items ≡ living self.old.slots.items }
+        ensures slot { length self.new.slots.items < self.new.room + self.new.room }
+        ensures room { self.new.room ≡ self.old.room }
+    {
+        if self.slots.len() / 2 >= self.room {
+            self.pack();
+        }
     }
-}
 
-// The same by rising monitors.
-fn take_held(held: &mut Vec<Lock>, mon: Mid)
-    requires { AreOrdered held.old.items }
-    ensures items { held.new.items ≡ without_lock mon held.old.items }
-    ensures capacity { vec_capacity held.new ≡ vec_capacity held.old }
-{
-    if let Some(at) = place_of(held, mon) {
-        take_at(held, at);
+    /// A free monitor is held.
+    pub fn acquire(&mut self, lock: &Lock)
+        requires tied { IsTied self.old }
+        requires once { (m : ℕ) → locks_on (living self.old.slots.items) m ≤ 1 }
+        requires free { locks_on (living self.old.slots.items) lock.now.mon ≡ 0 }
+        requires few { length (living self.old.slots.items) < self.old.room }
+        ensures tied { IsTied self.new }
+        ensures locks { living self.new.slots.items
+            ≡ living self.old.slots.items ++ lock.now ∷ [] }
+        ensures room { self.new.room ≡ self.old.room }
+    {
+        self.make_slot();
+        let slot = self.slots.len();
+        file_owner(&mut self.last, &mut self.links, slot, lock, &self.slots);
+        self.held.put(key_of(lock.mon), slot);
+        self.slots.push_reserved(Some(*lock));
     }
-}
 
-// The monitor is held at this depth.
-pub fn set_depth(locks: &mut Vec<Lock>, held: &mut Vec<Lock>, mon: Mid, depth: u32)
-    requires once { (m : ℕ) → locks_on locks.old.items m ≤ 1 }
-    requires ordered { AreOrdered held.old.items }
-    ensures items { locks.new.items ≡ with_depth mon depth locks.old.items }
-    ensures capacity { vec_capacity locks.new ≡ vec_capacity locks.old }
-    ensures held { held.new.items ≡ with_depth mon depth held.old.items }
-    ensures held_capacity { vec_capacity held.new ≡ vec_capacity held.old }
-{
-    deepen_last(locks, mon, depth);
-    deepen_held(held, mon, depth);
-}
+    /// The monitor is held at this depth.
+    pub fn set_depth(&mut self, mon: Mid, depth: u32)
+        requires tied { IsTied self.old }
+        requires once { (m : ℕ) → locks_on (living self.old.slots.items) m ≤ 1 }
+        ensures tied { IsTied self.new }
+        ensures locks { living self.new.slots.items
+            ≡ with_depth mon depth (living self.old.slots.items) }
+        ensures room { self.new.room ≡ self.old.room }
+    {
+        if let Some(slot) = self.held.place_of(key_of(mon)) {
+            deepen(&mut self.slots, slot, depth);
+        }
+    }
 
-// Nobody holds the monitor.
-pub fn free(locks: &mut Vec<Lock>, held: &mut Vec<Lock>, owners: &mut Vec<u16>, mon: Mid)
-    requires once { (m : ℕ) → locks_on locks.old.items m ≤ 1 }
-    requires counted { IsCounted locks.old.items owners.old.items }
-    requires ordered { AreOrdered held.old.items }
-    ensures items { locks.new.items ≡ without_lock mon locks.old.items }
-    ensures capacity { vec_capacity locks.new ≡ vec_capacity locks.old }
-    ensures held { held.new.items ≡ without_lock mon held.old.items }
-    ensures held_capacity { vec_capacity held.new ≡ vec_capacity held.old }
-    ensures counted { IsCounted locks.new.items owners.new.items }
-    ensures counters { length owners.new.items ≡ length owners.old.items }
-{
-    take_last(locks, owners, mon);
-    take_held(held, mon);
+    /// Nobody holds the monitor.
+    pub fn free(&mut self, mon: Mid)
+        requires tied { IsTied self.old }
+        requires once { (m : ℕ) → locks_on (living self.old.slots.items) m ≤ 1 }
+        ensures tied { IsTied self.new }
+        ensures locks { living self.new.slots.items
+            ≡ without_lock mon (living self.old.slots.items) }
+        ensures room { self.new.room ≡ self.old.room }
+    {
+        let Some(slot) = self.held.place_of(key_of(mon)) else {
+            return;
+        };
+        let Some(lock) = lock_at(&self.slots, slot) else {
+            return;
+        };
+        self.held.take(key_of(mon));
+        if slot + 1 == self.slots.len() {
+            cut(
+                &mut self.slots,
+                &mut self.links,
+                &mut self.last,
+                slot,
+                lock.owner,
+            );
+        } else {
+            empty(
+                &mut self.slots,
+                &self.links,
+                &mut self.last,
+                slot,
+                lock.owner,
+            );
+        }
+    }
 }

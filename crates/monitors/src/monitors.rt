@@ -6,8 +6,7 @@ ghost use Rattle.lwp_types.specs.MonitorRelease.{last_lock, lock_of, locks_on};
 ghost use Rattle.monitors.specs.MonitorTable.{after_create, after_destroy, after_enter, after_exit, after_forget, after_grant, after_release, after_request, after_requeue, after_reserve, empty_table, has_request, is_free, is_live, is_unwanted, may_enter, newborn, next_owner, next_request, owner_after, owner_of, requests_of};
 
 use crate::live::{has, list, take_out};
-use crate::locks::{acquire, depth_of, free, last_lock, lock_of, set_depth};
-use crate::owners::provide;
+use crate::locks::Locks;
 use lwp_types::{IdList, Lock, Mid, NoMemory, Tid};
 use std::alloc::Global;
 use std::marker::Model;
@@ -22,12 +21,7 @@ pub struct Monitors {
     live: Vec<Mid>,
     births: u64,
     limit: u64,
-    // In the order of acquisition.
-    locks: Vec<Lock>,
-    // The same by rising monitors, so that whether one is held is found at once.
-    held: Vec<Lock>,
-    // How many of them there are by their owners.
-    owners: Vec<u16>,
+    locks: Locks,
     requests: WaitingList,
 }
 
@@ -40,18 +34,17 @@ impl Drop for Monitors {
             births: _,
             limit: _,
             locks: _,
-            held: _,
-            owners: _,
             requests: _,
         } = self;
     }
 }
 
 impl Model for Monitors {
-    ghost use Rattle.std.specs.Prelude.{map, vec_capacity};
+    ghost use Rattle.std.specs.Prelude.{map};
     ghost use Rattle.monitors.specs.MonitorTable.{MonitorTable};
     ghost use Rattle.monitors.specs.Held.{IsSound};
     ghost use Rattle.monitors.specs.Requests.{request_of};
+    ghost use Rattle.thread_index.specs.Living.{living};
 
     ghost Value = { MonitorTable };
 
@@ -59,7 +52,7 @@ impl Model for Monitors {
       monitors = s.live.items;
       births = s.births;
       limit = s.limit;
-      locks = s.locks.items;
+      locks = living s.locks.slots.items;
       requests = map request_of s.requests.waiting;
       places = s.requests.places;
     } };
@@ -68,10 +61,10 @@ impl Model for Monitors {
       monitors = s.live.items;
       births = s.births;
       limit = s.limit;
-      locks = s.locks.items;
+      locks = living s.locks.slots.items;
       requests = map request_of s.requests.waiting;
       places = s.requests.places;
-    }) s.held.items s.owners.items (vec_capacity s.locks) (vec_capacity s.held) };
+    }) s.locks };
 }
 
 impl Monitors {
@@ -84,9 +77,7 @@ impl Monitors {
             live: Vec::new(alloc),
             births: 0,
             limit: births,
-            locks: Vec::new(alloc),
-            held: Vec::new(alloc),
-            owners: Vec::new(alloc),
+            locks: Locks::new(alloc),
             requests: WaitingList::new(alloc),
         }
     }
@@ -111,9 +102,7 @@ impl Monitors {
             return Ok(None);
         }
         let mon = Mid { number: births };
-        self.locks.reserve(self.live.len() + 1 - self.locks.len())?;
-        self.held.reserve(self.live.len() + 1 - self.held.len())?;
-        provide(&mut self.owners)?;
+        self.locks.reserve(self.live.len() + 1)?;
         self.live.push(mon)?;
         self.births = births + 1;
         Ok(Some(mon))
@@ -141,7 +130,7 @@ impl Monitors {
         requires { IsTrue (is_live self.now mon) }
         ensures { result ≡ owner_of self.now mon }
     {
-        lock_of(&self.held, mon).map(|lock| lock.owner)
+        self.locks.lock_of(mon).map(|lock| lock.owner)
     }
 
     /// How often the owner has entered the monitor, and 0 where it is free.
@@ -149,7 +138,7 @@ impl Monitors {
         requires { IsTrue (is_live self.now mon) }
         ensures { result ≡ depth_in self.now.locks mon }
     {
-        depth_of(&self.held, mon)
+        self.locks.depth_of(mon)
     }
 
     /// The thread enters a free monitor, or its own once more. The answer is how often it had entered it before.
@@ -159,18 +148,18 @@ impl Monitors {
         ensures value { result ≡ depth_in self.old.locks mon }
         ensures after { self.new ≡ after_enter self.old tid mon }
     {
-        match lock_of(&self.held, mon) {
+        match self.locks.lock_of(mon) {
             None => {
                 let lock = Lock {
                     mon,
                     owner: tid,
                     depth: 1,
                 };
-                acquire(&mut self.locks, &mut self.held, &mut self.owners, &lock);
+                self.locks.acquire(&lock);
                 0
             }
             Some(lock) => {
-                set_depth(&mut self.locks, &mut self.held, mon, lock.depth + 1);
+                self.locks.set_depth(mon, lock.depth + 1);
                 lock.depth
             }
         }
@@ -200,11 +189,11 @@ impl Monitors {
         ensures value { result ≡ owner_after self.old mon }
         ensures after { self.new ≡ after_exit self.old mon }
     {
-        let depth = depth_of(&self.held, mon);
+        let depth = self.locks.depth_of(mon);
         if depth <= 1 {
             return self.break_lock(mon);
         }
-        set_depth(&mut self.locks, &mut self.held, mon, depth - 1);
+        self.locks.set_depth(mon, depth - 1);
         None
     }
 
@@ -214,7 +203,7 @@ impl Monitors {
         ensures value { result ≡ next_owner self.old mon }
         ensures after { self.new ≡ after_release self.old mon }
     {
-        free(&mut self.locks, &mut self.held, &mut self.owners, mon);
+        self.locks.free(mon);
         self.grant(mon)
     }
 
@@ -234,7 +223,7 @@ impl Monitors {
             owner: next.tid,
             depth: next.depth,
         };
-        acquire(&mut self.locks, &mut self.held, &mut self.owners, &lock);
+        self.locks.acquire(&lock);
         Some(next.tid)
     }
 
@@ -243,7 +232,7 @@ impl Monitors {
         ensures value { result ≡ option_map (λ lock. lock.mon) (last_lock self.now.locks tid) }
         ensures held_once { (m : ℕ) → locks_on self.now.locks m ≤ 1 }
     {
-        last_lock(&self.locks, &self.owners, tid).map(|lock| lock.mon)
+        self.locks.last_lock(tid).map(|lock| lock.mon)
     }
 
     /// Gives the thread's request, if it has one, a priority. The request keeps its place.

@@ -1,15 +1,13 @@
-use Rattle.monitors.proofs.HeldLaws.{IsHeld-freed}
-use Rattle.monitors.proofs.OwnerLaws.{IsByOwner-counted}
 use Rattle.monitors.proofs.KeptLemmas.{IsKept-freed, is_free-freed, is_live-held}
 use Rattle.monitors.proofs.monitors.Monitors.break_lock.Goals as goal
 
 pub invariant_of-self : goal.invariant_of-self
 invariant_of-self c =
-    rw (c.free.ensures.items, c.free.ensures.capacity, c.free.ensures.held, c.free.ensures.held_capacity)
-    (record { kept = IsKept-freed c.self.invariant.kept c.args.mon; by_monitor = IsHeld-freed c.self.invariant c.args.mon; by_owner = IsByOwner-counted c.self.invariant.by_owner _ _ (rw c.free.ensures.items at c.free.ensures.counted) c.free.ensures.counters })
+    rw c.free.ensures.locks
+    (record { kept = rw c.free.ensures.room (IsKept-freed c.self.invariant.kept c.args.mon); tied = c.free.ensures.tied })
 
 pub grant-requires-clause-live : goal.grant-requires-clause-live
 grant-requires-clause-live c = is_live-held c.self.invariant.kept c.args.mon (rw (← c.self.view_is) at c.requires)
 
 pub grant-requires-clause-free : goal.grant-requires-clause-free
-grant-requires-clause-free c = rw c.free.ensures.items (is_free-freed c.self.invariant.kept c.args.mon)
+grant-requires-clause-free c = rw c.free.ensures.locks (is_free-freed c.self.invariant.kept c.args.mon)
