@@ -910,8 +910,7 @@ owners_alone_reply B setting least most takes n defined s a its =
 
 pub replies_are_written : (B : Type 0) → RepliesAreWritten B
 unfolding replies_in
-replies_are_written B setting least most takes n defined s e a agents its =
-    let of = owners_alone_reply B setting least most takes n defined s a its in
+replies_are_written B setting least most takes n defined s e a agents of =
     let r = sessions_are_reached B setting takes n defined in
     let start = opening_session setting in
     let is : (play setting takes n).steps ≡ (after_moves setting r.moves start).steps = ap (λ (x : Session B). x.steps) r.is in
@@ -921,8 +920,8 @@ replies_are_written B setting least most takes n defined s e a agents its =
     ∙ ap (λ steps. text_lines (replies_accepted s a (steps_of steps))) (sym is)
 
 pub clients_are_written : ClientsAreWritten
-clients_are_written script least most takes n defined s k in_s in_k event place apart early begins_s body_s begins_k body_k serves lines client e a event_is agents its = record {
+clients_are_written script least most takes n defined s k in_s in_k event place apart early begins_s body_s begins_k body_k serves lines client e a event_is agents of = record {
   texts = replies_accepted s a (steps_of (session_at script takes n).steps);
   first = from_null_names (bodies_of script) (params_of script) (length script.names.threads) (length script.names.mons) (length script.names.conds) least most takes n defined s k in_s in_k event place apart early begins_s body_s begins_k body_k serves lines a;
-  written = ap (λ o. replies_in o (session_at script takes n).steps) event_is ∙ replies_are_written ThreadBody (setting_of script) least most takes n defined s e a agents its;
+  written = ap (λ o. replies_in o (session_at script takes n).steps) event_is ∙ replies_are_written ThreadBody (setting_of script) least most takes n defined s e a agents of;
 }

@@ -56,13 +56,13 @@ OwnersAloneReply B = (setting : Setting B) → 1 ≤ setting.params.maxpri
     → (s a : ℕ) → owns s a (play setting takes n).steps ≡ true
     → replies_are_of s a (play setting takes n).steps ≡ true
 
--- Where an event has had one agent, and s owns that: what its client was told are the accepted replies of s, each on a
--- line of its own.
+-- Where an event has had one agent, and nobody but s has replied to that, as nobody but its owner does: what its client
+-- was told are the accepted replies of s, each on a line of its own.
 abbrev pub RepliesAreWritten : Type 0 → Type 0
 RepliesAreWritten B = (setting : Setting B) → 1 ≤ setting.params.maxpri
     → setting.params.maxpri ≤ 255 → (takes : List Took) (n : ℕ) → IsDefined setting takes n
     → (s e a : ℕ) → (known_after_steps (Some e) (play setting takes n).steps).agents ≡ a ∷ []
-    → owns s a (play setting takes n).steps ≡ true
+    → replies_are_of s a (play setting takes n).steps ≡ true
     → replies_in (Some e) (play setting takes n).steps
     ≡ text_lines (replies_accepted s a (steps_of (play setting takes n).steps))
 
@@ -73,12 +73,13 @@ pub record IsFirstWritten (a : ℕ) (steps : List Sessions.Made) (bytes : List �
   pub written : bytes ≡ text_lines texts
 
 -- So what `answers` writes of a client of a script, in each of its sessions: where the client's event has had one
--- agent, and a client's session owns that, it is a first part of the answers to the lines delivered to that agent.
+-- agent, and of the accepted replies to that all are of one client's session, as they are where the session owns it, it
+-- is a first part of the answers to the lines delivered to that agent.
 abbrev pub ClientsAreWritten : Type 0
 ClientsAreWritten = (script : Script) → HoldsAlways (setting_of script) Serving Storing (λ s k end. Unit {0})
     (λ s end. (client e a : ℕ) → event_of script client ≡ Some e
     → (known_after_steps (Some e) end.steps).agents ≡ a ∷ []
-    → owns s a end.steps ≡ true
+    → replies_are_of s a end.steps ≡ true
     → IsFirstWritten a end.steps (replies_in (event_of script client) end.steps))
 
 -- What a client is told in a plan is what it is told in the session that the plan's takes and calls play; and that each

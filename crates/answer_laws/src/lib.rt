@@ -4,7 +4,7 @@
 //! | what is said | law, and where it stands |
 //! |---|---|
 //! | in every session of every script, with names that are null at the opening, whenever lines are taken and whatever the other clients do: of a client's session and a store, whichever of the two is born first, the accepted replies to the session's agent are a first part of the answers to the lines delivered to that | `FromNullNames`, of any names `InEveryScript`, and of any bodies `InEverySession` (`specs/Births.antt`) |
-//! | what `answers` writes of a client are the accepted replies to the agent of its event, if that has had one alone, of the agent's owner: nobody else replies to it; so of a client's session and a store it is a first part of the answers to the client's lines | `OwnersAloneReply`, `RepliesAreWritten`, `ClientsAreWritten`, and of plans `PlansAreSessions` (`specs/Written.antt`) |
+//! | what `answers` writes of a client are the accepted replies to the agent of its event, if that has had one alone and one thread alone has replied to it, as its owner alone does; so of a client's session and a store it is a first part of the answers to the client's lines | `OwnersAloneReply`, `RepliesAreWritten`, `ClientsAreWritten`, and of plans `PlansAreSessions` (`specs/Written.antt`) |
 //! | so it is from any point of a session on at which the two begin, or the session behind a store that has served others | `ClientsAreAnsweredInTurn`, `LaterClientsAreAnsweredInTurn`, and by moves from the opening on `InWholeSessions`, `SessionsAreReached` (`specs/Served.antt`) |
 //! | in every session of every script each name of a thread is null, or the number of somebody who was born; so a client's session sends to nobody else | `NullNamesAreKnown`, `NamesAreOfTheBorn`, `SessionsSendToTheBorn` (`specs/Known.antt`) |
 //! | a session and a store that talk, whatever others send to the store and whoever ends: what the client is told is a first part of the answers to its lines | `TalksAreAnswers` (`specs/Talks.antt`) |
@@ -77,7 +77,8 @@ pub fn every_reply_to_an_agent<B: Body>()
     ensures { OwnersAloneReply B }
 {}
 
-/// Where an event has had one agent: what the event's client is told are the accepted replies of the agent's owner, each on a line of its own.
+/// Where an event has had one agent, and nobody but this thread was told that his reply to that was accepted: what the event's client is told
+/// are this thread's accepted replies, each on a line of its own. Of the agent's owner it is so in every session (`every_reply_to_an_agent`).
 pub fn every_reply_written<B: Body>()
     ensures { RepliesAreWritten B }
 {}
