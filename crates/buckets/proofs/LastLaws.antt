@@ -1,5 +1,5 @@
 -- The last list that has anybody, word by word; and what its first is.
-use Rattle.buckets.specs.Last.{GivesLast, IsLast, NoFirst}
+use Rattle.buckets.specs.Last.{AreWithin, GivesLast, IsLast, NoFirst}
 use Rattle.lwp_types.specs.Choice.{best_by, better_by}
 use Rattle.std.proofs.Common.{Bool, IsTrue, List, MatchOption, None, Option, Some, [], arith, cond, eqb, false, inl, inr, is_some, leb, refl, sym, true, ℕ, ◌*◌, ◌+◌, ◌-◌, ◌<◌, ◌∙◌, ◌∷◌, ◌≡◌, ◌≢◌, ◌≤◌}
 use Rattle.std.proofs.lemmas.Bool.{cases_lt, eq-eqb, eqb-false, eqb-true, le-leb, lt-leb, ne_eqb}
@@ -38,32 +38,6 @@ module _ {A : Type 0} where
         let bit = bits (m - 64 * at) (omega arith) in
         unmarked (firsts m) (rw place at (sym bit ∙ zeros (m - 64 * at) (omega arith)));
   }
-
-  -- ---- words together
-
-  pub none_joined : (firsts : ℕ → Option A) (a b c : ℕ) → NoFirst firsts a b → NoFirst firsts b c → NoFirst firsts a c
-  none_joined firsts a b c lower upper m from to = elim (cases_lt m b) [
-    | inl below ↦ lower m from below
-    | inr past ↦ upper m past to
-  ]
-
-  pub gives_none : (firsts : ℕ → Option A) → NoFirst firsts 0 64 → NoFirst firsts 64 256 → NoFirst firsts 0 256
-  gives_none firsts lower upper = none_joined firsts 0 64 256 lower upper
-
-  pub gives_last : (firsts : ℕ → Option A) (from to n : ℕ) (x : Option A) → to ≤ 256 → IsLast firsts from to n → NoFirst firsts to 256 → x ≡ firsts n → GivesLast firsts x
-  gives_last firsts from to n x low last upper is = rw is (by_case (firsts n) refl last.has_some)
-    where
-      by_case : (o : Option A) → firsts n ≡ o → IsTrue (is_some o) → GivesLast firsts o
-      by_case None here some = let both : false ≡ true = some in absurd (cc)
-      by_case (Some y) here some = record {
-        list = n;
-        below = omega (arith, last.below);
-        is_first = here;
-        none_later = λ m after in_all. elim (cases_lt m to) [
-          | inl below ↦ last.none_later m after below
-          | inr past ↦ upper m past in_all
-        ];
-      }
 
 -- ---- the first of the heaviest
 
@@ -131,6 +105,19 @@ module _ (weight : ℕ → ℕ) where
   none_beyond n (x ∷ xs) low m past =
       let differs : eqb (weight x) m ≡ false = ne_eqb _ _ (λ same. absurd (omega (arith, same, low.0))) in
       rw differs (none_beyond n xs low.1 m past)
+
+  -- where all weigh from 1 to n, only lists from 1 to n have anybody
+  pub are_within : (n : ℕ) (xs : List ℕ) → AllByRecursion (λ x. (1 ≤ weight x) × (weight x ≤ n)) xs → AreWithin (firsts xs) n
+  are_within n [] in_range = record { none_at_zero = refl; none_above = λ m above in_all. refl }
+  are_within n (x ∷ xs) in_range =
+      let rest = are_within n xs in_range.1 in
+      let not_zero : eqb (weight x) 0 ≡ false = ne_eqb _ _ (λ same. absurd (omega (arith, same, in_range.0.0))) in
+      record {
+        none_at_zero = rw not_zero rest.none_at_zero;
+        none_above = λ m above in_all.
+            let lighter : eqb (weight x) m ≡ false = ne_eqb _ _ (λ same. absurd (omega (arith, same, above, in_range.0.1))) in
+            rw lighter (rest.none_above m above in_all);
+      }
 
   -- where all weigh less than 256, the first of the last is the first of the heaviest
   pub last_is_best : (xs : List ℕ) → AllByRecursion (λ x. weight x < 256) xs → (given : Option ℕ) → GivesLast (firsts xs) given → given ≡ best_by weight xs

@@ -12,6 +12,11 @@ pub record IsLast {A : Type 0} (firsts : ℕ → Option A) (from to n : ℕ) : T
 abbrev pub NoFirst : {A : Type 0} → (ℕ → Option A) → ℕ → ℕ → Type 0
 NoFirst firsts from to = (m : ℕ) → from ≤ m → m < to → firsts m ≡ None
 
+-- only lists from 1 to this one have anybody
+pub record AreWithin {A : Type 0} (firsts : ℕ → Option A) (most : ℕ) : Type 0 where
+  pub none_at_zero : firsts 0 ≡ None
+  pub none_above : (m : ℕ) → most < m → m < 256 → firsts m ≡ None
+
 -- the last that has anybody is found, and nothing exactly where none has
 abbrev pub FindsLast : {A : Type 0} → (ℕ → Option A) → ℕ → ℕ → Option ℕ → Type 0
 FindsLast firsts from to found = MatchOption found (NoFirst firsts from to) (IsLast firsts from to)

@@ -1,7 +1,7 @@
 // Looks that are counted, and the choice that can take no others.
 ghost use Rattle.std.specs.Prelude.{◌≡◌, ◌+◌, ◌*◌, ◌<◌, ◌≤◌, Option, cond, is_some, ℕ};
 ghost use Rattle.std.specs.Int.{bit_at};
-ghost use Rattle.buckets.specs.Last.{FindsLast, GivesLast};
+ghost use Rattle.buckets.specs.Last.{AreWithin, FindsLast, GivesLast};
 
 use crate::marks::top_bit;
 use std::marker::Model;
@@ -104,13 +104,43 @@ fn last_of_all<L: Ledger, K, B: Looks<L, K>>(lists: &B, steps: &mut Steps<L>) ->
     last_of_word(lists, 0, steps)
 }
 
-/// The first of the last list that has anybody: four looks at words at most, and one at a list. It is told nothing of the
-/// lists but by looks that count.
+// The last of the lists up to `most` that has anybody. One word has them all where there are no more than 63.
 #[inline(always)]
-pub fn first_of_last<L: Ledger, K, B: Looks<L, K>>(lists: &B, steps: &mut Steps<L>) -> Option<K>
+fn last_up_to<L: Ledger, K, B: Looks<L, K>>(
+    lists: &B,
+    most: usize,
+    steps: &mut Steps<L>,
+) -> Option<usize>
+    requires within { AreWithin (B.firsts lists.now) most }
+    ensures last { FindsLast (B.firsts lists.now) 0 256 result }
+    ensures cost { steps.new ≤ steps.old + 4 }
+    ensures cost_of_word { most < 64 → steps.new ≡ steps.old + 1 }
+{
+    if most < 64 {
+        last_of_word(lists, 0, steps)
+    } else {
+        last_of_all(lists, steps)
+    }
+}
+
+/// The first of the last list that has anybody, where only lists from 1 to `most` have. A single list is looked at straight
+/// away. Else one word at most is looked at, if it has them all, and if not four, and then one list. It is told nothing of
+/// the lists but by looks that count.
+#[inline(always)]
+pub fn first_of_last<L: Ledger, K, B: Looks<L, K>>(
+    lists: &B,
+    most: usize,
+    steps: &mut Steps<L>,
+) -> Option<K>
+    requires least { 1 ≤ most }
+    requires within { AreWithin (B.firsts lists.now) most }
     ensures value { GivesLast (B.firsts lists.now) result }
     ensures cost { steps.new ≤ steps.old + 5 }
+    ensures cost_by_lists { steps.new ≤ steps.old + most }
 {
-    let list = last_of_all(lists, steps)?;
+    if most == 1 {
+        return lists.first(1, steps);
+    }
+    let list = last_up_to(lists, most, steps)?;
     lists.first(list, steps)
 }

@@ -113,6 +113,7 @@ module _ (slots : Lists) (order : Order) (rows : List Known) (slot_of : ℕ → 
         map_room = held.map_room;
         least = held.least;
         most = held.most;
+        priorities = held.priorities;
         are_slots = held.are_slots;
         ready = All-before (IsReady (row_at rows) (items slots 0) (prio_of order)) other slot (without other order.order) (ready_slot u other at' runs')
             (All-weaker (λ s. IsReady (row_at rows) (items slots 0) (prio_of order) s × (s ≢ other)) _ (λ s is. is.0) (without other order.order) (All-without (IsReady (row_at rows) (items slots 0) (prio_of order)) other order.order held.ready));

@@ -2,14 +2,15 @@
 use Rattle.buckets.specs.Order.{Order, after_take, prio_of}
 use Rattle.chains.proofs.Pushes.{items_pushed_other, items_pushed_same, length-pushed}
 use Rattle.chains.specs.Lists.{Lists, after_move_to_back, items}
+use Rattle.lwp_types.proofs.Ranks.{All-filter}
 use Rattle.lwp_types.specs.CountLaws.{count-cons, count-push, length-without, one, times-without_other, times-without_same}
 use Rattle.lwp_types.specs.State.{times_in, without}
 use Rattle.pod_sched.proofs.Counts.{one_other, one_same, times-same, times_found}
 use Rattle.pod_sched.proofs.HeldLemmas.{is_slot, thread}
 use Rattle.pod_sched.proofs.Ordered.{IsOrdered-left}
 use Rattle.pod_sched.proofs.SlotLemmas.{All-found, All-push, All-weaker, All-without, find_agree, located, map_push, only, slot_known, slot_tid, tids_same, tids_without, without_none}
-use Rattle.pod_sched.specs.Held.{IsHeld, schedule_of, tid_at}
-use Rattle.pod_sched.specs.Schedule.{after_leave, without_row}
+use Rattle.pod_sched.specs.Held.{IsPriority, IsHeld, schedule_of, tid_at}
+use Rattle.pod_sched.specs.Schedule.{after_leave, is_of, without_row}
 use Rattle.pod_sched.specs.Slots.{AreSlots, Changes, IsFree, IsKnown, IsReady, Puts, has_tid, row_at}
 use Rattle.pod_sched.specs.declared.rows.Known.{Known}
 use Rattle.std.proofs.Common.{Bool, List, None, Option, Some, [], ap, arith, cond, eqb, false, inl, inr, length, map, not, refl, slice_get, subst, sym, true, ℕ, ◌++◌, ◌+◌, ◌<◌, ◌∙◌, ◌∷◌, ◌≡◌, ◌≢◌, ◌≤◌}
@@ -83,7 +84,7 @@ module _ (row : ℕ → Known) (known free : List ℕ) (slot_of slot_of' : ℕ �
     ];
     count = omega (arith, slots.count, length-without slot known, length-without slot free, once_known, once_free, length_push (without slot free) slot);
     are_known = All-weaker (λ s. IsKnown row known places s × (s ≢ slot)) (IsKnown row (without slot known) places)
-        (λ s is. record { is_slot = is.0.is_slot; in_range = is.0.in_range; found = still_found s is.0.found is.1; low = is.0.low })
+        (λ s is. record { is_slot = is.0.is_slot; in_range = is.0.in_range; found = still_found s is.0.found is.1 })
         (without slot known) (All-without (IsKnown row known places) slot known slots.are_known);
     are_free = All-push (IsFree places) (without slot free) slot
         (All-weaker (λ s. IsFree places s × (s ≢ slot)) (IsFree places) (λ s is. is.0) (without slot free) (All-without (IsFree places) slot free slots.are_free))
@@ -148,6 +149,7 @@ module _ (slots : Lists) (order : Order) (rows : List Known) (slot_of : ℕ → 
       map_room = omega (arith, held.map_room, same_room);
       least = held.least;
       most = held.most;
+      priorities = rw (known_left, threads_left slot_of' puts) (All-filter (λ (row : Known). IsPriority maxpri row.prio) (λ r. not (is_of t r)) (map (row_at rows) (items slots 0)) held.priorities);
       are_slots = rw (known_left, free_left) (AreSlots-left (row_at rows) (items slots 0) (items slots 1) slot_of slot_of' places held.are_slots t slot at puts);
       ready = rw known_left (ready_left (row_at rows) (items slots 0) (items slots 1) slot_of slot_of' places held.are_slots t slot at puts (prio_of order) order.order held.ready);
       ordered = rw (known_left, threads_left slot_of' puts, order_left slot_of' puts) (IsOrdered-left _ _ held.ordered t (row_at rows slot) (thread slots order rows slot_of map_len room maxpri places held t slot at));
@@ -179,7 +181,7 @@ slot_free places (x ∷ xs) slot all is =
     let same : x ≡ slot = cc in
     subst (IsFree places) same all.0
 
-module _ (row row' : ℕ → Known) (known free : List ℕ) (slot_of slot_of' : ℕ → Option ℕ) (places : ℕ) (slots : AreSlots row known free slot_of places) (t slot : ℕ) (unknown : slot_of t ≡ None) (first : slice_get free 0 ≡ Some slot) (new : Known) (changes : Changes row row' slot new) (same_tid : new.tid ≡ t) (low : new.prio < 256) (puts : Puts slot_of slot_of' t (Some slot)) where
+module _ (row row' : ℕ → Known) (known free : List ℕ) (slot_of slot_of' : ℕ → Option ℕ) (places : ℕ) (slots : AreSlots row known free slot_of places) (t slot : ℕ) (unknown : slot_of t ≡ None) (first : slice_get free 0 ≡ Some slot) (new : Known) (changes : Changes row row' slot new) (same_tid : new.tid ≡ t) (puts : Puts slot_of slot_of' t (Some slot)) where
   free_once : times_in free slot ≡ 1
   free_once = omega (arith, first_times free slot first, slots.once slot)
 
@@ -234,10 +236,9 @@ module _ (row row' : ℕ → Known) (known free : List ℕ) (slot_of slot_of' : 
           is_slot = is.0.is_slot;
           in_range = is.0.in_range;
           found = found_kept s is.0.is_slot is.1 is.0.found;
-          low = rw (changes.others s is.0.is_slot is.1) is.0.low;
         })
         known others)
-        (record { is_slot = free_slot.is_slot; in_range = free_slot.in_range; found = ap (λ u. find (has_tid row' u) (known ++ slot ∷ [])) its_new_tid ∙ found_new; low = rw changes.here low });
+        (record { is_slot = free_slot.is_slot; in_range = free_slot.in_range; found = ap (λ u. find (has_tid row' u) (known ++ slot ∷ [])) its_new_tid ∙ found_new });
     are_free = All-weaker (λ s. IsFree places s × (s ≢ slot)) (IsFree places) (λ s is. is.0) (without slot free) (All-without (IsFree places) slot free slots.are_free);
     index = λ u. elim (cases_eq u t) [
       | inl same ↦ ap slot_of' same ∙ puts.here ∙ sym (ap (λ n. find (has_tid row' n) (known ++ slot ∷ [])) same ∙ found_new)

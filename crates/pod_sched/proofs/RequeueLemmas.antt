@@ -2,7 +2,7 @@
 use Rattle.buckets.specs.Order.{Order, after_put_last}
 use Rattle.chains.specs.Lists.{Lists}
 use Rattle.lwp_types.specs.State.{passes}
-use Rattle.pod_sched.proofs.HeldLemmas.{IsHeld-back, of_thread, prio_low, thread, view_back}
+use Rattle.pod_sched.proofs.HeldLemmas.{IsHeld-back, has_priority, of_thread, thread, view_back}
 use Rattle.pod_sched.proofs.OpLemmas.{back_same}
 use Rattle.pod_sched.specs.Held.{IsHeld, after_requeue, schedule_of}
 use Rattle.pod_sched.specs.Schedule.{Schedule, is_blocked_in, is_eligible, is_eligible_in, knows, thread_of}
@@ -38,12 +38,11 @@ module _ (slots : Lists) (order : Order) (rows : List Known) (slot_of : ℕ → 
   IsHeld-requeued runs =
       IsHeld-back slots order rows slot_of map_len room maxpri places held t slot at rows refl (row_at rows slot) stays
       (of_thread slots order rows slot_of map_len room maxpri places held t slot at)
-      (prio_low slots order rows slot_of map_len room maxpri places held t slot at)
+      (has_priority slots order rows slot_of map_len room maxpri places held t slot at)
       (sym (ap (passes is_eligible) (thread slots order rows slot_of map_len room maxpri places held t slot at)) ∙ runs)
 
   pub view_requeued : schedule_of slots (after_put_last order slot (row_at rows slot).prio) rows maxpri places ≡ after_requeue (schedule_of slots order rows maxpri places) t
   view_requeued =
       view_back slots order rows slot_of map_len room maxpri places held t slot at rows refl (row_at rows slot) stays
       (of_thread slots order rows slot_of map_len room maxpri places held t slot at)
-      (prio_low slots order rows slot_of map_len room maxpri places held t slot at)
       ∙ back_same (schedule_of slots order rows maxpri places) t (row_at rows slot) held.ordered (thread slots order rows slot_of map_len room maxpri places held t slot at)

@@ -36,7 +36,7 @@ module _ (row : ℕ → Known) (known free : List ℕ) (slot_of : ℕ → Option
       | inr differs ↦ omega (arith, slots.once s, count-push (λ v. eqb v s) free (256 + places), one_other (256 + places) s differs)
     ];
     count = omega (arith, slots.count, length_push free (256 + places));
-    are_known = All-weaker (IsKnown row known places) (IsKnown row known (places + 1)) (λ s is. record { is_slot = is.is_slot; in_range = omega (arith, is.in_range); found = is.found; low = is.low }) known slots.are_known;
+    are_known = All-weaker (IsKnown row known places) (IsKnown row known (places + 1)) (λ s is. record { is_slot = is.is_slot; in_range = omega (arith, is.in_range); found = is.found }) known slots.are_known;
     are_free = All-push (IsFree (places + 1)) free (256 + places)
         (All-weaker (IsFree places) (IsFree (places + 1)) (λ s is. record { is_slot = is.is_slot; in_range = omega (arith, is.in_range) }) free slots.are_free)
         (record { is_slot = omega arith; in_range = omega arith });
@@ -93,6 +93,7 @@ module _ (slots : Lists) (order : Order) (rows : List Known) (slot_of : ℕ → 
     map_room = held.map_room;
     least = held.least;
     most = held.most;
+    priorities = held.priorities;
     are_slots = held.are_slots;
     ready = held.ready;
     ordered = held.ordered;
@@ -112,7 +113,7 @@ module _ (slots : Lists) (order : Order) (rows : List Known) (slot_of : ℕ → 
     slots_kept = record {
       once = held.are_slots.once;
       count = held.are_slots.count;
-      are_known = All-weaker (IsKnown (row_at rows) (items slots 0) places) (IsKnown (row_at rows') (items slots 0) places) (λ s is. record { is_slot = is.is_slot; in_range = is.in_range; found = found_kept s is.is_slot is.in_range is.found; low = rw (row_kept s is.is_slot is.in_range) is.low }) (items slots 0) held.are_slots.are_known;
+      are_known = All-weaker (IsKnown (row_at rows) (items slots 0) places) (IsKnown (row_at rows') (items slots 0) places) (λ s is. record { is_slot = is.is_slot; in_range = is.in_range; found = found_kept s is.is_slot is.in_range is.found }) (items slots 0) held.are_slots.are_known;
       are_free = held.are_slots.are_free;
       index = λ u. held.are_slots.index u ∙ sym (find_kept u);
     }
@@ -155,6 +156,7 @@ module _ (slots : Lists) (order : Order) (rows : List Known) (slot_of : ℕ → 
         map_room = omega (arith, held.map_room, longer);
         least = held.least;
         most = held.most;
+        priorities = rw threads_kept held.priorities;
         are_slots = slots_kept;
         ready = All-weaker (IsReady (row_at rows) (items slots 0) (prio_of order)) (IsReady (row_at rows') (items slots 0) (prio_of (with_keys order keys)))
             (λ s is. record {
@@ -187,6 +189,7 @@ module _ (slots : Lists) (order : Order) (rows : List Known) (slot_of : ℕ → 
       map_room = map_room;
       least = held.least;
       most = held.most;
+      priorities = rw new_slots.known held.priorities;
       are_slots = subst (AreSlots (row_at rows) (items (after_free slots (256 + places) (n - places)) 0) (items (after_free slots (256 + places) (n - places)) 1) slot_of) in_all new_slots.are_slots;
       ready = rw new_slots.known held.ready;
       ordered = rw new_slots.known held.ordered;

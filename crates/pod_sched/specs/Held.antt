@@ -23,6 +23,11 @@ schedule_of slots order rows maxpri places = record {
   places = places;
 }
 
+-- there are priorities from 1 to the greatest, and it is one of them
+pub record IsPriority (maxpri prio : ℕ) : Type 0 where
+  pub least : 1 ≤ prio
+  pub most : prio ≤ maxpri
+
 -- list 0 of the slots is of the known threads, and list 1 of the free ones
 pub record IsHeld (slots : Lists) (order : Order) (rows : List Known) (slot_of : ℕ → Option ℕ)
     (map_len room maxpri places : ℕ) : Type 0 where
@@ -35,6 +40,7 @@ pub record IsHeld (slots : Lists) (order : Order) (rows : List Known) (slot_of :
   pub map_room : places ≤ room
   pub least : 1 ≤ maxpri
   pub most : maxpri ≤ 255
+  pub priorities : AllByRecursion (λ row. IsPriority maxpri row.prio) (map (row_at rows) (items slots 0))
   pub are_slots : AreSlots (row_at rows) (items slots 0) (items slots 1) slot_of places
   pub ready : AllByRecursion (IsReady (row_at rows) (items slots 0) (prio_of order)) order.order
   pub ordered : IsOrdered (map (row_at rows) (items slots 0)) (map (tid_at rows) order.order)

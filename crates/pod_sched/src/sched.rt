@@ -201,11 +201,12 @@ impl Sched {
     }
 
     /// What `current` answers, with its steps counted. A step is a look at one of the four words that say of 64 priorities each
-    /// whether they have somebody, or at the bucket of one priority; so there are five at most, however many threads and
-    /// priorities there are. `current` takes the same steps.
+    /// whether they have somebody, or at the bucket of one priority. There are five at most, and no more than priorities,
+    /// however many threads there are. `current` takes the same steps.
     pub fn current_counted<L: Ledger>(&self, steps: &mut Steps<L>) -> Option<Tid>
         ensures value { result ≡ choice self.now }
         ensures cost { steps.new ≤ steps.old + 5 }
+        ensures cost_by_priorities { steps.new ≤ steps.old + self.now.maxpri }
     {
         self.turns.current_counted(steps)
     }

@@ -276,10 +276,9 @@ impl Turns {
         ensures first_best { FindsBest (prio_in self.now.threads) self.now.order result }
         ensures ordered { IsOrdered self.now.threads self.now.order }
         ensures cost { steps.new ≤ steps.old + 5 }
+        ensures cost_by_priorities { steps.new ≤ steps.old + self.now.maxpri }
     {
-        // Read for the proof alone, to which it opens what is kept: no priority is above 255.
-        let _maxpri = self.maxpri;
-        first_of_last::<L, Tid, Turns>(self, steps)
+        first_of_last::<L, Tid, Turns>(self, self.maxpri as usize, steps)
     }
 
     /// The bucket of this priority.
@@ -349,8 +348,8 @@ impl Turns {
         requires { IsTrue (knows self.now tid) }
         ensures value { thread_of self.now tid ≡ Some result }
         ensures same { result.tid ≡ tid }
-        ensures low { result.prio < 256 }
-        ensures most { self.now.maxpri ≤ 255 }
+        ensures least { 1 ≤ result.prio }
+        ensures most { result.prio ≤ self.now.maxpri }
         ensures ordered { IsOrdered self.now.threads self.now.order }
         ensures bare { self.now.timers ≡ [] }
     {
@@ -371,7 +370,8 @@ impl Turns {
     fn put_out(&mut self, tid: Tid, row: Known)
         requires known { IsTrue (knows self.old tid) }
         requires same { row.tid ≡ tid }
-        requires low { row.prio < 256 }
+        requires least { 1 ≤ row.prio }
+        requires most { row.prio ≤ self.old.maxpri }
         requires out { is_eligible row ≡ false }
         ensures { self.new ≡ out_with self.old tid row }
     {
@@ -394,7 +394,8 @@ impl Turns {
     fn put_back(&mut self, tid: Tid, row: Known)
         requires known { IsTrue (knows self.old tid) }
         requires same { row.tid ≡ tid }
-        requires low { row.prio < 256 }
+        requires least { 1 ≤ row.prio }
+        requires most { row.prio ≤ self.old.maxpri }
         requires in_order { is_eligible row ≡ true }
         ensures { self.new ≡ back_with self.old tid row }
     {

@@ -1,5 +1,6 @@
 use Rattle.pod_sched.proofs.HeldLemmas.{IsHeld-back, in_limit, in_rows, is_key, is_slot, known_at, view_back}
 use Rattle.pod_sched.proofs.turns.Turns.put_back.Goals as goal
+use Rattle.std.proofs.Common.{arith}
 
 pub known_slot-slot-requires : goal.known_slot-slot-requires
 known_slot-slot-requires c = rw c.tid.view_is (known_at c.self.inside.slots c.self.inside.order c.self.inside.rows.items _ _ _ c.self.inside.maxpri c.self.inside.places c.self.invariant c.args.tid (rw (← c.self.view_is) at c.requires.known))
@@ -17,12 +18,12 @@ pub put_last-requires-clause-in_limit : goal.put_last-requires-clause-in_limit
 put_last-requires-clause-in_limit c = in_limit c.self.inside.slots c.self.inside.order c.self.inside.rows.items _ _ _ c.self.inside.maxpri c.self.inside.places c.self.invariant c.args.tid _ (rw c.tid.view_is at c.known_slot-slot.ensures)
 
 pub put_last-requires-clause-low : goal.put_last-requires-clause-low
-put_last-requires-clause-low c = rw c.self.invariant.levels c.requires.low
+put_last-requires-clause-low c = rw c.self.invariant.levels (omega (arith, rw (← c.self.view_is) at c.requires.most, c.self.invariant.most))
 
 pub invariant_of-self : goal.invariant_of-self
 invariant_of-self c =
-    rw c.put_last.ensures (IsHeld-back c.self.inside.slots c.self.inside.order c.self.inside.rows.items _ _ _ c.self.inside.maxpri c.self.inside.places c.self.invariant c.args.tid _ (rw c.tid.view_is at c.known_slot-slot.ensures) c.put_row.new.rows.items c.put_row.ensures.len c.args.row c.put_row.ensures.changes c.requires.same c.requires.low c.requires.in_order)
+    rw c.put_last.ensures (IsHeld-back c.self.inside.slots c.self.inside.order c.self.inside.rows.items _ _ _ c.self.inside.maxpri c.self.inside.places c.self.invariant c.args.tid _ (rw c.tid.view_is at c.known_slot-slot.ensures) c.put_row.new.rows.items c.put_row.ensures.len c.args.row c.put_row.ensures.changes c.requires.same (record { least = c.requires.least; most = rw (← c.self.view_is) at c.requires.most }) c.requires.in_order)
 
 pub returns : goal.returns
 returns c =
-    rw (c.put_last.ensures, ← c.self.view_is) (view_back c.self.inside.slots c.self.inside.order c.self.inside.rows.items _ _ _ c.self.inside.maxpri c.self.inside.places c.self.invariant c.args.tid _ (rw c.tid.view_is at c.known_slot-slot.ensures) c.put_row.new.rows.items c.put_row.ensures.len c.args.row c.put_row.ensures.changes c.requires.same c.requires.low)
+    rw (c.put_last.ensures, ← c.self.view_is) (view_back c.self.inside.slots c.self.inside.order c.self.inside.rows.items _ _ _ c.self.inside.maxpri c.self.inside.places c.self.invariant c.args.tid _ (rw c.tid.view_is at c.known_slot-slot.ensures) c.put_row.new.rows.items c.put_row.ensures.len c.args.row c.put_row.ensures.changes c.requires.same)

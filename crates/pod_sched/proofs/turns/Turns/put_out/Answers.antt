@@ -18,8 +18,8 @@ take-requires-clause-in_limit c = in_limit c.self.inside.slots c.self.inside.ord
 
 pub invariant_of-self : goal.invariant_of-self
 invariant_of-self c =
-    rw c.take.ensures (IsHeld-out c.self.inside.slots c.self.inside.order c.self.inside.rows.items _ _ _ c.self.inside.maxpri c.self.inside.places c.self.invariant c.args.tid _ (rw c.tid.view_is at c.known_slot-slot.ensures) c.put_row.new.rows.items c.put_row.ensures.len c.args.row c.put_row.ensures.changes c.requires.same c.requires.low c.requires.out)
+    rw c.take.ensures (IsHeld-out c.self.inside.slots c.self.inside.order c.self.inside.rows.items _ _ _ c.self.inside.maxpri c.self.inside.places c.self.invariant c.args.tid _ (rw c.tid.view_is at c.known_slot-slot.ensures) c.put_row.new.rows.items c.put_row.ensures.len c.args.row c.put_row.ensures.changes c.requires.same (record { least = c.requires.least; most = rw (← c.self.view_is) at c.requires.most }) c.requires.out)
 
 pub returns : goal.returns
 returns c =
-    rw (c.take.ensures, ← c.self.view_is) (view_out c.self.inside.slots c.self.inside.order c.self.inside.rows.items _ _ _ c.self.inside.maxpri c.self.inside.places c.self.invariant c.args.tid _ (rw c.tid.view_is at c.known_slot-slot.ensures) c.put_row.new.rows.items c.put_row.ensures.len c.args.row c.put_row.ensures.changes c.requires.same c.requires.low)
+    rw (c.take.ensures, ← c.self.view_is) (view_out c.self.inside.slots c.self.inside.order c.self.inside.rows.items _ _ _ c.self.inside.maxpri c.self.inside.places c.self.invariant c.args.tid _ (rw c.tid.view_is at c.known_slot-slot.ensures) c.put_row.new.rows.items c.put_row.ensures.len c.args.row c.put_row.ensures.changes c.requires.same)

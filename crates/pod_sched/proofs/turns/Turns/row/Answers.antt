@@ -1,4 +1,4 @@
-use Rattle.pod_sched.proofs.HeldLemmas.{in_rows, is_slot, known_at, of_thread, prio_low, thread}
+use Rattle.pod_sched.proofs.HeldLemmas.{has_priority, in_rows, is_slot, known_at, of_thread, thread}
 use Rattle.pod_sched.proofs.turns.Turns.row.Goals as goal
 
 pub known_slot-slot-requires : goal.known_slot-slot-requires
@@ -16,5 +16,8 @@ returns-clause-value c = rw (← c.self.view_is, c.row_at.ensures) (thread c.sel
 pub returns-clause-same : goal.returns-clause-same
 returns-clause-same c = rw c.row_at.ensures (of_thread c.self.inside.slots c.self.inside.order c.self.inside.rows.items _ _ _ c.self.inside.maxpri c.self.inside.places c.self.invariant c.args.tid _ (rw c.tid.view_is at c.known_slot-slot.ensures))
 
-pub returns-clause-low : goal.returns-clause-low
-returns-clause-low c = rw c.row_at.ensures (prio_low c.self.inside.slots c.self.inside.order c.self.inside.rows.items _ _ _ c.self.inside.maxpri c.self.inside.places c.self.invariant c.args.tid _ (rw c.tid.view_is at c.known_slot-slot.ensures))
+pub returns-clause-least : goal.returns-clause-least
+returns-clause-least c = rw c.row_at.ensures (has_priority c.self.inside.slots c.self.inside.order c.self.inside.rows.items _ _ _ c.self.inside.maxpri c.self.inside.places c.self.invariant c.args.tid _ (rw c.tid.view_is at c.known_slot-slot.ensures)).least
+
+pub returns-clause-most : goal.returns-clause-most
+returns-clause-most c = rw (← c.self.view_is, c.row_at.ensures) (has_priority c.self.inside.slots c.self.inside.order c.self.inside.rows.items _ _ _ c.self.inside.maxpri c.self.inside.places c.self.invariant c.args.tid _ (rw c.tid.view_is at c.known_slot-slot.ensures)).most

@@ -1,10 +1,10 @@
-use Rattle.pod_sched.proofs.HeldLemmas.{IsHeld-back, IsHeld-out, in_limit, in_rows, is_key, is_slot, known_at, of_thread, prio_low, thread, view_back, view_out}
+use Rattle.pod_sched.proofs.HeldLemmas.{IsHeld-back, IsHeld-out, has_priority, in_limit, in_rows, is_key, is_slot, known_at, of_thread, prio_low, thread, view_back, view_out}
 use Rattle.pod_sched.proofs.OpLemmas.{unblock_free, unblock_held}
 use Rattle.pod_sched.proofs.RequeueLemmas.{blocked_known, free_in, held_out}
 use Rattle.pod_sched.proofs.turns.Turns.unblock.Goals as goal
-use Rattle.pod_sched.specs.Held.{schedule_of}
+use Rattle.pod_sched.specs.Held.{IsPriority, schedule_of}
 use Rattle.pod_sched.specs.declared.rows.Known.{Known}
-use Rattle.std.proofs.Common.{Some, ap, false, refl, sym, ◌<◌, ◌∙◌, ◌≡◌}
+use Rattle.std.proofs.Common.{Some, ap, false, refl, sym, ◌∙◌, ◌≡◌}
 
 pub known_slot-slot-requires : goal.known_slot-slot-requires
 known_slot-slot-requires c = rw c.tid.view_is (known_at c.self.inside.slots c.self.inside.order c.self.inside.rows.items _ _ _ c.self.inside.maxpri c.self.inside.places c.self.invariant c.args.tid (blocked_known (schedule_of c.self.inside.slots c.self.inside.order c.self.inside.rows.items c.self.inside.maxpri c.self.inside.places) c.args.tid (rw (← c.self.view_is) at c.requires)))
@@ -40,30 +40,28 @@ pub invariant_of-self : goal.invariant_of-self
 invariant_of-self c =
     let row = c.row_at-row.result in
     let same : row.tid ≡ c.args.tid = rw c.row_at-row.ensures (of_thread c.self.inside.slots c.self.inside.order c.self.inside.rows.items _ _ _ c.self.inside.maxpri c.self.inside.places c.self.invariant c.args.tid _ (rw c.tid.view_is at c.known_slot-slot.ensures)) in
-    let low : row.prio < 256 = rw c.row_at-row.ensures (prio_low c.self.inside.slots c.self.inside.order c.self.inside.rows.items _ _ _ c.self.inside.maxpri c.self.inside.places c.self.invariant c.args.tid _ (rw c.tid.view_is at c.known_slot-slot.ensures)) in
+    let in_range : IsPriority c.self.inside.maxpri row.prio = rw c.row_at-row.ensures (has_priority c.self.inside.slots c.self.inside.order c.self.inside.rows.items _ _ _ c.self.inside.maxpri c.self.inside.places c.self.invariant c.args.tid _ (rw c.tid.view_is at c.known_slot-slot.ensures)) in
     let now : Known = record row { blocked = false } in
-    rw c.take.ensures (IsHeld-out c.self.inside.slots c.self.inside.order c.self.inside.rows.items _ _ _ c.self.inside.maxpri c.self.inside.places c.self.invariant c.args.tid _ (rw c.tid.view_is at c.known_slot-slot.ensures) c.put_row.new.rows.items c.put_row.ensures.len now c.put_row.ensures.changes same low (held_out row c.if-row.true))
+    rw c.take.ensures (IsHeld-out c.self.inside.slots c.self.inside.order c.self.inside.rows.items _ _ _ c.self.inside.maxpri c.self.inside.places c.self.invariant c.args.tid _ (rw c.tid.view_is at c.known_slot-slot.ensures) c.put_row.new.rows.items c.put_row.ensures.len now c.put_row.ensures.changes same in_range (held_out row c.if-row.true))
 
 pub invariant_of-self-else-row : goal.invariant_of-self-else-row
 invariant_of-self-else-row c =
     let row = c.row_at-row.result in
     let same : row.tid ≡ c.args.tid = rw c.row_at-row.ensures (of_thread c.self.inside.slots c.self.inside.order c.self.inside.rows.items _ _ _ c.self.inside.maxpri c.self.inside.places c.self.invariant c.args.tid _ (rw c.tid.view_is at c.known_slot-slot.ensures)) in
-    let low : row.prio < 256 = rw c.row_at-row.ensures (prio_low c.self.inside.slots c.self.inside.order c.self.inside.rows.items _ _ _ c.self.inside.maxpri c.self.inside.places c.self.invariant c.args.tid _ (rw c.tid.view_is at c.known_slot-slot.ensures)) in
+    let in_range : IsPriority c.self.inside.maxpri row.prio = rw c.row_at-row.ensures (has_priority c.self.inside.slots c.self.inside.order c.self.inside.rows.items _ _ _ c.self.inside.maxpri c.self.inside.places c.self.invariant c.args.tid _ (rw c.tid.view_is at c.known_slot-slot.ensures)) in
     let now : Known = record row { blocked = false } in
-    rw c.put_last.ensures (IsHeld-back c.self.inside.slots c.self.inside.order c.self.inside.rows.items _ _ _ c.self.inside.maxpri c.self.inside.places c.self.invariant c.args.tid _ (rw c.tid.view_is at c.known_slot-slot.ensures) c.put_row.new.rows.items c.put_row.ensures.len now c.put_row.ensures.changes same low (free_in row c.if-row.false))
+    rw c.put_last.ensures (IsHeld-back c.self.inside.slots c.self.inside.order c.self.inside.rows.items _ _ _ c.self.inside.maxpri c.self.inside.places c.self.invariant c.args.tid _ (rw c.tid.view_is at c.known_slot-slot.ensures) c.put_row.new.rows.items c.put_row.ensures.len now c.put_row.ensures.changes same in_range (free_in row c.if-row.false))
 
 pub returns-then-row : goal.returns-then-row
 returns-then-row c =
     let row = c.row_at-row.result in
     let same : row.tid ≡ c.args.tid = rw c.row_at-row.ensures (of_thread c.self.inside.slots c.self.inside.order c.self.inside.rows.items _ _ _ c.self.inside.maxpri c.self.inside.places c.self.invariant c.args.tid _ (rw c.tid.view_is at c.known_slot-slot.ensures)) in
-    let low : row.prio < 256 = rw c.row_at-row.ensures (prio_low c.self.inside.slots c.self.inside.order c.self.inside.rows.items _ _ _ c.self.inside.maxpri c.self.inside.places c.self.invariant c.args.tid _ (rw c.tid.view_is at c.known_slot-slot.ensures)) in
     let now : Known = record row { blocked = false } in
-    rw (c.take.ensures, ← c.self.view_is) (view_out c.self.inside.slots c.self.inside.order c.self.inside.rows.items _ _ _ c.self.inside.maxpri c.self.inside.places c.self.invariant c.args.tid _ (rw c.tid.view_is at c.known_slot-slot.ensures) c.put_row.new.rows.items c.put_row.ensures.len now c.put_row.ensures.changes same low ∙ unblock_held (schedule_of c.self.inside.slots c.self.inside.order c.self.inside.rows.items c.self.inside.maxpri c.self.inside.places) c.args.tid row c.self.invariant.ordered (thread c.self.inside.slots c.self.inside.order c.self.inside.rows.items _ _ _ c.self.inside.maxpri c.self.inside.places c.self.invariant c.args.tid _ (rw c.tid.view_is at c.known_slot-slot.ensures) ∙ ap Some (sym c.row_at-row.ensures)) refl c.if-row.true)
+    rw (c.take.ensures, ← c.self.view_is) (view_out c.self.inside.slots c.self.inside.order c.self.inside.rows.items _ _ _ c.self.inside.maxpri c.self.inside.places c.self.invariant c.args.tid _ (rw c.tid.view_is at c.known_slot-slot.ensures) c.put_row.new.rows.items c.put_row.ensures.len now c.put_row.ensures.changes same ∙ unblock_held (schedule_of c.self.inside.slots c.self.inside.order c.self.inside.rows.items c.self.inside.maxpri c.self.inside.places) c.args.tid row c.self.invariant.ordered (thread c.self.inside.slots c.self.inside.order c.self.inside.rows.items _ _ _ c.self.inside.maxpri c.self.inside.places c.self.invariant c.args.tid _ (rw c.tid.view_is at c.known_slot-slot.ensures) ∙ ap Some (sym c.row_at-row.ensures)) refl c.if-row.true)
 
 pub returns-else-row : goal.returns-else-row
 returns-else-row c =
     let row = c.row_at-row.result in
     let same : row.tid ≡ c.args.tid = rw c.row_at-row.ensures (of_thread c.self.inside.slots c.self.inside.order c.self.inside.rows.items _ _ _ c.self.inside.maxpri c.self.inside.places c.self.invariant c.args.tid _ (rw c.tid.view_is at c.known_slot-slot.ensures)) in
-    let low : row.prio < 256 = rw c.row_at-row.ensures (prio_low c.self.inside.slots c.self.inside.order c.self.inside.rows.items _ _ _ c.self.inside.maxpri c.self.inside.places c.self.invariant c.args.tid _ (rw c.tid.view_is at c.known_slot-slot.ensures)) in
     let now : Known = record row { blocked = false } in
-    rw (c.put_last.ensures, ← c.self.view_is) (view_back c.self.inside.slots c.self.inside.order c.self.inside.rows.items _ _ _ c.self.inside.maxpri c.self.inside.places c.self.invariant c.args.tid _ (rw c.tid.view_is at c.known_slot-slot.ensures) c.put_row.new.rows.items c.put_row.ensures.len now c.put_row.ensures.changes same low ∙ unblock_free (schedule_of c.self.inside.slots c.self.inside.order c.self.inside.rows.items c.self.inside.maxpri c.self.inside.places) c.args.tid row c.self.invariant.ordered (thread c.self.inside.slots c.self.inside.order c.self.inside.rows.items _ _ _ c.self.inside.maxpri c.self.inside.places c.self.invariant c.args.tid _ (rw c.tid.view_is at c.known_slot-slot.ensures) ∙ ap Some (sym c.row_at-row.ensures)) refl (rw (← c.self.view_is) at c.requires) c.if-row.false)
+    rw (c.put_last.ensures, ← c.self.view_is) (view_back c.self.inside.slots c.self.inside.order c.self.inside.rows.items _ _ _ c.self.inside.maxpri c.self.inside.places c.self.invariant c.args.tid _ (rw c.tid.view_is at c.known_slot-slot.ensures) c.put_row.new.rows.items c.put_row.ensures.len now c.put_row.ensures.changes same ∙ unblock_free (schedule_of c.self.inside.slots c.self.inside.order c.self.inside.rows.items c.self.inside.maxpri c.self.inside.places) c.args.tid row c.self.invariant.ordered (thread c.self.inside.slots c.self.inside.order c.self.inside.rows.items _ _ _ c.self.inside.maxpri c.self.inside.places c.self.invariant c.args.tid _ (rw c.tid.view_is at c.known_slot-slot.ensures) ∙ ap Some (sym c.row_at-row.ensures)) refl (rw (← c.self.view_is) at c.requires) c.if-row.false)
