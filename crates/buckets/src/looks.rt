@@ -104,25 +104,6 @@ fn last_of_all<L: Ledger, K, B: Looks<L, K>>(lists: &B, steps: &mut Steps<L>) ->
     last_of_word(lists, 0, steps)
 }
 
-// The last of the lists up to `most` that has anybody. One word has them all where there are no more than 63.
-#[inline(always)]
-fn last_up_to<L: Ledger, K, B: Looks<L, K>>(
-    lists: &B,
-    most: usize,
-    steps: &mut Steps<L>,
-) -> Option<usize>
-    requires within { AreWithin (B.firsts lists.now) most }
-    ensures last { FindsLast (B.firsts lists.now) 0 256 result }
-    ensures cost { steps.new ≤ steps.old + 4 }
-    ensures cost_of_word { most < 64 → steps.new ≡ steps.old + 1 }
-{
-    if most < 64 {
-        last_of_word(lists, 0, steps)
-    } else {
-        last_of_all(lists, steps)
-    }
-}
-
 /// The first of the last list that has anybody, where only lists from 1 to `most` have. A single list is looked at straight
 /// away. Else one word at most is looked at, if it has them all, and if not four, and then one list. It is told nothing of
 /// the lists but by looks that count.
@@ -138,9 +119,12 @@ pub fn first_of_last<L: Ledger, K, B: Looks<L, K>>(
     ensures cost { steps.new ≤ steps.old + 5 }
     ensures cost_by_lists { steps.new ≤ steps.old + most }
 {
-    if most == 1 {
-        return lists.first(1, steps);
-    }
-    let list = last_up_to(lists, most, steps)?;
+    let list = if most >= 64 {
+        last_of_all(lists, steps)?
+    } else if most > 1 {
+        last_of_word(lists, 0, steps)?
+    } else {
+        1
+    };
     lists.first(list, steps)
 }

@@ -362,7 +362,11 @@ impl Turns {
         ensures value { result ≡ first_of self.now prio }
         ensures runs { IfSome result (λ t. IsTrue (is_eligible_in self.now t)) }
     {
-        let slot = self.order.first_of(prio)?;
+        let order = &self.order;
+        if prio as usize >= LEVELS {
+            return None;
+        }
+        let slot = order.first_in(prio as usize)?;
         Some(row_at(&self.rows, slot).tid)
     }
 

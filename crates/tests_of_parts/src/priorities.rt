@@ -6,8 +6,12 @@ use std::alloc::Global;
 use std::marker::Brand;
 use std::sync::ledger::{Blank, Ledger};
 
+// The first of the greatest priority from 1 to 255. None is of priority 0.
 fn best<L: Ledger>(order: &Buckets, steps: &mut Steps<L>) -> Option<usize> {
-    first_of_last::<L, usize, Buckets>(order, steps)
+    if order.first_of(0).is_some() {
+        return None;
+    }
+    first_of_last::<L, usize, Buckets>(order, 255, steps)
 }
 
 // The first of the greatest priority, in each word of marks and at both ends of them.
@@ -33,7 +37,7 @@ fn does_all<L: Ledger>(order: &mut Buckets, steps: &mut Steps<L>) -> bool
     order.put_last(256, 255);
     (none, second_word, first, before) == (None, Some(258), Some(256), Some(257))
         && (third_word, fourth_word, best(order, steps)) == (Some(256), Some(257), Some(256))
-        && order.first_of(192) == Some(257)
+        && (order.first_of(192), order.first_in(255)) == (Some(257), Some(256))
 }
 
 fn is_done<L: Ledger>(alloc: Global, blank: Blank) -> bool

@@ -1,4 +1,4 @@
-ghost use Rattle.std.specs.Prelude.{◌≡◌, ◌<◌};
+ghost use Rattle.std.specs.Prelude.{◌≡◌, ◌+◌, ◌<◌, ◌≤◌};
 ghost use Rattle.pod_sched.specs.Schedule.{choice};
 
 use lwp_types::Tid;
@@ -146,35 +146,63 @@ fn the_first_of_the_greatest_priority_runs(rt: HostRuntime) {
     assert!(rt; is_done(rt.alloc()));
 }
 
-// The choice, with a count of its looks.
-fn counted<L: Ledger>(sched: &Sched, blank: Blank) -> Option<Tid>
+// The choice, with a count of its looks: of one priority it takes one, of two at most two, and of any at most five.
+fn counted<L: Ledger>(sched: &Sched, steps: &mut Steps<L>) -> Option<Tid>
+    ensures value { result ≡ choice sched.now }
+    ensures of_one { sched.now.maxpri ≡ 1 → steps.new ≤ steps.old + 1 }
+    ensures of_two { sched.now.maxpri ≡ 2 → steps.new ≤ steps.old + 2 }
+    ensures of_any { steps.new ≤ steps.old + 5 }
+{
+    sched.current_counted(steps)
+}
+
+// Raises the greatest priority, and gives it to a thread, which runs next.
+fn leads<L: Ledger>(sched: &mut Sched, tid: Tid, prio: u32, steps: &mut Steps<L>) -> bool {
+    if prio < sched.maxpri() || prio > 255 {
+        return false;
+    }
+    sched.set_maxpri(prio);
+    ranks(sched, tid, prio) && counted(sched, steps) == Some(tid)
+}
+
+// Two threads in turn have the greatest priority, which at first is 1.
+fn leads_in_turn<L: Ledger>(sched: &mut Sched, blank: Blank) -> bool
     requires name { blank.name ≡ L.name }
     requires parts { blank.parts ≡ L.parts }
     requires some { 0 < blank.parts }
-    ensures { result ≡ choice sched.now }
 {
     let mut steps = Steps::<L>::new(blank);
-    sched.current_counted(&mut steps)
+    if counted(sched, &mut steps).is_some() {
+        return false;
+    }
+    if !admits(sched, A, 1, false) || !admits(sched, B, 1, false) {
+        return false;
+    }
+    for (prio, tid) in [(1, A), (2, B), (63, A), (64, B), (128, A), (255, B)] {
+        if !leads(sched, tid, prio, &mut steps) {
+            return false;
+        }
+    }
+    true
 }
 
-// A look at the bucket of each of three priorities, of which the greatest and the least have a thread.
+// A look at the bucket of each of three priorities, of which two have a thread.
 fn finds_fronts<L: Ledger>(sched: &Sched, blank: Blank) -> bool
     requires name { blank.name ≡ L.name }
     requires parts { blank.parts ≡ L.parts }
     requires some { 0 < blank.parts }
 {
     let mut steps = Steps::<L>::new(blank);
-    let (least, none, greatest) = (sched.bucket(1), sched.bucket(7), sched.bucket(255));
-    (least.prio(), least.first(&mut steps)) == (1, Some(A))
+    let (second, none, greatest) = (sched.bucket(128), sched.bucket(7), sched.bucket(255));
+    (second.prio(), second.first(&mut steps)) == (128, Some(A))
         && (none.prio(), none.first(&mut steps)) == (7, None)
         && (greatest.prio(), greatest.first(&mut steps)) == (255, Some(B))
 }
 
 #[test]
 fn a_counted_choice_is_the_choice(rt: HostRuntime) -> Result<(), Fail> {
-    let mut sched = Sched::new(rt.alloc(), 255).map_err(|_| "no memory")?;
-    assert!(rt; admits(&mut sched, A, 1, false) && admits(&mut sched, B, 255, false));
-    assert_eq!(rt; counted::<Brand>(&sched, Blank::new(1)), Some(B));
+    let mut sched = Sched::new(rt.alloc(), 1).map_err(|_| "no memory")?;
+    assert!(rt; leads_in_turn::<Brand>(&mut sched, Blank::new(1)));
     assert!(rt; finds_fronts::<Brand>(&sched, Blank::new(1)));
     Ok(())
 }
