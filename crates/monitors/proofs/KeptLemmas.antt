@@ -1,7 +1,7 @@
 -- Each call keeps what `Monitors` keeps of its fields, and has room for the lock that it adds.
-use Rattle.lwp_types.specs.CountLaws.{any_counted, count-failed, count-filter-le, count-map, count-push, count_any, count_found, count_not_found, find_none, length-failed, one, times-without_other}
+use Rattle.lwp_types.specs.CountLaws.{any_counted, count-failed, count-filter-le, count-map, count-push, count-reverse, count_any, count_found, count_found_by, count_not_found, find_none, length-failed, one, times-without_other}
 use Rattle.lwp_types.specs.FirstLaws.{best_passes}
-use Rattle.lwp_types.specs.MonitorRelease.{is_lock, lock_of, locks_on, without_lock}
+use Rattle.lwp_types.specs.MonitorRelease.{is_lock, is_owned_by, last_lock, lock_of, locks_on, without_lock}
 use Rattle.lwp_types.specs.Monitors.{lock_with_depth, with_depth}
 use Rattle.lwp_types.specs.State.{times_in}
 use Rattle.lwp_types.specs.declared.rows.Lock.{Lock}
@@ -10,9 +10,10 @@ use Rattle.monitors.proofs.Room.{length-locks-le, length-locks-lt}
 use Rattle.monitors.specs.Kept.{IsKept}
 use Rattle.monitors.specs.MonitorTable.{MonitorTable, after_destroy, after_give_up, is_free, is_live, next_request, with_grant}
 use Rattle.monitors.specs.declared.requests.EntryRequest.{EntryRequest}
-use Rattle.std.proofs.Common.{List, None, Option, Some, [], ap, arith, eqb, false, inl, inr, is_none, length, refl, sym, true, ℕ, ◌++◌, ◌+◌, ◌<◌, ◌∙◌, ◌∷◌, ◌≡◌, ◌≤◌}
+use Rattle.std.proofs.Common.{List, None, Option, Some, [], ap, arith, eqb, false, inl, inr, is_none, length, refl, reverse, sym, true, ℕ, ◌++◌, ◌+◌, ◌<◌, ◌∙◌, ◌∷◌, ◌≡◌, ◌≤◌}
 use Rattle.std.proofs.lemmas.Bool.{cases_eq, eq-eqb, eqb-true, ne_eqb}
 use Rattle.std.proofs.lemmas.List.{length_push}
+use Rattle.std.specs.Prelude.{option_map}
 
 -- a lock that is there, or that isn't
 
@@ -30,6 +31,20 @@ module _ (s : MonitorTable) (m : ℕ) where
       by_lock : (o : Option Lock) → lock_of s.locks m ≡ o → is_none o ≡ false → 1 ≤ locks_on s.locks m
       by_lock None e none = absurd (cc)
       by_lock (Some lock) e none = count_found (is_lock m) s.locks lock e
+
+  -- the monitor that a thread acquired last is held
+  pub held-last : (t : ℕ) → option_map (λ (lock : Lock). lock.mon) (last_lock s.locks t) ≡ Some m → is_free s m ≡ false
+  held-last t last = by_last (last_lock s.locks t) refl last
+    where
+      by_lock : (o : Option Lock) → lock_of s.locks m ≡ o → 1 ≤ locks_on s.locks m → is_none o ≡ false
+      by_lock None e some = absurd (omega (arith, some, count_not_found (is_lock m) s.locks e))
+      by_lock (Some lock) e some = refl
+
+      by_last : (o : Option Lock) → last_lock s.locks t ≡ o → option_map (λ (lock : Lock). lock.mon) o ≡ Some m → is_free s m ≡ false
+      by_last None e its = absurd (cc)
+      by_last (Some lock) e its =
+          let here = count_found_by (is_owned_by t) (is_lock m) (reverse s.locks) lock e (eq-eqb lock.mon m (cc)) in
+          by_lock (lock_of s.locks m) refl (omega (arith, here, count-reverse (is_lock m) s.locks))
 
 module _ {s : MonitorTable} {lock_room : ℕ} (was : IsKept s lock_room) where
   -- the same locks of the same monitors, whoever waits

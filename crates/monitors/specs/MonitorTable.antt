@@ -1,6 +1,6 @@
 -- The monitors of a pod as plain lists, and what each call on them makes of the lists.
 use Rattle.lwp_types.specs.Choice.{best_by}
-use Rattle.lwp_types.specs.MonitorRelease.{is_owned_by, lock_of, without_lock}
+use Rattle.lwp_types.specs.MonitorRelease.{is_owned_by, last_lock, lock_of, without_lock}
 use Rattle.lwp_types.specs.Monitors.{depth_in, with_depth, with_entry}
 use Rattle.lwp_types.specs.State.{member, without}
 use Rattle.lwp_types.specs.declared.rows.Lock.{Lock}
@@ -137,6 +137,23 @@ after_grant s m = with_grant s (next_request s m)
 -- whoever held the monitor doesn't, and then whoever enters next
 abbrev pub after_release : MonitorTable → ℕ → MonitorTable
 after_release s m = after_grant (after_give_up s m) m
+
+-- the monitor of this lock, and who holds it after its release
+abbrev pub release_of : MonitorTable → Lock → ℕ × Option ℕ
+release_of s lock = (lock.mon, next_owner s lock.mon)
+
+-- of the lock that t acquired last: which monitor is released, and who holds it then; t may hold none
+abbrev pub released_last : MonitorTable → ℕ → Option (ℕ × Option ℕ)
+released_last s t = option_map (release_of s) (last_lock s.locks t)
+
+-- the monitor of a lock is released, if there is such a lock
+abbrev pub with_release : MonitorTable → Option Lock → MonitorTable
+with_release s None = s
+with_release s (Some lock) = after_release s lock.mon
+
+-- the lock that t acquired last is released, if t holds any
+abbrev pub after_release_last : MonitorTable → ℕ → MonitorTable
+after_release_last s t = with_release s (last_lock s.locks t)
 
 -- leaving once leaves the monitor altogether
 abbrev pub is_outermost : MonitorTable → ℕ → Bool

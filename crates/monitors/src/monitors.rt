@@ -3,7 +3,7 @@ ghost use Rattle.std.specs.Prelude.{◌≡◌, ◌<◌, ◌≤◌, false, length
 ghost use Rattle.lwp_types.specs.First.{FindsBest};
 ghost use Rattle.lwp_types.specs.Monitors.{depth_in, is_owned_by_other, is_owner};
 ghost use Rattle.lwp_types.specs.MonitorRelease.{last_lock, lock_of, locks_on};
-ghost use Rattle.monitors.specs.MonitorTable.{after_create, after_destroy, after_enter, after_exit, after_forget, after_grant, after_release, after_request, after_requeue, after_reserve, empty_table, has_request, is_free, is_live, is_unwanted, may_enter, newborn, next_owner, next_request, owner_after, owner_of, requests_of};
+ghost use Rattle.monitors.specs.MonitorTable.{after_create, after_destroy, after_enter, after_exit, after_forget, after_give_up, after_grant, after_release, after_release_last, after_request, after_requeue, after_reserve, empty_table, has_request, is_free, is_live, is_unwanted, may_enter, newborn, next_owner, next_request, owner_after, owner_of, released_last, requests_of};
 
 use crate::live::{has, list, take_out};
 use crate::locks::Locks;
@@ -207,6 +207,19 @@ impl Monitors {
         self.grant(mon)
     }
 
+    /// Takes the monitor from its owner, however deep, and gives it to nobody yet. The answer is how often the owner had
+    /// entered it. Threads may wait to enter the monitor, so the next call on it is `grant`.
+    pub fn give_up(&mut self, mon: Mid, _owner: Tid) -> u32
+        requires { IsTrue (is_owner self.old.locks _owner mon) }
+        ensures value { result ≡ depth_in self.old.locks mon }
+        ensures after { self.new ≡ after_give_up self.old mon }
+    {
+        let locks = &mut self.locks;
+        let depth = locks.depth_of(mon);
+        locks.free(mon);
+        depth
+    }
+
     /// Whoever is next enters a free monitor. The answer is that thread, if any waits.
     pub fn grant(&mut self, mon: Mid) -> Option<Tid>
         requires live { IsTrue (is_live self.old mon) }
@@ -233,6 +246,16 @@ impl Monitors {
         ensures held_once { (m : ℕ) → locks_on self.now.locks m ≤ 1 }
     {
         self.locks.last_lock(tid).map(|lock| lock.mon)
+    }
+
+    /// Takes from the thread the monitor that it acquired last, however deep, for the thread that enters next. The answer
+    /// is the monitor and who holds it then, or None where the thread held none.
+    pub fn release_last(&mut self, tid: Tid) -> Option<(Mid, Option<Tid>)>
+        ensures value { result ≡ released_last self.old tid }
+        ensures after { self.new ≡ after_release_last self.old tid }
+    {
+        let mon = self.last_held(tid)?;
+        Some((mon, self.break_lock(mon)))
     }
 
     /// Gives the thread's request, if it has one, a priority. The request keeps its place.

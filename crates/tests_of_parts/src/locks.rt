@@ -64,13 +64,47 @@ fn releases(mons: &mut Monitors) -> bool
         && mons.last_held(A).is_none()
 }
 
+// A monitor that is given up goes to the thread that waits, at that one's depth, and the last acquired is released first.
+fn passes_on(mons: &mut Monitors) -> bool
+    requires { mons.old ≡ empty_table 10 }
+{
+    let Ok(()) = mons.reserve(2) else {
+        return false;
+    };
+    let Ok(Some(_)) = mons.create() else {
+        return false;
+    };
+    let Ok(Some(_)) = mons.create() else {
+        return false;
+    };
+    mons.enter(FIRST, A);
+    mons.enter(FIRST, A);
+    mons.request(FIRST, B, 1, 3);
+    let given_up = mons.give_up(FIRST, A);
+    let next = mons.grant(FIRST);
+    let depth = mons.depth(FIRST);
+    mons.enter(SECOND, B);
+    mons.request(SECOND, C, 1, 1);
+    let last = mons.release_last(B);
+    let before = mons.release_last(B);
+    (given_up, depth) == (2, 3)
+        && next == Some(B)
+        && last == Some((SECOND, Some(C)))
+        && before == Some((FIRST, None))
+        && mons.release_last(B).is_none()
+}
+
 fn is_done(alloc: Global) -> bool {
     let mut mons = Monitors::new(alloc, 10);
     if !enters(&mut mons) {
         return false;
     }
     mons = Monitors::new(alloc, 10);
-    releases(&mut mons)
+    if !releases(&mut mons) {
+        return false;
+    }
+    mons = Monitors::new(alloc, 10);
+    passes_on(&mut mons)
 }
 
 #[test]
