@@ -1,5 +1,5 @@
 // A short printable text, which is lent.
-ghost use Rattle.std.specs.Prelude.{◌≡◌, ◌≤◌, ◌↔◌, ◌++◌, ◌⊎◌, [], codes, length, take, IsTrue, IsSome, IfSome, IfNone};
+ghost use Rattle.std.specs.Prelude.{◌≡◌, ◌≤◌, ◌↔◌, ◌+◌, ◌++◌, ◌⊎◌, [], codes, length, take, IsTrue, IsSome, IfSome, IfNone};
 ghost use Rattle.std.specs.Str.{bytes_eq};
 ghost use Rattle.lwp_types.specs.TextFields.{is_printable, is_text};
 
@@ -47,6 +47,18 @@ fn cells_of(bytes: &[u8]) -> [u8; 20]
     let mut cells = [0u8; 20];
     cells[..bytes.len()].copy_from_slice(bytes);
     cells
+}
+
+// Bytes, from `at` on. Answers where they end.
+fn put_bytes(row: &mut [u8], at: usize, bytes: &[u8]) -> usize
+    requires { at + length bytes.now ≤ length row.old }
+    ensures len { length row.new ≡ length row.old }
+    ensures end { result ≡ at + length bytes.now }
+    ensures bytes { take result row.new ≡ take at row.old ++ bytes.now }
+{
+    let end = at + bytes.len();
+    row[at..end].copy_from_slice(bytes);
+    end
 }
 
 impl<'s> Text<'s> {
@@ -143,6 +155,21 @@ impl<'s> Text<'s> {
             Words::Is(_) => None,
             Words::Thread(_) => None,
         }
+    }
+
+    /// The bytes, in one piece. A text that tells a value or names a thread lies in two parts, and has no room of its own to put them
+    /// together: that is done in `room`, over whatever was there. Any other text is lent as it is.
+    pub fn bytes<'b>(&'b self, room: &'b mut [u8; TEXT_MAX]) -> &'b [u8]
+        ensures same { result.now ≡ self.now }
+        ensures is_text { IsTrue (is_text self.now) }
+    {
+        let (lead, rest) = self.parts();
+        if lead.is_empty() {
+            return rest;
+        }
+        let next = put_bytes(room, 0, lead);
+        let end = put_bytes(room, next, rest);
+        &room[..end]
     }
 
     /// Whether these are its bytes.

@@ -1,4 +1,6 @@
-use lwp_types::{Answer, Effect, Effects, Flags, Func, LwpErr, Mode, NoMemory, Pattern, Tid};
+use lwp_types::{
+    Answer, Call, Effect, Effects, Flags, Func, Line, LwpErr, Mode, NoMemory, Pattern, Text, Tid,
+};
 use std::alloc::Global;
 use text_list::TextList;
 use trace_text::*;
@@ -67,4 +69,25 @@ fn are_written(alloc: Global) -> Result<bool, NoMemory> {
 #[test]
 fn writes_lines(rt: HostRuntime) {
     assert!(rt; are_written(rt.alloc()) == Ok(true));
+}
+
+const TAKEN: &[u8] = b"event 31 client 15 seq 20 put k v\n";
+
+fn is_told_alone(alloc: Global) -> Result<bool, NoMemory> {
+    // The checker asks for the types that an effect holds.
+    let _inside: Option<(Call, Answer)> = None;
+    let (client, seq) = (15, 20);
+    let text = Text::new(b"put k v").unwrap_or(Text::empty());
+    let e = Effect::Delivered {
+        agent: Tid { number: 3 },
+        event: 31,
+    };
+    let took = Line { client, seq, text };
+    let line = trace_line(alloc, &e, Some(&took), &TextList::new(alloc))?;
+    Ok(line.as_slice() == TAKEN)
+}
+
+#[test]
+fn writes_the_line_of_one_effect(rt: HostRuntime) {
+    assert!(rt; is_told_alone(rt.alloc()) == Ok(true));
 }

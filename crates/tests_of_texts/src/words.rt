@@ -39,6 +39,20 @@ fn a_text_has_240_printable_bytes_at_most(rt: HostRuntime) {
     }
 }
 
+// Whether these are the bytes of a text, also where the room for them isn't empty.
+fn is_told(text: &Text, wanted: &[u8]) -> bool {
+    let mut room = [b'?'; TEXT_MAX];
+    text.bytes(&mut room) == wanted
+}
+
+#[test]
+fn a_text_is_told_in_one_piece(rt: HostRuntime) {
+    assert!(rt; is_told(&Text::lent(b"get k"), b"get k"));
+    assert!(rt; is_told(&Text::is(b""), b"is "));
+    assert!(rt; is_told(&Text::is(b"a value"), b"is a value"));
+    assert!(rt; is_told(&Text::thread(b"17"), b"t17"));
+}
+
 // Who the thread is and what the names of two threads, a monitor and the last of three conditions stand for, each with a name
 // more than there is.
 fn numbers(env: &Env) -> [u64; 7] {

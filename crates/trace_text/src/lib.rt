@@ -19,6 +19,7 @@ mod step_lines;
 mod words;
 
 pub use ends::{Halt, end_lines};
+pub use lines::trace_line;
 pub use step_lines::StepLines;
 pub use words::{
     add_flags, add_mode, add_number, add_pattern, add_spaced, add_spaced_text, add_text, func_word,

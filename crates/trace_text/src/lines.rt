@@ -7,6 +7,7 @@ use crate::calls::{put_call, put_exit, put_word_id, put_word_number};
 use crate::room::make_room;
 use crate::rows::{put_byte, put_id, put_number, put_spaced, put_word};
 use lwp_types::{Answer, Call, Effect, Effects, ExitCall, Line, NoMemory, Tid};
+use std::alloc::Global;
 use text_list::TextList;
 
 // Who posted a line, and as which of its own, and the line's text.
@@ -188,6 +189,24 @@ fn add_line(
         Effect::Rites { agent, dead } => put_rites(bytes, at, *agent, *dead),
     };
     Ok(put_byte(row.as_mut_slice(), end, b'\n'))
+}
+
+/// The line of one effect, with its newline: the lines of a step's effects one after another are what `StepLines` has. `took` is the
+/// line that was taken for the effect, if any. A delivery and a tick print it, and no other effect does. Without it a delivery prints
+/// its agent, as the later ones of a step do, and a tick prints nothing but the newline. `names` are the procedures' names by number.
+pub fn trace_line(
+    alloc: Global,
+    e: &Effect,
+    took: Option<&Line>,
+    names: &TextList,
+) -> Result<Vec<u8>, NoMemory>
+    ensures { IfOk result
+        (λ line. line.items ≡ ended_line (line_text names.now (option_copied took.entry) e.now)) }
+{
+    let mut row = Vec::new(alloc);
+    let end = add_line(&mut row, 0, e, took, names)?;
+    row.truncate(end);
+    Ok(row)
 }
 
 // A line for each effect from `at` on, as `StepLines` has them.
