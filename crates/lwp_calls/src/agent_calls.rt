@@ -116,7 +116,9 @@ fn make_places(parts: &mut Parts) -> Result<(), NoMemory>
     let threads = thread_count(parts);
     let agents = parts.agents.len() + 1;
     let living = next_count(&parts.ids);
-    parts.ids.reserve(living)?;
+    let Ok(()) = parts.ids.reserve(living) else {
+        return Err(NoMemory);
+    };
     parts.agents.reserve(agents)?;
     parts.messages.reserve(threads + agents)
 }

@@ -129,7 +129,9 @@ fn first_thread(parts: &mut Parts, alloc: Global, params: PodParams) -> Result<(
     ensures step { OnOk result (InStep parts.new) }
     ensures alone { OnOk result (parts.new.dying ≡ None) }
 {
-    parts.ids.reserve(1)?;
+    let Ok(()) = parts.ids.reserve(1) else {
+        return Err(NoMemory);
+    };
     parts.sched.reserve(1)?;
     parts.messages.reserve(1)?;
     parts.mons.reserve(1)?;

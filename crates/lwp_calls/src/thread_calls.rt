@@ -128,7 +128,9 @@ fn make_places(parts: &mut Parts) -> Result<(), NoMemory>
     let count = thread_count(parts) + 1;
     let agents = parts.agents.len();
     let living = next_count(&parts.ids);
-    parts.ids.reserve(living)?;
+    let Ok(()) = parts.ids.reserve(living) else {
+        return Err(NoMemory);
+    };
     parts.sched.reserve(count)?;
     parts.messages.reserve(count + agents)?;
     parts.mons.reserve(count)?;

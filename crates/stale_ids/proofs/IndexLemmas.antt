@@ -14,12 +14,19 @@ use Rattle.std.proofs.lemmas.List.{get_or-map, length_push}
 use Rattle.std.proofs.lemmas.List.Sums.{sum_by-set}
 use Rattle.std.proofs.lemmas.Bool.Decides.{nat_tests}
 use Rattle.std.proofs.lemmas.List.{get_or-set_same, get_or-set_other, get_or_past}
-use Rattle.lwp_types.specs.ListLaws.{All-push, All-weaker}
 use Rattle.stale_ids.specs.declared.index.Place.{Place}
 use Rattle.stale_ids.specs.Register.{AreRising, numbers, value_of, with_value, without}
 use Rattle.stale_ids.specs.Index.{IsLater, IsRising, IsAbsent, IsAt, onto, pairs, AreFull, IsSound}
 
 module _ {X : Type 0} (P : X → Type 0) where
+  All-push : (xs : List X) (y : X) → AllByRecursion P xs → P y → AllByRecursion P (xs ++ y ∷ [])
+  All-push [] y all here = (here, tt)
+  All-push (x ∷ xs) y all here = (all.0, All-push xs y all.1 here)
+
+  All-weaker : (Q : X → Type 0) → ((x : X) → P x → Q x) → (xs : List X) → AllByRecursion P xs → AllByRecursion Q xs
+  All-weaker Q weaker [] all = tt
+  All-weaker Q weaker (x ∷ xs) all = (weaker x all.0, All-weaker Q weaker xs all.1)
+
   pub All-remove : (xs : List X) (i : ℕ) → AllByRecursion P xs → AllByRecursion P (remove xs i)
   All-remove [] zero all = tt
   All-remove [] (suc i) all = tt

@@ -2,11 +2,13 @@
 //!
 //! The contract of each call is one equation on the list of the living, the oldest first, and the count of births
 //! (`specs/Register.antt`). A birth gets the count before it, so no number comes twice, and an old one never finds the
-//! value that took its place in memory. It stands on the kit's `slab`, which keeps the values, on an index from numbers to
-//! their keys there, and on `lwp_types` for `NoMemory` alone.
+//! value that took its place in memory. The values are kept in the kit's `slab`, and found by an index from numbers to
+//! their keys there. It stands on `slab` and the standard library alone: that memory was refused is a type of its own.
 #![tactic(auto)]
 
 mod index;
+mod no_memory;
 mod registry;
 
+pub use no_memory::NoMemory;
 pub use registry::Registry;

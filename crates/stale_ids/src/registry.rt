@@ -5,7 +5,7 @@ ghost use Rattle.std.specs.Borrow.{sem};
 ghost use Rattle.stale_ids.specs.Register.{AreBorn, AreRising, after_insert, after_remove, after_reserve, empty_register, numbers, value_of};
 
 use crate::index::{Place, place_of};
-use lwp_types::NoMemory;
+use crate::no_memory::NoMemory;
 use slab::Slab;
 use std::alloc::Global;
 use std::marker::Model;

@@ -113,7 +113,9 @@ fn living<'s>(
     ensures { IfOk result (λ ids. ids ≡ register_as third fourth fifth) }
 {
     let mut ids = Registry::new(alloc, 100);
-    ids.reserve(9)?;
+    let Ok(()) = ids.reserve(9) else {
+        return Err(NoMemory);
+    };
     bear_all(&mut ids, alloc, third, fourth, fifth)?;
     Ok(ids)
 }
