@@ -1,7 +1,7 @@
 -- The board: a tally for each event, and the word that says which events can be delivered.
 use Rattle.agents.specs.Board.{IsMarked, is_ready, no_tally, tally_at}
 use Rattle.agents.specs.declared.board.Tally.{Tally}
-use Rattle.event_marks.specs.Marks.{is_marked}
+use Rattle.lists.specs.EventMarks.{is_marked}
 use Rattle.std.proofs.Common.{List, ap, arith, false, inl, inr, replicate, set, sym, ℕ, ◌<◌, ◌≤◌, ◌∙◌, ◌≡◌, ◌≢◌, ◌⊎◌}
 use Rattle.std.proofs.lemmas.Bool.{cases_eq, cases_lt}
 use Rattle.std.proofs.lemmas.List.{get_or-replicate, get_or-set_other, get_or-set_same, get_or_past, length-replicate, length-set}

@@ -1,6 +1,6 @@
 -- A board: how many agents each event has, and how many of them hold a message. No public clause cites this module.
 use Rattle.agents.specs.declared.board.Tally.{Tally}
-use Rattle.event_marks.specs.Marks.{is_marked}
+use Rattle.lists.specs.EventMarks.{is_marked}
 use Rattle.std.specs.Prelude.{Bool, List, length, not, slice_index_or, ℕ, ◌&&◌, ◌==◌, ◌≡◌}
 
 -- no agents

@@ -3,7 +3,7 @@ ghost use Rattle.std.specs.Prelude.{◌≡◌, ◌<◌, if◌then◌else◌, IfN
 ghost use Rattle.std.specs.Slice.Scan.{HoldsNowhere, IsFirstPlace};
 ghost use Rattle.agents.specs.Board.{is_ready, no_tally, tally_at};
 
-use event_marks::{first_marked, is_marked, no_marks, with_mark};
+use lists::{first_marked, is_marked, no_marks, with_mark};
 use std::marker::Model;
 
 /// How many agents an event has, and how many of them hold a message.

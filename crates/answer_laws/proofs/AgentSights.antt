@@ -386,7 +386,7 @@ module _ (a : ℕ) where
       kept_case (call.Notify c) h = kept_waking s t c _ _
       kept_case (call.Broadcast c) h = kept_waking s t c _ _
       kept_case (call.CvSend c v) h = kept_waking s t c _ _
-      kept_case call.Conditions h = refl
+      kept_case call.Conds h = refl
       kept_case call.Return h = kept_returned
       kept_case (call.Raise q) h = kept_searched q _ (λ f. kept_caught q f)
       kept_case (call.ExcNotify q) h = kept_searched q _ (λ f. kept_notified q f f.func)

@@ -37,9 +37,9 @@ use Rattle.pod_runner.specs.declared.session.Row.{Row}
 use Rattle.pod_runner.specs.declared.session.Took.{Took}
 use Rattle.script_body.specs.Naming.{after_name, after_name_by, with_condition_name_by, with_monitor_name_by, with_thread_name_by}
 use Rattle.script_body.specs.ScriptBody.{ScriptBody, after_take as body_taken, poll_of_answer, script_next}
-use Rattle.script_program.specs.Bodies.{body_next}
-use Rattle.script_program.specs.declared.body.ThreadBody.{ThreadBody}
-use Rattle.script_program.specs.declared.body.ThreadBody.TheVariants.{Scripted, Serving, Storing}
+use Rattle.script_body.specs.Bodies.{body_next}
+use Rattle.script_body.specs.declared.thread_body.ThreadBody.{ThreadBody}
+use Rattle.script_body.specs.declared.thread_body.ThreadBody.TheVariants.{Scripted, Serving, Storing}
 use Rattle.script_text.specs.declared.script.Stmt.{Stmt}
 use Rattle.std.proofs.Common.{Bool, List, None, Option, Some, [], arith, cond, drop, eqb, false, inl, inr, refl, subst, suc, sym, true, zero, ℕ, ◌++◌, ◌<◌, ◌∷◌, ◌≡◌, ◌≤◌, ◌⊎◌}
 use Rattle.std.specs.Prelude.{codes, map, replicate, slice_get, slice_set}
@@ -230,7 +230,7 @@ module _ (n : ℕ) where
   stmt_kept a (stmt.CvCreate name mon) names below all = condition_kept a
     where
       condition_kept : (a : Answer) → AllKnown n (with_condition_name_by name a names)
-      condition_kept (answer.Condition c) = all
+      condition_kept (answer.Cond c) = all
       condition_kept _ = all
   stmt_kept a _ names below all = all
 

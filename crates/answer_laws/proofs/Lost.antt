@@ -99,7 +99,7 @@ module _ (body : SessionBody) (names : Names) (past : is_late body.place ≡ tru
   late_received (answer.Thread b) = late_stop
   late_received (answer.Value v) = late_stop
   late_received (answer.Monitor t) = late_stop
-  late_received (answer.Condition t) = late_stop
+  late_received (answer.Cond t) = late_stop
   late_received (answer.Reply text) = late_stop
   late_received (answer.Bound f arg) = late_stop
   late_received (answer.Caught d m p) = late_stop
@@ -112,7 +112,7 @@ module _ (body : SessionBody) (names : Names) (past : is_late body.place ≡ tru
   late_told (answer.Thread b) = late_stop
   late_told (answer.Value v) = late_stop
   late_told (answer.Monitor t) = late_stop
-  late_told (answer.Condition t) = late_stop
+  late_told (answer.Cond t) = late_stop
   late_told (answer.Bound f arg) = late_stop
   late_told (answer.Caught d m p) = late_stop
   late_told (answer.Ids n ns) = late_stop

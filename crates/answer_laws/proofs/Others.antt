@@ -240,7 +240,7 @@ module _ (u t : ℕ) (Fits : Option ℕ → Answer → Type 0) (s : State) (nine
   case_turn (call.Notify c) h fits = waking_turn u Fits s None nine was t c _ _ (best_among s None nine c)
   case_turn (call.Broadcast c) h fits = waking_turn u Fits s None nine was t c _ _ (all_among s None nine c)
   case_turn (call.CvSend c v) h fits = waking_turn u Fits s None nine was t c _ _ (one_among c v)
-  case_turn call.Conditions h fits = still_now _ refl refl refl
+  case_turn call.Conds h fits = still_now _ refl refl refl
   case_turn (call.CallProc number) h fits = unless_turn u Fits s _ _ (λ passed. marked_now _ _ refl refl refl)
   case_turn call.Return h fits = returned_now
   case_turn (call.Handle pat func arg) h fits = unless_turn u Fits s _ _ (λ passed. marked_now _ _ refl refl refl)

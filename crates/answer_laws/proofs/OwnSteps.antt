@@ -297,7 +297,7 @@ module _ (body : SessionBody) (names : Names) (place : SessionPlace) where
   plain_opened (answer.Letter from text room) = plain_stop _ refl
   plain_opened (answer.Value v) = plain_stop _ refl
   plain_opened (answer.Monitor t) = plain_stop _ refl
-  plain_opened (answer.Condition t) = plain_stop _ refl
+  plain_opened (answer.Cond t) = plain_stop _ refl
   plain_opened (answer.Reply text) = plain_stop _ refl
   plain_opened (answer.Bound f arg) = plain_stop _ refl
   plain_opened (answer.Caught d m p) = plain_stop _ refl
@@ -309,7 +309,7 @@ module _ (body : SessionBody) (names : Names) (place : SessionPlace) where
   plain_received (answer.Thread b) = plain_stop _ refl
   plain_received (answer.Value v) = plain_stop _ refl
   plain_received (answer.Monitor t) = plain_stop _ refl
-  plain_received (answer.Condition t) = plain_stop _ refl
+  plain_received (answer.Cond t) = plain_stop _ refl
   plain_received (answer.Reply text) = plain_stop _ refl
   plain_received (answer.Bound f arg) = plain_stop _ refl
   plain_received (answer.Caught d m p) = plain_stop _ refl
@@ -322,7 +322,7 @@ module _ (body : SessionBody) (names : Names) (place : SessionPlace) where
   plain_told (answer.Thread b) = plain_stop _ refl
   plain_told (answer.Value v) = plain_stop _ refl
   plain_told (answer.Monitor t) = plain_stop _ refl
-  plain_told (answer.Condition t) = plain_stop _ refl
+  plain_told (answer.Cond t) = plain_stop _ refl
   plain_told (answer.Bound f arg) = plain_stop _ refl
   plain_told (answer.Caught d m p) = plain_stop _ refl
   plain_told (answer.Ids n ns) = plain_stop _ refl

@@ -347,7 +347,7 @@ module _ (body : SessionBody) (names : Names) where
   opened_started here (answer.Letter from text room) = ap is_started here
   opened_started here (answer.Value v) = ap is_started here
   opened_started here (answer.Monitor t) = ap is_started here
-  opened_started here (answer.Condition t) = ap is_started here
+  opened_started here (answer.Cond t) = ap is_started here
   opened_started here (answer.Reply text) = ap is_started here
   opened_started here (answer.Bound f arg) = ap is_started here
   opened_started here (answer.Caught d m p) = ap is_started here
@@ -359,7 +359,7 @@ module _ (body : SessionBody) (names : Names) where
   opened_mute b (answer.Letter from text room) = refl
   opened_mute b (answer.Value v) = refl
   opened_mute b (answer.Monitor t) = refl
-  opened_mute b (answer.Condition t) = refl
+  opened_mute b (answer.Cond t) = refl
   opened_mute b (answer.Reply text) = refl
   opened_mute b (answer.Bound f arg) = refl
   opened_mute b (answer.Caught d m p) = refl

@@ -9,8 +9,8 @@ use Rattle.pod_runner.specs.Over.{events}
 use Rattle.pod_runner.specs.Play.{LastBy, play}
 use Rattle.pod_runner.specs.Session.{call_step, take_step}
 use Rattle.pod_runner.specs.declared.session.Took.{Took}
-use Rattle.script_answers.specs.Replies.{event_of, replies_in}
-use Rattle.script_plan.specs.Planned.{calls_of, planned_of, takes_of}
+use Rattle.lwp_serve.specs.Answers.Replies.{event_of, replies_in}
+use Rattle.lwp_serve.specs.Plan.Planned.{calls_of, planned_of, takes_of}
 use Rattle.std.proofs.Common.{Bool, List, None, Option, Some, [], ap, arith, false, refl, subst, suc, sym, true, zero, ℕ, ◌+◌, ◌∙◌, ◌∷◌, ◌≡◌}
 use Rattle.std.proofs.lemmas.List.{reverse-append}
 use Rattle.std.specs.List.{fold}

@@ -105,7 +105,7 @@ module _ (a : ℕ) (body : SessionBody) (names : Names) where
   does_opened (answer.Letter from text room) k = DoesStop refl
   does_opened (answer.Value v) k = DoesStop refl
   does_opened (answer.Monitor t) k = DoesStop refl
-  does_opened (answer.Condition t) k = DoesStop refl
+  does_opened (answer.Cond t) k = DoesStop refl
   does_opened (answer.Reply text) k = DoesStop refl
   does_opened (answer.Bound f arg) k = DoesStop refl
   does_opened (answer.Caught d m p) k = DoesStop refl
@@ -117,7 +117,7 @@ module _ (a : ℕ) (body : SessionBody) (names : Names) where
   does_received (answer.Thread b) k = DoesStop refl
   does_received (answer.Value v) k = DoesStop refl
   does_received (answer.Monitor t) k = DoesStop refl
-  does_received (answer.Condition t) k = DoesStop refl
+  does_received (answer.Cond t) k = DoesStop refl
   does_received (answer.Reply text) k = DoesStop refl
   does_received (answer.Bound f arg) k = DoesStop refl
   does_received (answer.Caught d m p) k = DoesStop refl
@@ -130,7 +130,7 @@ module _ (a : ℕ) (body : SessionBody) (names : Names) where
   does_told (answer.Thread b) k = DoesStop refl
   does_told (answer.Value v) k = DoesStop refl
   does_told (answer.Monitor t) k = DoesStop refl
-  does_told (answer.Condition t) k = DoesStop refl
+  does_told (answer.Cond t) k = DoesStop refl
   does_told (answer.Bound f arg) k = DoesStop refl
   does_told (answer.Caught d m p) k = DoesStop refl
   does_told (answer.Ids n ns) k = DoesStop refl

@@ -76,7 +76,7 @@ module _ (body : StoreBody) where
   does_received (answer.Value v) = DoesStop refl
   does_received (answer.Thread t) = DoesStop refl
   does_received (answer.Monitor t) = DoesStop refl
-  does_received (answer.Condition t) = DoesStop refl
+  does_received (answer.Cond t) = DoesStop refl
   does_received (answer.Reply text) = DoesStop refl
   does_received (answer.Bound f arg) = DoesStop refl
   does_received (answer.Caught d m p) = DoesStop refl

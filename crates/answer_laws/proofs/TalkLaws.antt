@@ -172,7 +172,7 @@ module _ (s : ℕ) (refusal : Option LwpErr) (talk : Talk) where
   apart_recv free (answer.Value v) h = apart_stops
   apart_recv free (answer.Thread t) h = apart_stops
   apart_recv free (answer.Monitor t) h = apart_stops
-  apart_recv free (answer.Condition t) h = apart_stops
+  apart_recv free (answer.Cond t) h = apart_stops
   apart_recv free (answer.Reply text) h = apart_stops
   apart_recv free (answer.Bound f arg) h = apart_stops
   apart_recv free (answer.Caught d m p) h = apart_stops
@@ -294,7 +294,7 @@ module _ (s a : ℕ) (names : Names) (talk : Talk) where
       opened (answer.Letter from text room) = stops_over first m talk.session
       opened (answer.Value v) = stops_over first m talk.session
       opened (answer.Monitor t) = stops_over first m talk.session
-      opened (answer.Condition t) = stops_over first m talk.session
+      opened (answer.Cond t) = stops_over first m talk.session
       opened (answer.Reply text) = stops_over first m talk.session
       opened (answer.Bound f arg) = stops_over first m talk.session
       opened (answer.Caught d k p) = stops_over first m talk.session
@@ -306,7 +306,7 @@ module _ (s a : ℕ) (names : Names) (talk : Talk) where
       received_none (answer.Thread b) h = stops_over first m talk.session
       received_none (answer.Value v) h = stops_over first m talk.session
       received_none (answer.Monitor t) h = stops_over first m talk.session
-      received_none (answer.Condition t) h = stops_over first m talk.session
+      received_none (answer.Cond t) h = stops_over first m talk.session
       received_none (answer.Reply text) h = stops_over first m talk.session
       received_none (answer.Bound f arg) h = stops_over first m talk.session
       received_none (answer.Caught d k p) h = stops_over first m talk.session

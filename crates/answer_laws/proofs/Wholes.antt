@@ -15,8 +15,8 @@ use Rattle.lwp_types.specs.Lawful.{Lawful}
 use Rattle.lwp_types.specs.Unblock.{zero_answer}
 use Rattle.pod_laws.proofs.Opening.{Lawful-opening}
 use Rattle.pod_runner.specs.Session.{Session, opening_session}
-use Rattle.script_program.specs.Bodies.{body_next}
-use Rattle.script_program.specs.declared.body.ThreadBody.TheVariants.{Serving, Storing}
+use Rattle.script_body.specs.Bodies.{body_next}
+use Rattle.script_body.specs.declared.thread_body.ThreadBody.TheVariants.{Serving, Storing}
 use Rattle.std.proofs.Common.{None, [], ap, arith, eqb, false, inr, refl, subst, sym, ◌++◌, ◌<◌, ◌∙◌, ◌∷◌, ◌≡◌, ◌≤◌}
 use Rattle.std.proofs.lemmas.Bool.{ne_eqb}
 use Rattle.lwp_types.specs.declared.rows.Block.TheVariants as block

@@ -24,10 +24,10 @@ use Rattle.pod_runner.specs.Session as Sessions
 use Rattle.pod_runner.specs.Session.{Session, Setting, call_move, move, move_by, move_row, opening_session, row_of, take_move}
 use Rattle.pod_runner.specs.declared.session.Row.{Row}
 use Rattle.pod_runner.specs.declared.session.Took.{Took}
-use Rattle.script_answers.specs.Replies.{Known, agent_event, agents_after, call_in, is_event, known_after_steps, known_after_step, nothing_known, replies_in, reply_line, texts_told, with_agent}
-use Rattle.script_answers.specs.Replies.{agent_born as asked_of}
-use Rattle.script_program.specs.Bodies.{bodies_of}
-use Rattle.script_program.specs.declared.body.ThreadBody.{ThreadBody}
+use Rattle.lwp_serve.specs.Answers.Replies.{Known, agent_event, agents_after, call_in, is_event, known_after_steps, known_after_step, nothing_known, replies_in, reply_line, texts_told, with_agent}
+use Rattle.lwp_serve.specs.Answers.Replies.{agent_born as asked_of}
+use Rattle.script_body.specs.Bodies.{bodies_of}
+use Rattle.script_body.specs.declared.thread_body.ThreadBody.{ThreadBody}
 use Rattle.script_session.specs.SoFar.{session_at, setting_of}
 use Rattle.script_text.specs.Script.{params_of}
 use Rattle.std.proofs.lemmas.Grind.{flat_map-append}

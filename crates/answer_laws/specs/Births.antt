@@ -13,8 +13,8 @@ use Rattle.pod_runner.specs.Due.{IsDefined}
 use Rattle.pod_runner.specs.Play.{play}
 use Rattle.pod_runner.specs.Session.{Made, Session, Setting, opening_session, proc_of, thread_in}
 use Rattle.pod_runner.specs.declared.session.Took.{Took}
-use Rattle.script_program.specs.declared.body.ThreadBody.{ThreadBody}
-use Rattle.script_program.specs.declared.body.ThreadBody.TheVariants.{Serving, Storing}
+use Rattle.script_body.specs.declared.thread_body.ThreadBody.{ThreadBody}
+use Rattle.script_body.specs.declared.thread_body.ThreadBody.TheVariants.{Serving, Storing}
 use Rattle.std.specs.List.{list_all, list_any}
 use Rattle.std.specs.Prelude.{Bool, List, None, Option, Some, [], false, if◌then◌else◌, slice_get, true, ℕ, not, ◌&&◌, ◌<◌, ◌==◌, ◌∷◌, ◌≡◌, ◌≤◌, ◌⊎◌, ◌||◌}
 

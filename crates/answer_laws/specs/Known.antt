@@ -9,9 +9,9 @@ use Rattle.pod_runner.specs.Due.{IsDefined}
 use Rattle.pod_runner.specs.Play.{play}
 use Rattle.pod_runner.specs.Session.{Session, Setting, opening_session, row_of}
 use Rattle.pod_runner.specs.declared.session.Took.{Took}
-use Rattle.script_program.specs.Bodies.{body_next}
-use Rattle.script_program.specs.declared.body.ThreadBody.{ThreadBody}
-use Rattle.script_program.specs.declared.body.ThreadBody.TheVariants.{Serving}
+use Rattle.script_body.specs.Bodies.{body_next}
+use Rattle.script_body.specs.declared.thread_body.ThreadBody.{ThreadBody}
+use Rattle.script_body.specs.declared.thread_body.ThreadBody.TheVariants.{Serving}
 use Rattle.std.specs.Prelude.{List, Some, ℕ, ◌<◌, ◌≡◌, ◌≤◌, ◌⊎◌}
 
 -- it is null, or the number of somebody born

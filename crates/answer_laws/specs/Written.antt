@@ -13,9 +13,9 @@ use Rattle.pod_runner.specs.Session.{Setting}
 use Rattle.pod_runner.specs.Session as Sessions
 use Rattle.pod_runner.specs.declared.session.Made.{Made}
 use Rattle.pod_runner.specs.declared.session.Took.{Took}
-use Rattle.script_answers.specs.Replies.{agent_event, answers_after, answers_of, call_in, event_of, known_after_steps, replies_in}
-use Rattle.script_plan.specs.Planned.{calls_of, takes_of}
-use Rattle.script_program.specs.declared.body.ThreadBody.TheVariants.{Serving, Storing}
+use Rattle.lwp_serve.specs.Answers.Replies.{agent_event, answers_after, answers_of, call_in, event_of, known_after_steps, replies_in}
+use Rattle.lwp_serve.specs.Plan.Planned.{calls_of, takes_of}
+use Rattle.script_body.specs.declared.thread_body.ThreadBody.TheVariants.{Serving, Storing}
 use Rattle.script_session.specs.SoFar.{setting_of}
 use Rattle.script_text.specs.declared.script.Script.{Script}
 use Rattle.std.specs.List.{flat_map, list_all, list_any}

@@ -1,13 +1,24 @@
 //! A bounded buffer with producers and a consumer: an example of threads of one's own, run to their end.
 //!
-//! Its threads are those of `buffer_bodies`. The trace that is written is that of the session of their definitions, for `run` says
-//! so of any bodies. The crate stands on `pod_runner`, which runs the threads, on `lwp_types` for what they share, and on
-//! `event_gate` for lines from the outside, of which there are none here.
+//! A buffer keeps at most one item. Two producers send it items, and wait for the reply while there is no room; a consumer asks
+//! for items, and waits while there is none. To wait is to be replied to later: nobody is ever told to try again.
+//!
+//! `Actor` is a thread's body, whichever it is: what it calls next is exactly what `specs/` computes (`actor_next`). `Market` is the
+//! program, the procedures that threads are created with (`cast`). The trace that is written is that of the session of these
+//! definitions, for `run` says so of any bodies. The crate stands on `lwp_types` for calls and answers, on `pod_runner`, which runs the
+//! threads, and on `event_gate` for lines from the outside, of which there are none here.
 #![tactic(auto)]
+
+mod actor;
+mod buffer;
+mod clients;
+mod market;
+
 
 ghost use Rattle.std.specs.Prelude.{IfOk, false, ◌≡◌};
 
-use buffer_bodies::{Actor, Market};
+use crate::actor::Actor;
+use crate::market::Market;
 use event_gate::ListGate;
 use lwp_types::{Env, MemSink, NoMemory, PodParams};
 use pod_runner::{Run, RunErr, run};

@@ -7,8 +7,8 @@ use Rattle.lwp_types.specs.Choice.{best_by}
 use Rattle.std.proofs.Common.{Bool, List, Some, [], ap, cond, false, map, not, refl, sym, true, ℕ, ◌∙◌, ◌∷◌, ◌≡◌, ◌||◌}
 use Rattle.std.specs.List.{AllByRecursion, filter, find, list_any}
 use Rattle.std.specs.Prelude.{option_map}
-use Rattle.waiting_list.specs.Line.{is_for, is_thread, waiting_with_priority}
-use Rattle.waiting_list.specs.declared.rows.Waiting.{Waiting}
+use Rattle.lists.specs.WaitingList.Line.{is_for, is_thread, waiting_with_priority}
+use Rattle.lists.specs.declared.waiting_list.rows.Waiting.{Waiting}
 
 pub waits-line : (c : ℕ) (ws : List Waiting) → filter (is_on c) (map wait_in ws) ≡ map wait_in (filter (is_for c) ws)
 waits-line c ws = map-filter wait_in (is_on c) ws

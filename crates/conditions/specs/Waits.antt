@@ -1,6 +1,6 @@
 -- How waits stand in a line. No public clause cites this module.
 use Rattle.conditions.specs.declared.waits.WaitRec.{WaitRec}
-use Rattle.waiting_list.specs.declared.rows.Waiting.{Waiting}
+use Rattle.lists.specs.declared.waiting_list.rows.Waiting.{Waiting}
 
 -- whoever waits there waits on the condition of that number
 abbrev pub wait_in : Waiting → WaitRec

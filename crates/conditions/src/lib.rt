@@ -7,11 +7,11 @@
 //! stand in a `waiting_list`; else the crate stands on `lwp_types` alone.
 #![tactic(auto)]
 
-mod conditions;
+mod conds;
 mod laws;
 mod rows;
 mod waits;
 
-pub use conditions::Conditions;
+pub use conds::Conds;
 pub use laws::{every_broadcast, every_change, every_question, every_rank};
 pub use waits::WaitRec;

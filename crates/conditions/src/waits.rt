@@ -4,7 +4,7 @@ ghost use Rattle.conditions.specs.ConditionTable.{is_waited_in};
 ghost use Rattle.conditions.specs.Waits.{wait_in};
 
 use lwp_types::{Cid, Tid};
-use waiting_list::{Waiting, WaitingList};
+use lists::{Waiting, WaitingList};
 
 /// A thread that waits on a condition: the priority that it was last given, and the depth at which it left the monitor.
 #[derive(Clone, Copy)]

@@ -1,7 +1,7 @@
 //! The corpus: scripts as a person writes them, with what the program must write of each.
 //!
 //! `data/rows` is a table, a row a line: a name, the file with the script, with the parts of a batch or with the input of a replay, the
-//! file with the text that is wanted, the status that is wanted, and the program's words. Each row is run through `serve_words::top` over
+//! file with the text that is wanted, the status that is wanted, and the program's words. Each row is run through `lwp_serve::top` over
 //! streams in memory, and one line is printed for it: `same`, or else the first line that differs, or the status where all lines are
 //! the same. `compare` of `stored_rows` is proved to say so. What the files hold no contract can say.
 //!

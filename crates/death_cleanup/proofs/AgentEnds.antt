@@ -27,7 +27,7 @@ use Rattle.lwp_types.specs.declared.rows.AgentRow.{AgentRow}
 use Rattle.lwp_types.specs.declared.rows.Block.TheVariants as block
 use Rattle.pod_laws.proofs.DeathLoops.{Unowning, end_first}
 use Rattle.pod_laws.proofs.Drains.{keys_times}
-use Rattle.messages.specs.MessageTable.{after_forget}
+use Rattle.rendezvous.specs.MessageTable.{after_forget}
 use Rattle.stale_ids.specs.Register.{after_remove, without}
 use Rattle.std.proofs.Common.{Bool, List, None, Option, Some, [], ap, arith, cond, eqb, false, length, length-append, not, refl, sym, true, ℕ, ◌&&◌, ◌++◌, ◌<◌, ◌∙◌, ◌∷◌, ◌≡◌, ◌≤◌}
 use Rattle.std.proofs.lemmas.Bool.{eq-eqb}
@@ -76,14 +76,14 @@ others-same a (row ∷ rows) none = by_test (is_number a row) (others-same a row
 module _ (parts : Parts) (a : ℕ) (no_thread : is_thread (state_of parts) a ≡ false) where
   -- the parts without the agent's letter and its number
   abbrev pub cleared : Parts
-  cleared = record parts { messages = after_forget parts.messages a; ids = after_remove parts.ids a }
+  cleared = record parts { mail = after_forget parts.mail a; ids = after_remove parts.ids a }
 
   rows-same : rows_of parts.last_prio parts.sched.threads (without a parts.ids.live) ≡ (state_of parts).threads
   rows-same = rows-removed parts.last_prio a parts.sched.threads parts.ids.live ∙ others-same a (state_of parts).threads no_thread
 
-  pub came_cleared : (effects : List Effect) → InStep parts → CameTo parts cleared effects effects (still (record (state_of parts) { letters = without_letter a parts.messages.letters }))
+  pub came_cleared : (effects : List Effect) → InStep parts → CameTo parts cleared effects effects (still (record (state_of parts) { letters = without_letter a parts.mail.letters }))
   came_cleared effects step = record {
-    state = ap (λ rows. record (state_of parts) { threads = rows; letters = without_letter a parts.messages.letters }) rows-same;
+    state = ap (λ rows. record (state_of parts) { threads = rows; letters = without_letter a parts.mail.letters }) rows-same;
     effects = sym (append-nil effects);
     step = record {
       tied = record {

@@ -14,7 +14,7 @@ use Rattle.lwp_types.specs.declared.call.Answer.{Answer}
 use Rattle.lwp_types.specs.declared.call.Effect.{Effect}
 use Rattle.lwp_types.specs.declared.call.Effect.TheVariants as effect
 use Rattle.lwp_types.specs.declared.rows.Block.TheVariants as block
-use Rattle.messages.specs.MessageTable.{MessageTable}
+use Rattle.rendezvous.specs.MessageTable.{MessageTable}
 use Rattle.std.proofs.Common.{List, [], arith, length, refl, true, ℕ, ◌++◌, ◌∷◌, ◌≡◌, ◌≤◌}
 
 module _ (parts : Parts) (step : InStep parts) where
@@ -40,8 +40,8 @@ module _ (parts : Parts) (step : InStep parts) where
   }
 
   -- other letters, with as many places
-  pub InStep-messages : (messages : MessageTable) → messages.places ≡ parts.messages.places → InStep (record parts { messages = messages })
-  InStep-messages messages same = record {
+  pub InStep-mail : (mail : MessageTable) → mail.places ≡ parts.mail.places → InStep (record parts { mail = mail })
+  InStep-mail mail same = record {
     tied = record { known = step.tied.known; waits = step.tied.waits };
     ranked = record { requests = step.ranked.requests; waits = step.ranked.waits };
     roomy = record { letters = omega (arith, same, step.roomy.letters); threads = step.roomy.threads; requests = step.roomy.requests; waits = step.roomy.waits };

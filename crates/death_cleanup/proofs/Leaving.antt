@@ -7,7 +7,7 @@ use Rattle.death_cleanup.specs.Ties.{LawfulParts}
 use Rattle.death_cleanup.specs.View.{state_of}
 use Rattle.death_cleanup.specs.declared.parts.Parts.{Parts}
 use Rattle.death_cleanup.specs.declared.rows.Kind.{Kind}
-use Rattle.exceptions.specs.Stack.{UnwindsTo, below_last_exit, unwound_to}
+use Rattle.exc_stack.specs.Stack.{UnwindsTo, below_last_exit, unwound_to}
 use Rattle.lwp_types.specs.CountLaws.{count-append}
 use Rattle.lwp_types.specs.Counts.{has_its_marks}
 use Rattle.lwp_types.specs.Exceptions.{exits_of, first_frames, frames, later_frames}

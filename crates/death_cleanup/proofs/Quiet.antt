@@ -47,7 +47,7 @@ count-seen f p (x ∷ xs) = omega (arith, count-cons (λ x. p (f x)) x xs, count
 
 module _ (parts : Parts) (t : ℕ) (lawful : LawfulParts parts) (lives : is_thread (state_of parts) t ≡ true) (idle : sched.is_blocked_in parts.sched t ≡ false) where
   abbrev Idle : Type 0
-  Idle = (letters_of parts.messages.letters t ≡ 0) × (count_by (mon_table.is_request_of t) parts.mons.requests ≡ 0) × (count_by (cond_table.is_wait_of t) parts.conds.waits ≡ 0)
+  Idle = (letters_of parts.mail.letters t ≡ 0) × (count_by (mon_table.is_request_of t) parts.mons.requests ≡ 0) × (count_by (cond_table.is_wait_of t) parts.conds.waits ≡ 0)
 
   waits_not : is_blocked_in (state_of parts) t ≡ false
   waits_not = sym (lawful.step.tied.waits t) ∙ idle
@@ -74,7 +74,7 @@ module _ (parts : Parts) (t : ℕ) (lawful : LawfulParts parts) (lives : is_thre
     last_prio = sched.priority_in parts.sched t;
   }
   withdrawn-idle =
-      let letters : without_letter t parts.messages.letters ≡ parts.messages.letters = filter_none (is_letter_of t) parts.messages.letters none.0 in
+      let letters : without_letter t parts.mail.letters ≡ parts.mail.letters = filter_none (is_letter_of t) parts.mail.letters none.0 in
       let requests : mon_table.without_request t parts.mons.requests ≡ parts.mons.requests = filter_none (mon_table.is_request_of t) parts.mons.requests none.1 in
       let waits : cond_table.without_wait t parts.conds.waits ≡ parts.conds.waits = filter_none (cond_table.is_wait_of t) parts.conds.waits none.2 in
       rw (letters, requests, waits) refl

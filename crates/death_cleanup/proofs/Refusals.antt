@@ -1,7 +1,7 @@
 -- The senders to a dying thread are refused.
 use Rattle.death_cleanup.proofs.Draining.{Draining, done, fewer, first_room, goes_on}
 use Rattle.death_cleanup.proofs.Fronts.{Front, found_first, found_none}
-use Rattle.death_cleanup.proofs.Keeping.{InStep-messages}
+use Rattle.death_cleanup.proofs.Keeping.{InStep-mail}
 use Rattle.death_cleanup.specs.Comes.{CameTo}
 use Rattle.death_cleanup.specs.Ties.{InStep}
 use Rattle.death_cleanup.specs.View.{state_of}
@@ -12,7 +12,7 @@ use Rattle.lwp_types.specs.State.{State, ThreadRow, is_blocked_in, is_not_blocke
 use Rattle.lwp_types.specs.Unblock.{nonexist, unblock}
 use Rattle.lwp_types.specs.declared.call.Effect.{Effect}
 use Rattle.lwp_types.specs.declared.rows.Letter.{Letter}
-use Rattle.messages.specs.MessageTable.{after_pop, first_to, without_found}
+use Rattle.rendezvous.specs.MessageTable.{after_pop, first_to, without_found}
 use Rattle.pod_laws.proofs.DeathLoops.{Lonely, first_sender, refuse_first}
 use Rattle.std.proofs.Common.{List, None, Option, Some, ap, arith, length, not, refl, true, ℕ, ◌<◌, ◌∙◌, ◌≡◌}
 use Rattle.std.specs.Prelude.{option_map}
@@ -41,14 +41,14 @@ module _ (t : ℕ) where
   module _ (start : Parts) (before : List Effect) (parts : Parts) (after : List Effect) (h : Draining (Lonely t) list refuse_sender 0 start before parts after) where
     -- the parts without the letter that was found
     abbrev pub lighter : Parts
-    lighter = record parts { messages = after_pop parts.messages t }
+    lighter = record parts { mail = after_pop parts.mail t }
 
     pub lighter_step : InStep lighter
-    lighter_step = InStep-messages parts h.step (after_pop parts.messages t) refl
+    lighter_step = InStep-mail parts h.step (after_pop parts.mail t) refl
 
-    module _ (x : ℕ) (found : first parts.messages.letters ≡ Some x) where
+    module _ (x : ℕ) (found : first parts.mail.letters ≡ Some x) where
       front : Front (list (state_of parts)) x
-      front = found_first (λ (letter : Letter). letter.from) (is_to t) parts.messages.letters x found
+      front = found_first (λ (letter : Letter). letter.from) (is_to t) parts.mail.letters x found
 
       pub sender_waits : is_blocked_in (state_of lighter) x ≡ true
       sender_waits =
@@ -61,7 +61,7 @@ module _ (t : ℕ) where
       module _ (new : Parts) (now : List Effect) (woken : CameTo lighter new after now (unblock nonexist x (state_of lighter))) where
         came : CameTo parts new after now (refuse_sender x (state_of parts))
         came = record {
-          state = woken.state ∙ ap (λ letters. (unblock nonexist x (record (state_of parts) { letters = letters })).after) (popped-some parts.messages.letters x found);
+          state = woken.state ∙ ap (λ letters. (unblock nonexist x (record (state_of parts) { letters = letters })).after) (popped-some parts.mail.letters x found);
           effects = woken.effects;
           step = woken.step;
           dying = woken.dying;
@@ -73,11 +73,11 @@ module _ (t : ℕ) where
         pub sender_on : Draining (Lonely t) list refuse_sender 0 start before new now
         sender_on = goes_on (Lonely t) list refuse_sender (refuse_first t) 0 start before parts after h x front.rest front.is new now came
 
-    pub senders_over : first parts.messages.letters ≡ None → CameTo start lighter before after (refuse_senders t (state_of start))
+    pub senders_over : first parts.mail.letters ≡ None → CameTo start lighter before after (refuse_senders t (state_of start))
     senders_over none =
-        let all = done (Lonely t) list refuse_sender (refuse_first t) 0 start before parts after h (found_none (λ (letter : Letter). letter.from) (is_to t) parts.messages.letters none) in
+        let all = done (Lonely t) list refuse_sender (refuse_first t) 0 start before parts after h (found_none (λ (letter : Letter). letter.from) (is_to t) parts.mail.letters none) in
         record {
-          state = ap (λ letters. record (state_of parts) { letters = letters }) (popped-none parts.messages.letters none) ∙ all.state;
+          state = ap (λ letters. record (state_of parts) { letters = letters }) (popped-none parts.mail.letters none) ∙ all.state;
           effects = all.effects;
           step = lighter_step;
           dying = all.dying;

@@ -1,6 +1,6 @@
 -- A letter is replied to.
 use Rattle.agents.specs.Roster as roster
-use Rattle.death_cleanup.proofs.Keeping.{InStep-agents, InStep-messages}
+use Rattle.death_cleanup.proofs.Keeping.{InStep-agents, InStep-mail}
 use Rattle.death_cleanup.specs.Ties.{InStep, LawfulParts}
 use Rattle.death_cleanup.specs.View.{state_of}
 use Rattle.death_cleanup.specs.declared.parts.Parts.{Parts}
@@ -15,8 +15,8 @@ use Rattle.lwp_types.specs.declared.call.LwpErr.TheVariants as error
 use Rattle.lwp_types.specs.declared.rows.AgentRow.{AgentRow}
 use Rattle.lwp_types.specs.declared.rows.Letter.{Letter}
 use Rattle.pod_laws.proofs.MessageCalls.{reply_sends, sender_row}
-use Rattle.messages.specs.MessageTable as messages
-use Rattle.messages.specs.MessageTable.{refusal}
+use Rattle.rendezvous.specs.MessageTable as mail
+use Rattle.rendezvous.specs.MessageTable.{refusal}
 use Rattle.std.proofs.Common.{Bool, List, None, Option, Some, [], ap, arith, cond, false, length, not, refl, sym, true, ℕ, ◌&&◌, ◌∙◌, ◌∷◌, ◌≡◌, ◌||◌}
 use Rattle.std.specs.Prelude.{IsTrue, is_none, is_some, nat_lt, option_map}
 
@@ -93,10 +93,10 @@ length-holding a b (row ∷ rows) = omega (arith, length-holding a b rows)
 module _ (parts : Parts) (u : ℕ) where
   -- the parts without the letter of u
   abbrev pub lighter : Parts
-  lighter = record parts { messages = messages.after_forget parts.messages u }
+  lighter = record parts { mail = mail.after_forget parts.mail u }
 
   pub InStep-lighter : InStep parts → InStep lighter
-  InStep-lighter step = InStep-messages parts step (messages.after_forget parts.messages u) refl
+  InStep-lighter step = InStep-mail parts step (mail.after_forget parts.mail u) refl
 
   -- an agent can take the next event
   abbrev pub rearmed : Parts
@@ -112,7 +112,7 @@ module _ (parts : Parts) (u : ℕ) where
   replied-thread text none = rw none refl
 
   -- a thread that sent a letter waits for the reply
-  pub sender-waits : LawfulParts parts → (t : ℕ) → is_none (received_letter parts.messages.letters t u) ≡ false → is_thread (state_of parts) u ≡ true → is_blocked_in (state_of parts) u ≡ true
+  pub sender-waits : LawfulParts parts → (t : ℕ) → is_none (received_letter parts.mail.letters t u) ≡ false → is_thread (state_of parts) u ≡ true → is_blocked_in (state_of parts) u ≡ true
   sender-waits lawful t some lives = by_row (thread_of (state_of parts) u) refl lives
     where
       by_row : (o : Option _) → thread_of (state_of parts) u ≡ o → is_some o ≡ true → is_blocked_in (state_of parts) u ≡ true

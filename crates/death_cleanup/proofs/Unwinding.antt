@@ -11,7 +11,7 @@ use Rattle.death_cleanup.specs.declared.rows.Kind.{Kind}
 use Rattle.death_cleanup.specs.declared.rows.Kind.TheVariants as kind
 use Rattle.conditions.specs.declared.waits.WaitRec.{WaitRec}
 use Rattle.monitors.specs.declared.requests.EntryRequest.{EntryRequest}
-use Rattle.exceptions.specs.Stack.{UnwindsAll, below_last_exit, unwound_all}
+use Rattle.exc_stack.specs.Stack.{UnwindsAll, below_last_exit, unwound_all}
 use Rattle.lwp_types.specs.Death.{run_all_exits}
 use Rattle.lwp_types.specs.Exits.{exit_case, run_exit}
 use Rattle.lwp_types.specs.Exceptions.{exits_of, is_exit}

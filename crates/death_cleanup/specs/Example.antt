@@ -21,7 +21,7 @@ use Rattle.conditions.specs.ConditionTable.{ConditionTable}
 use Rattle.monitors.specs.MonitorTable.{MonitorTable}
 use Rattle.pod_sched.specs.Schedule.{Schedule}
 use Rattle.pod_sched.specs.declared.rows.Known.{Known}
-use Rattle.messages.specs.MessageTable.{MessageTable}
+use Rattle.rendezvous.specs.MessageTable.{MessageTable}
 use Rattle.stale_ids.specs.Register.{Register}
 use Rattle.std.specs.List.{fold}
 use Rattle.std.specs.Prelude.{List, None, Some, [], false, true, ℕ, ◌∷◌}
@@ -114,8 +114,8 @@ sched = record {
   places = 8;
 }
 
-abbrev pub messages : MessageTable
-messages = record {
+abbrev pub mail : MessageTable
+mail = record {
   letters = record { from = 1; to = 0; text = []; room = 9; received = true }
       ∷ record { from = 2; to = 0; text = []; room = 9; received = false }
       ∷ record { from = 8; to = 0; text = []; room = 240; received = false }
@@ -156,7 +156,7 @@ abbrev pub parts : Parts
 parts = record {
   ids = ids;
   sched = sched;
-  messages = messages;
+  mail = mail;
   mons = mons;
   conds = conds;
   agents = agents;

@@ -14,7 +14,7 @@ use Rattle.lwp_types.specs.declared.rows.Block.TheVariants as block
 use Rattle.monitors.specs.MonitorTable as mon
 use Rattle.monitors.specs.MonitorTable.{MonitorTable}
 use Rattle.pod_sched.specs.Schedule as sched
-use Rattle.messages.specs.MessageTable as messages
+use Rattle.rendezvous.specs.MessageTable as mail
 use Rattle.stale_ids.specs.Register.{after_remove}
 use Rattle.stale_ids.specs.Register.{value_of}
 use Rattle.std.specs.Prelude.{IsTrue, List, None, Option, Some, [], false, if◌then◌else◌, length, map, ℕ, ◌<◌, ◌==◌, ◌≡◌, ◌≤◌}
@@ -42,7 +42,7 @@ after_withdraw parts t = record parts {
   sched = sched.after_leave parts.sched t;
   conds = cond.after_forget parts.conds t;
   mons = mon.after_forget parts.mons t;
-  messages = messages.after_forget parts.messages t;
+  mail = mail.after_forget parts.mail t;
   dying = Some t;
   last_prio = sched.priority_in parts.sched t;
 }

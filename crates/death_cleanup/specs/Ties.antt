@@ -20,7 +20,7 @@ pub record IsRanked (parts : Parts) : Type 0 where
 
 -- each thread and agent may wait with no more memory
 pub record IsRoomy (parts : Parts) : Type 0 where
-  pub letters : length (state_of parts).threads + length parts.agents.agents ≤ parts.messages.places
+  pub letters : length (state_of parts).threads + length parts.agents.agents ≤ parts.mail.places
   pub threads : length (state_of parts).threads ≤ parts.sched.places
   pub requests : length (state_of parts).threads ≤ parts.mons.places
   pub waits : length (state_of parts).threads ≤ parts.conds.places

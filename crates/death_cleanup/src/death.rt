@@ -32,7 +32,7 @@ fn withdraw(parts: &mut Parts, tid: Tid)
     if waits {
         parts.conds.forget(tid);
         parts.mons.forget(tid);
-        parts.messages.forget(tid);
+        parts.mail.forget(tid);
     }
 }
 

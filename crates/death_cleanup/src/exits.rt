@@ -72,7 +72,7 @@ pub fn reply<'s>(
         return Err(LwpErr::NonExist);
     }
     let len = text.len();
-    if let Err(err) = parts.messages.reply(tid, to, len) {
+    if let Err(err) = parts.mail.reply(tid, to, len) {
         return Err(err);
     }
     if is_one {

@@ -1,6 +1,6 @@
 // Frames go, and the exit procedures that they have set are run.
 ghost use Rattle.std.specs.Prelude.{◌≡◌, ◌≤◌, Some, map};
-ghost use Rattle.exceptions.specs.Stack.{UnwindsAll, UnwindsTo, unwound_all, unwound_to};
+ghost use Rattle.exc_stack.specs.Stack.{UnwindsAll, UnwindsTo, unwound_all, unwound_to};
 ghost use Rattle.lwp_types.specs.Death.{run_all_exits};
 ghost use Rattle.lwp_types.specs.Exits.{unwind};
 ghost use Rattle.lwp_types.specs.Exceptions.{first_frames, frames, later_frames};

@@ -15,9 +15,9 @@ ghost use Rattle.death_cleanup.specs.View.{state_of};
 use crate::named::Named;
 use crate::rows::Kind;
 use agents::Agents;
-use conditions::Conditions;
+use conditions::Conds;
 use lwp_types::{Block, Effects, Letter, LwpErr, Text, Tid};
-use messages::Messages;
+use rendezvous::Mail;
 use monitors::Monitors;
 use pod_sched::Sched;
 use stale_ids::Registry;
@@ -26,9 +26,9 @@ use stale_ids::Registry;
 pub struct Parts<'s> {
     pub ids: Registry<Kind<'s>>,
     pub sched: Sched,
-    pub messages: Messages<'s>,
+    pub mail: Mail<'s>,
     pub mons: Monitors,
-    pub conds: Conditions,
+    pub conds: Conds,
     pub agents: Agents,
     /// The exit status.
     pub exit: u32,
@@ -53,7 +53,7 @@ impl<'s> Drop for Parts<'s> {
         let Parts {
             ids: _,
             sched: _,
-            messages: _,
+            mail: _,
             mons: _,
             conds: _,
             agents: _,

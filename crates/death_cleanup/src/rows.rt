@@ -1,13 +1,13 @@
 // What the registry keeps under a number, and whom a thread waits for.
 ghost use Rattle.std.specs.Prelude.{◌≡◌, ◌≤◌, Some};
 ghost use Rattle.death_cleanup.specs.Moves.{kind_with_marks, kind_marks};
-ghost use Rattle.exceptions.specs.Stack.{UnwindsAll, UnwindsTo, unwound_all, unwound_to};
+ghost use Rattle.exc_stack.specs.Stack.{UnwindsAll, UnwindsTo, unwound_all, unwound_to};
 ghost use Rattle.lwp_types.specs.Case.{answer_by};
 ghost use Rattle.lwp_types.specs.Exceptions.{frames};
 ghost use Rattle.death_cleanup.specs.Named.{block_name, named_wait, rank};
 ghost use Rattle.death_cleanup.specs.Waits.{last_answer, waits_for};
 
-use exceptions::ExceptionStack;
+use exc_stack::ExcStack;
 use lwp_types::{Block, ExitMark, Flags, LwpErr, Tid};
 
 /// What is kept of a thread, but for what the scheduler keeps.
@@ -15,7 +15,7 @@ use lwp_types::{Block, ExitMark, Flags, LwpErr, Tid};
 pub struct ThreadRec<'s> {
     pub flags: Flags,
     pub block: Block,
-    pub stack: ExceptionStack<'s>,
+    pub stack: ExcStack<'s>,
 }
 
 /// Who lives under a number: a thread, or an agent.

@@ -72,7 +72,7 @@ pub fn refuse_senders<'s>(parts: &mut Parts<'s>, tid: Tid, effects: &mut Effects
     ensures came { CameTo parts.old parts.new effects.old effects.new
         (refuse_senders tid (state_of parts.old)) }
 {
-    while let Some(sender) = parts.messages.pop_to(tid) {
+    while let Some(sender) = parts.mail.pop_to(tid) {
         wake_done(parts, sender, Err(LwpErr::NonExist), effects);
     }
 }
@@ -88,7 +88,7 @@ fn clear_agent<'s>(parts: &mut Parts<'s>, agent: Tid, effects: &mut Effects<'s>)
 {
     let at = parts.named.start_of(agent);
     dismiss(parts, Awaited::Letter, agent, at, effects);
-    parts.messages.forget(agent);
+    parts.mail.forget(agent);
     parts.ids.remove(agent.number);
 }
 

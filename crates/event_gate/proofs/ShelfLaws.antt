@@ -7,7 +7,7 @@ use Rattle.std.proofs.lemmas.List.Elements.{filter-append}
 use Rattle.std.proofs.lemmas.List.Sums.{count_by-le-length, sum_by-set, sum_by-le-sum_by}
 use Rattle.lwp_types.specs.declared.call.Line.{Line}
 use Rattle.lwp_types.specs.CountLaws.{one, count-cons, count-push}
-use Rattle.event_marks.specs.Marks.{is_marked}
+use Rattle.lists.specs.EventMarks.{is_marked}
 use Rattle.std.specs.Slice.Scan.{HoldsNowhere, IsFirstPlace}
 use Rattle.std.specs.Prelude.{Err, IfNone, IfSome, Ok, OnErr, Option, Result}
 use Rattle.event_gate.specs.Shelves.{Shelf, Shelves, bare, bare_rack, first_left, has_left, after_next, with_one_more, shelf_of, after_take_from, after_add_to, left_of_client, left_in_all, event_of, lines_for, full, full_shelves}

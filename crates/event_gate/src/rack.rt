@@ -5,7 +5,7 @@ ghost use Rattle.event_gate.specs.Shelves.{after_add_to, after_take_from, bare_r
 
 use crate::again::Again;
 use crate::shelf::Shelf;
-use event_marks::{first_marked, no_marks, with_mark};
+use lists::{first_marked, no_marks, with_mark};
 use lwp_types::NoMemory;
 use std::alloc::Global;
 use std::marker::Model;
@@ -24,7 +24,7 @@ pub struct Rack<T> {
 
 impl<T> Model for Rack<T> {
     ghost use Rattle.event_gate.specs.Shelves.{Shelf, has_left};
-    ghost use Rattle.event_marks.specs.Marks.{is_marked};
+    ghost use Rattle.lists.specs.EventMarks.{is_marked};
     ghost use Rattle.std.specs.Prelude.{ℕ, List, length, ◌<◌, ◌≡◌};
 
     ghost Value = { List (Shelf T) };

@@ -111,7 +111,7 @@ impl<'s> Taker<'s> {
     }
 
     /// Whether all passes came back.
-    pub fn is_told(&self) -> bool
+    pub fn told(&self) -> bool
         ensures { IsTrue result ↔ IsTold self.now }
     {
         for client in &self.clients {

@@ -213,7 +213,7 @@ impl<'s> LaneTaker<'s> {
     }
 
     /// Whether the pass came back.
-    pub fn is_told(&self) -> bool
+    pub fn told(&self) -> bool
         ensures { IsTrue result ↔ IsLaneTold self.now }
     {
         self.told

@@ -26,7 +26,7 @@ use Rattle.lwp_types.specs.declared.rows.Letter.{Letter}
 use Rattle.pod_laws.proofs.Numbers.{once_rising}
 use Rattle.lwp_types.specs.declared.call.Answer.TheVariants as answer
 use Rattle.lwp_types.specs.declared.call.Mode.TheVariants as mode
-use Rattle.messages.specs.MessageTable.{MessageTable, after_take, has_letter_of, with_found_received}
+use Rattle.rendezvous.specs.MessageTable.{MessageTable, after_take, has_letter_of, with_found_received}
 use Rattle.stale_ids.specs.Register.{AreRising, value_of}
 use Rattle.std.proofs.Common.{Bool, List, None, Option, Some, [], ap, arith, cond, eqb, false, length, length-append, map, not, refl, subst, sym, true, ℕ, ◌&&◌, ◌+◌, ◌++◌, ◌<◌, ◌==◌, ◌∙◌, ◌∷◌, ◌≡◌, ◌≤◌}
 use Rattle.std.proofs.lemmas.Bool.{eq-eqb, eqb-true, ne_eqb}
@@ -265,7 +265,7 @@ module _ (parts : Parts) (t : ℕ) (from : Option ℕ) where
   s = state_of parts
 
   abbrev after : Parts
-  after = record parts { messages = after_take parts.messages t from }
+  after = record parts { mail = after_take parts.mail t from }
 
   pub received-is : (how : Mode) (letter : Letter) → option_map as_received (next_letter s.letters t from) ≡ Some letter
       → receive_by s t from how (next_letter s.letters t from) ≡ record { after = state_of after; others = []; own = Some (answer.Letter letter.from letter.text letter.room) }
@@ -287,8 +287,8 @@ module _ (parts : Parts) (t : ℕ) (from : Option ℕ) where
       by_found (Some l) h = absurd (cc)
 
   -- the messages are as they were
-  pub untouched : option_map as_received (next_letter s.letters t from) ≡ None → after_take parts.messages t from ≡ parts.messages
-  untouched given = ap (λ o. record parts.messages { letters = with_found_received o parts.messages.letters }) (nothing given)
+  pub untouched : option_map as_received (next_letter s.letters t from) ≡ None → after_take parts.mail t from ≡ parts.mail
+  untouched given = ap (λ o. record parts.mail { letters = with_found_received o parts.mail.letters }) (nothing given)
 
   pub polled-is : option_map as_received (next_letter s.letters t from) ≡ None → receive_by s t from mode.Poll (next_letter s.letters t from) ≡ refusal_case s error.Timeout
   polled-is given = ap (receive_by s t from mode.Poll) (nothing given)
@@ -312,19 +312,19 @@ module _ (parts : Parts) (t : ℕ) (from : Option ℕ) where
       by_test false e = e
 
 -- the caller waits for a letter
-pub awaited_comes : (parts new : Parts) (t : ℕ) (from : Option ℕ) (messages : MessageTable) (made : Case) → messages ≡ parts.messages
-    → CameTo (record parts { messages = messages }) new [] [] (still (after_block (state_of (record parts { messages = messages })) t (block.Receiving from)))
+pub awaited_comes : (parts new : Parts) (t : ℕ) (from : Option ℕ) (mail : MessageTable) (made : Case) → mail ≡ parts.mail
+    → CameTo (record parts { mail = mail }) new [] [] (still (after_block (state_of (record parts { mail = mail })) t (block.Receiving from)))
     → made ≡ silent_case (still (after_block (state_of parts) t (block.Receiving from))) → ComesTo parts new [] [] made None
-awaited_comes parts new t from messages made same came is =
+awaited_comes parts new t from mail made same came is =
     let there : CameTo parts new [] [] (still (after_block (state_of parts) t (block.Receiving from))) =
-    subst (λ (m : MessageTable). CameTo (record parts { messages = m }) new [] [] (still (after_block (state_of (record parts { messages = m })) t (block.Receiving from)))) same came in
+    subst (λ (m : MessageTable). CameTo (record parts { mail = m }) new [] [] (still (after_block (state_of (record parts { mail = m })) t (block.Receiving from)))) same came in
     rw is (record { came = there; own = refl })
 
 -- and for no more than so many ticks
-pub timed_comes : (parts new : Parts) (t : ℕ) (from : Option ℕ) (ticks : ℕ) (messages : MessageTable) (made : Case) → messages ≡ parts.messages
-    → CameTo (record parts { messages = messages }) new [] [] (still (after_block_for (state_of (record parts { messages = messages })) t (block.Receiving from) ticks))
+pub timed_comes : (parts new : Parts) (t : ℕ) (from : Option ℕ) (ticks : ℕ) (mail : MessageTable) (made : Case) → mail ≡ parts.mail
+    → CameTo (record parts { mail = mail }) new [] [] (still (after_block_for (state_of (record parts { mail = mail })) t (block.Receiving from) ticks))
     → made ≡ silent_case (still (after_block_for (state_of parts) t (block.Receiving from) ticks)) → ComesTo parts new [] [] made None
-timed_comes parts new t from ticks messages made same came is =
+timed_comes parts new t from ticks mail made same came is =
     let there : CameTo parts new [] [] (still (after_block_for (state_of parts) t (block.Receiving from) ticks)) =
-    subst (λ (m : MessageTable). CameTo (record parts { messages = m }) new [] [] (still (after_block_for (state_of (record parts { messages = m })) t (block.Receiving from) ticks))) same came in
+    subst (λ (m : MessageTable). CameTo (record parts { mail = m }) new [] [] (still (after_block_for (state_of (record parts { mail = m })) t (block.Receiving from) ticks))) same came in
     rw is (record { came = there; own = refl })

@@ -59,7 +59,7 @@ module _ (parts : Parts) (step : InStep parts) (m : ℕ) where
 
   module _ (live : member m parts.mons.monitors ≡ true) where
     abbrev tried : Bool → Bool → Case
-    tried full last = cond full (refusal_case (state_of parts) error.NoRoom) (cond last (refusal_case (state_of parts) error.NoRoom) (answer_case (state_of (record parts { conds = one_more })) (answer.Condition parts.conds.births)))
+    tried full last = cond full (refusal_case (state_of parts) error.NoRoom) (cond last (refusal_case (state_of parts) error.NoRoom) (answer_case (state_of (record parts { conds = one_more })) (answer.Cond parts.conds.births)))
 
     is-tried : condition_create (state_of parts) m ≡ tried (nat_le 256 (length parts.conds.conditions)) (nat_le parts.conds.limit parts.conds.births)
     unfolding unless
@@ -73,10 +73,10 @@ module _ (parts : Parts) (step : InStep parts) (m : ℕ) where
         by_tests false true e = refl
         by_tests false false e = absurd (cc)
 
-    pub condition-some : (n : ℕ) → Some n ≡ table.newborn parts.conds → condition_create (state_of parts) m ≡ answer_case (state_of with_condition) (answer.Condition n)
+    pub condition-some : (n : ℕ) → Some n ≡ table.newborn parts.conds → condition_create (state_of parts) m ≡ answer_case (state_of with_condition) (answer.Cond n)
     condition-some n some = is-tried ∙ by_tests (nat_le 256 (length parts.conds.conditions)) (nat_le parts.conds.limit parts.conds.births) some
       where
-        by_tests : (full last : Bool) → Some n ≡ cond (full || last) None (Some parts.conds.births) → tried full last ≡ answer_case (state_of (record parts { conds = cond (full || last) parts.conds one_more })) (answer.Condition n)
+        by_tests : (full last : Bool) → Some n ≡ cond (full || last) None (Some parts.conds.births) → tried full last ≡ answer_case (state_of (record parts { conds = cond (full || last) parts.conds one_more })) (answer.Cond n)
         by_tests true last e = absurd (cc)
         by_tests false true e = absurd (cc)
-        by_tests false false e = ap (λ k. answer_case (state_of (record parts { conds = one_more })) (answer.Condition k)) (let same : n ≡ parts.conds.births = cc in sym same)
+        by_tests false false e = ap (λ k. answer_case (state_of (record parts { conds = one_more })) (answer.Cond k)) (let same : n ≡ parts.conds.births = cc in sym same)

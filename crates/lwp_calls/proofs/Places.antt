@@ -21,13 +21,13 @@ abbrev pub grown : Parts → ℕ → ℕ → ℕ → ℕ → ℕ → ℕ → Par
 grown parts i s m q w n = record parts {
   ids = record parts.ids { places = i };
   sched = record parts.sched { places = s };
-  messages = record parts.messages { places = m };
+  mail = record parts.mail { places = m };
   mons = record parts.mons { places = q };
   conds = record parts.conds { places = w };
   named = record parts.named { places = n };
 }
 
-pub InStep-grown : (parts : Parts) → InStep parts → (i s m q w n : ℕ) → parts.sched.places ≤ s → parts.messages.places ≤ m → parts.mons.places ≤ q → parts.conds.places ≤ w → parts.named.places ≤ n → InStep (grown parts i s m q w n)
+pub InStep-grown : (parts : Parts) → InStep parts → (i s m q w n : ℕ) → parts.sched.places ≤ s → parts.mail.places ≤ m → parts.mons.places ≤ q → parts.conds.places ≤ w → parts.named.places ≤ n → InStep (grown parts i s m q w n)
 InStep-grown parts step i s m q w n more-s more-m more-q more-w more-n = record {
   tied = record { known = step.tied.known; waits = step.tied.waits };
   ranked = record { requests = step.ranked.requests; waits = step.ranked.waits };
@@ -37,7 +37,7 @@ InStep-grown parts step i s m q w n more-s more-m more-q more-w more-n = record 
   noted = noted-roomier parts.named n parts.ids.live more-n step.noted;
 }
 
-pub came_grown : (parts : Parts) → InStep parts → (i s m q w n : ℕ) → parts.sched.places ≤ s → parts.messages.places ≤ m → parts.mons.places ≤ q → parts.conds.places ≤ w → parts.named.places ≤ n → CameTo parts (grown parts i s m q w n) [] [] (still (state_of parts))
+pub came_grown : (parts : Parts) → InStep parts → (i s m q w n : ℕ) → parts.sched.places ≤ s → parts.mail.places ≤ m → parts.mons.places ≤ q → parts.conds.places ≤ w → parts.named.places ≤ n → CameTo parts (grown parts i s m q w n) [] [] (still (state_of parts))
 came_grown parts step i s m q w n more-s more-m more-q more-w more-n = record { state = refl; effects = refl; step = InStep-grown parts step i s m q w n more-s more-m more-q more-w more-n; dying = refl }
 
 -- whoever lives was born, so that no more live than were born
@@ -63,10 +63,10 @@ abbrev pub agents_grown : Parts → ℕ → ℕ → ℕ → Parts
 agents_grown parts i a m = record parts {
   ids = record parts.ids { places = i };
   agents = record parts.agents { places = a };
-  messages = record parts.messages { places = m };
+  mail = record parts.mail { places = m };
 }
 
-pub came_agents_grown : (parts : Parts) → InStep parts → (i a m : ℕ) → parts.messages.places ≤ m → CameTo parts (agents_grown parts i a m) [] [] (still (state_of parts))
+pub came_agents_grown : (parts : Parts) → InStep parts → (i a m : ℕ) → parts.mail.places ≤ m → CameTo parts (agents_grown parts i a m) [] [] (still (state_of parts))
 came_agents_grown parts step i a m more = record {
   state = refl;
   effects = refl;

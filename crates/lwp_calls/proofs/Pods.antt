@@ -74,7 +74,7 @@ module _ (s : State) (lawful : Lawful s None) (c : Call) (t : ℕ) (turn : curre
           by_answer (answer.Value n) e h = absurd (cc)
           by_answer (answer.Thread n) e h = absurd (cc)
           by_answer (answer.Monitor n) e h = absurd (cc)
-          by_answer (answer.Condition n) e h = absurd (cc)
+          by_answer (answer.Cond n) e h = absurd (cc)
           by_answer (answer.Letter from text room) e h = absurd (cc)
           by_answer (answer.Reply text) e h = absurd (cc)
           by_answer (answer.Bound func arg) e h = absurd (cc)

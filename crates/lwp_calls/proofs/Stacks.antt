@@ -10,8 +10,8 @@ use Rattle.death_cleanup.specs.View.{state_of}
 use Rattle.death_cleanup.specs.declared.parts.Parts.{Parts}
 use Rattle.death_cleanup.specs.declared.rows.Kind.{Kind}
 use Rattle.death_cleanup.specs.declared.rows.Kind.TheVariants as kind
-use Rattle.exceptions.specs.Stack as stack
-use Rattle.exceptions.specs.Stack.{after_unhandle, has_all_frames, refusal_on, with_frame}
+use Rattle.exc_stack.specs.Stack as stack
+use Rattle.exc_stack.specs.Stack.{after_unhandle, has_all_frames, refusal_on, with_frame}
 use Rattle.lwp_calls.proofs.Entering.{free_row}
 use Rattle.lwp_calls.specs.Comes.{IsAsBefore}
 use Rattle.lwp_types.specs.Case.{Case, answer_case, refusal_case, unless, value_case}

@@ -10,7 +10,7 @@ use Rattle.death_cleanup.specs.declared.parts.Parts.{Parts}
 use Rattle.death_cleanup.specs.declared.rows.Kind.{Kind}
 use Rattle.death_cleanup.specs.declared.rows.Kind.TheVariants as kind
 use Rattle.death_cleanup.specs.declared.rows.ThreadRec.{ThreadRec}
-use Rattle.exceptions.specs.Stack.{one_frame}
+use Rattle.exc_stack.specs.Stack.{one_frame}
 use Rattle.lwp_calls.proofs.Agree.{known-same}
 use Rattle.lwp_calls.proofs.Places.{nine}
 use Rattle.lwp_calls.specs.Asks.{HasPlaces}

@@ -10,7 +10,7 @@ use Rattle.death_cleanup.specs.Ties.{LawfulParts}
 use Rattle.death_cleanup.specs.View.{state_of}
 use Rattle.death_cleanup.specs.declared.parts.Parts.{Parts}
 use Rattle.death_cleanup.specs.declared.rows.Kind.{Kind}
-use Rattle.exceptions.specs.Stack.{IsInReach, handlers_on_top, after_settle_at}
+use Rattle.exc_stack.specs.Stack.{IsInReach, handlers_on_top, after_settle_at}
 use Rattle.lwp_calls.proofs.Stacks.{stack-fine}
 use Rattle.lwp_types.specs.Case.{Case}
 use Rattle.lwp_types.specs.Choice.{is_eligible_in}

@@ -16,7 +16,7 @@ first_refusal (check ∷ checks) = if check.0 then Some check.1 else first_refus
 -- one thread more may live, and wait for whatever it may, with no more memory
 pub record HasPlaces (parts : Parts) : Type 0 where
   pub living : length parts.ids.live + 1 ≤ parts.ids.places
-  pub letters : length (state_of parts).threads + 1 + length parts.agents.agents ≤ parts.messages.places
+  pub letters : length (state_of parts).threads + 1 + length parts.agents.agents ≤ parts.mail.places
   pub threads : length (state_of parts).threads + 1 ≤ parts.sched.places
   pub known : length parts.sched.threads + 1 ≤ parts.sched.places
   pub requests : length (state_of parts).threads + 1 ≤ parts.mons.places
@@ -27,7 +27,7 @@ pub record HasPlaces (parts : Parts) : Type 0 where
 pub record HasAgentPlaces (parts : Parts) : Type 0 where
   pub living : length parts.ids.live + 1 ≤ parts.ids.places
   pub agents : length parts.agents.agents + 1 ≤ parts.agents.places
-  pub letters : length (state_of parts).threads + (length parts.agents.agents + 1) ≤ parts.messages.places
+  pub letters : length (state_of parts).threads + (length parts.agents.agents + 1) ≤ parts.mail.places
 
 -- the pod may end while it lives: an agent, or a thread that is a server
 abbrev pub serves : Kind → Bool

@@ -4,7 +4,7 @@ use Rattle.conditions.specs.ConditionTable as condition
 use Rattle.death_cleanup.specs.Named.{no_names}
 use Rattle.death_cleanup.specs.declared.parts.Parts.{Parts}
 use Rattle.lwp_types.specs.declared.call.PodParams.{PodParams}
-use Rattle.messages.specs.MessageTable.{no_messages}
+use Rattle.rendezvous.specs.MessageTable.{no_messages}
 use Rattle.monitors.specs.MonitorTable as monitor
 use Rattle.pod_sched.specs.Schedule.{empty_schedule}
 use Rattle.stale_ids.specs.Register.{empty_register}
@@ -15,7 +15,7 @@ abbrev pub no_thread : PodParams → Parts
 no_thread params = record {
   ids = empty_register params.births;
   sched = empty_schedule params.maxpri;
-  messages = no_messages;
+  mail = no_messages;
   mons = monitor.empty_table params.births;
   conds = condition.empty_table params.births;
   agents = no_agents;

@@ -120,7 +120,7 @@ fn make_places(parts: &mut Parts) -> Result<(), NoMemory>
         return Err(NoMemory);
     };
     parts.agents.reserve(agents)?;
-    parts.messages.reserve(threads + agents)
+    parts.mail.reserve(threads + agents)
 }
 
 // A Trap is for whoever keeps the pod's own events, and never asked of the machine.

@@ -75,7 +75,7 @@ fn create<'s>(
         effects.done(tid, Err(LwpErr::NoRoom));
         return Ok(());
     };
-    effects.answered(tid, Answer::Condition(cond));
+    effects.answered(tid, Answer::Cond(cond));
     Ok(())
 }
 
@@ -136,12 +136,12 @@ fn list<'s>(parts: &Parts<'s>, tid: Tid, effects: &mut Effects<'s>) -> Result<()
     requires room { effects.old ≡ [] }
     ensures ok { OnOk result
         (Told parts.now parts.now effects.old effects.new tid
-        (list_case (state_of parts.now) kind.Condition
+        (list_case (state_of parts.now) kind.Cond
         (condition_numbers (state_of parts.now).conditions))) }
     ensures most { length effects.new ≤ 1 }
 {
     let list = parts.conds.list()?;
-    tell_ids(tid, IdKind::Condition, list, effects);
+    tell_ids(tid, IdKind::Cond, list, effects);
     Ok(())
 }
 

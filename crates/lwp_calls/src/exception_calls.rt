@@ -5,7 +5,7 @@ ghost use Rattle.death_cleanup.specs.Comes.{Answers};
 ghost use Rattle.death_cleanup.specs.Moves.{kind_with_marks, kind_marks};
 ghost use Rattle.death_cleanup.specs.Ties.{InStep, LawfulParts};
 ghost use Rattle.death_cleanup.specs.View.{state_of};
-ghost use Rattle.exceptions.specs.Stack.{IsInReach, after_unhandle, handlers_on_top, has_all_frames, is_full, refusal_on, after_settle_at, with_frame, with_mark};
+ghost use Rattle.exc_stack.specs.Stack.{IsInReach, after_unhandle, handlers_on_top, has_all_frames, is_full, refusal_on, after_settle_at, with_frame, with_mark};
 ghost use Rattle.lwp_types.specs.Case.{answer_by};
 ghost use Rattle.lwp_types.specs.Choice.{is_eligible_in};
 ghost use Rattle.lwp_types.specs.Death.{return_from};

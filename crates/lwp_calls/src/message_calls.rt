@@ -11,7 +11,7 @@ ghost use Rattle.lwp_types.specs.Messages.{is_no_source, post, receive, receiver
 ghost use Rattle.lwp_types.specs.State.{passes, thread_of};
 ghost use Rattle.lwp_types.specs.Step.{case_of};
 ghost use Rattle.lwp_types.specs.declared.call.IdKind.TheVariants as kind;
-ghost use Rattle.messages.specs.MessageTable.{has_letter_of};
+ghost use Rattle.rendezvous.specs.MessageTable.{has_letter_of};
 ghost use Rattle.lwp_calls.specs.Asks.{asks_memory, first_refusal};
 ghost use Rattle.lwp_calls.specs.Comes.{ComesTo, IsAsBefore, Told};
 
@@ -132,8 +132,8 @@ pub fn post<'s>(parts: &mut Parts<'s>, letter: &Letter<'s>, effects: &mut Effect
     requires step { InStep parts.old }
     requires alone { parts.old.dying ≡ None }
     requires unread { letter.now.received ≡ false }
-    requires new { has_letter_of parts.old.messages.letters letter.now.from ≡ false }
-    requires place { length parts.old.messages.letters < parts.old.messages.places }
+    requires new { has_letter_of parts.old.mail.letters letter.now.from ≡ false }
+    requires place { length parts.old.mail.letters < parts.old.mail.places }
     requires room { length effects.old < effect_places }
     ensures { CameTo parts.old parts.new effects.old effects.new
         (post letter.now (state_of parts.old)) }
@@ -157,13 +157,13 @@ fn put<'s>(parts: &mut Parts<'s>, letter: &Letter<'s>, effects: &mut Effects<'s>
     requires known { letter.now.received
         ≡ passes (λ row. takes_from letter.now.from row.block)
         (thread_of (state_of parts.old) letter.now.to) }
-    requires new { has_letter_of parts.old.messages.letters letter.now.from ≡ false }
-    requires place { length parts.old.messages.letters < parts.old.messages.places }
+    requires new { has_letter_of parts.old.mail.letters letter.now.from ≡ false }
+    requires place { length parts.old.mail.letters < parts.old.mail.places }
     requires room { length effects.old < effect_places }
     ensures { CameTo parts.old parts.new effects.old effects.new
         (post (record letter.now { received = false }) (state_of parts.old)) }
 {
-    parts.messages.post_letter(Letter {
+    parts.mail.post_letter(Letter {
         from: letter.from,
         to: letter.to,
         text: letter.text.again(),
@@ -214,7 +214,7 @@ fn receive<'s>(
         effects.done(caller, Err(err));
         return;
     }
-    if let Some(letter) = parts.messages.take_letter(caller, *from) {
+    if let Some(letter) = parts.mail.take_letter(caller, *from) {
         effects.lettered(caller, &letter);
         return;
     }
@@ -240,7 +240,7 @@ fn list_senders<'s>(
         (senders_to (state_of parts.now).letters caller))) }
     ensures most { length effects.new ≤ 1 }
 {
-    let list = parts.messages.senders(caller)?;
+    let list = parts.mail.senders(caller)?;
     tell_ids(caller, IdKind::Thread, list, effects);
     Ok(())
 }

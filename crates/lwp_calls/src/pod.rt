@@ -2,7 +2,7 @@
 ghost use Rattle.std.specs.Prelude.{◌≡◌, ◌≤◌, ◌<◌, ◌^◌, ◌+◌, ◌++◌, ◌∷◌, [], length, IfOk, OnOk, OnErr, IsErr, IsSome, IfNone, IfSome, IsTrue, None, Some};
 ghost use Rattle.std.specs.Slice.Scan.{HoldsNowhere, IsFirstPlace};
 ghost use Rattle.death_cleanup.specs.Comes.{CameTo};
-ghost use Rattle.exceptions.specs.Stack.{one_frame};
+ghost use Rattle.exc_stack.specs.Stack.{one_frame};
 ghost use Rattle.death_cleanup.specs.Ties.{InStep, LawfulParts};
 ghost use Rattle.death_cleanup.specs.View.{state_of};
 ghost use Rattle.lwp_types.specs.Agents.{deliver, is_event_armed};
@@ -28,13 +28,13 @@ use crate::{
     thread_calls, turn_calls,
 };
 use agents::Agents;
-use conditions::Conditions;
+use conditions::Conds;
 use death_cleanup::{Kind, Named, Parts, ThreadRec, is_id};
-use exceptions::ExceptionStack;
+use exc_stack::ExcStack;
 use lwp_types::{
     Block, Call, Effect, Effects, Family, Flags, NoMemory, PodEnd, PodParams, Text, Tid,
 };
-use messages::Messages;
+use rendezvous::Mail;
 use monitors::Monitors;
 use pod_sched::Sched;
 use stale_ids::Registry;
@@ -86,7 +86,7 @@ fn beginner<'s>(alloc: Global, flags: Flags) -> Result<ThreadRec<'s>, NoMemory>
     ensures { IfOk result
         (λ rec. rec ≡ record { flags = flags; block = Block.Not; stack = one_frame }) }
 {
-    let stack = ExceptionStack::new(alloc)?;
+    let stack = ExcStack::new(alloc)?;
     Ok(ThreadRec {
         flags,
         block: Block::Not,
@@ -105,9 +105,9 @@ fn no_thread<'s>(alloc: Global, params: PodParams) -> Result<Parts<'s>, NoMemory
     Ok(Parts {
         ids: Registry::new(alloc, params.births),
         sched,
-        messages: Messages::new(alloc),
+        mail: Mail::new(alloc),
         mons: Monitors::new(alloc, params.births),
-        conds: Conditions::new(alloc, params.births),
+        conds: Conds::new(alloc, params.births),
         agents: Agents::new(alloc),
         exit: 0,
         ended: false,
@@ -133,7 +133,7 @@ fn first_thread(parts: &mut Parts, alloc: Global, params: PodParams) -> Result<(
         return Err(NoMemory);
     };
     parts.sched.reserve(1)?;
-    parts.messages.reserve(1)?;
+    parts.mail.reserve(1)?;
     parts.mons.reserve(1)?;
     parts.conds.reserve(1)?;
     let flags = Flags {

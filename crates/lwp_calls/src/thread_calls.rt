@@ -12,13 +12,13 @@ ghost use Rattle.lwp_types.specs.State.{numbers, still};
 ghost use Rattle.lwp_types.specs.Step.{case_of};
 ghost use Rattle.lwp_types.specs.Threads.{after_create, create, join, ping, sleep};
 ghost use Rattle.lwp_types.specs.declared.call.IdKind.TheVariants as kind;
-ghost use Rattle.exceptions.specs.Stack.{one_frame};
+ghost use Rattle.exc_stack.specs.Stack.{one_frame};
 ghost use Rattle.lwp_calls.specs.Asks.{HasPlaces, asks_memory, first_refusal};
 ghost use Rattle.lwp_calls.specs.Comes.{ComesTo, IsAsBefore, Told};
 
 use crate::asks::{block, block_for, next_count, tell_ids, thread_count, threads};
 use death_cleanup::{Kind, Parts, ThreadRec, die, end_agent, is_agent, is_id, is_thread};
-use exceptions::ExceptionStack;
+use exc_stack::ExcStack;
 use lwp_types::{Answer, Block, Effects, Flags, IdKind, LwpErr, NoMemory, ThreadCall, Tid};
 use std::alloc::Global;
 
@@ -83,7 +83,7 @@ fn create<'s>(
         return Ok(());
     }
     make_places(parts)?;
-    let stack = ExceptionStack::new(alloc)?;
+    let stack = ExcStack::new(alloc)?;
     let tid = begin(parts, prio, flags, stack);
     effects.answered(caller, Answer::Thread(tid));
     Ok(())
@@ -132,14 +132,14 @@ fn make_places(parts: &mut Parts) -> Result<(), NoMemory>
         return Err(NoMemory);
     };
     parts.sched.reserve(count)?;
-    parts.messages.reserve(count + agents)?;
+    parts.mail.reserve(count + agents)?;
     parts.mons.reserve(count)?;
     parts.named.reserve(count)?;
     parts.conds.reserve(count)
 }
 
 // A thread begins, with one frame. There are places for it.
-fn begin<'s>(parts: &mut Parts<'s>, prio: u32, flags: Flags, stack: ExceptionStack<'s>) -> Tid
+fn begin<'s>(parts: &mut Parts<'s>, prio: u32, flags: Flags, stack: ExcStack<'s>) -> Tid
     requires lawful { LawfulParts parts.old }
     requires alone { parts.old.dying ≡ None }
     requires places { HasPlaces parts.old }

@@ -52,7 +52,7 @@ condition_create s m = unless s (is_no_monitor s m ∷ is_full 256 s.conditions 
     (answer_case (record s {
       conditions = s.conditions ++ record { number = s.condition_births; mon = m } ∷ [];
       condition_births = s.condition_births + 1;
-    }) (answer.Condition s.condition_births))
+    }) (answer.Cond s.condition_births))
 
 -- CvDestroy: of a condition that nobody waits on
 abbrev pub condition_destroy : State → ℕ → Case

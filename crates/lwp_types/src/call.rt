@@ -55,7 +55,7 @@ pub enum Func {
 pub enum IdKind {
     Thread,
     Monitor,
-    Condition,
+    Cond,
 }
 
 /// The answer to a call.
@@ -64,7 +64,7 @@ pub enum Answer<'s> {
     Value(i64),
     Thread(Tid),
     Monitor(Mid),
-    Condition(Cid),
+    Cond(Cid),
     Letter { from: Tid, text: Text<'s>, room: u8 },
     Reply(Text<'s>),
     Bound { func: Func, arg: u32 },
@@ -232,7 +232,7 @@ pub enum Call<'s> {
         cond: Cid,
         tid: Tid,
     },
-    Conditions,
+    Conds,
     CvWaiters {
         cond: Cid,
     },

@@ -152,7 +152,7 @@ impl<'s> Call<'s> {
             Call::Notify { cond } => Family::Conditions(ConditionCall::Notify(*cond)),
             Call::Broadcast { cond } => Family::Conditions(ConditionCall::Broadcast(*cond)),
             Call::CvSend { cond, tid } => Family::Conditions(ConditionCall::Send(*cond, *tid)),
-            Call::Conditions => Family::Conditions(ConditionCall::List),
+            Call::Conds => Family::Conditions(ConditionCall::List),
             Call::CvWaiters { cond } => Family::Conditions(ConditionCall::Waiters(*cond)),
             Call::CallProc { proc } => Family::Exceptions(ExceptionCall::CallProc(*proc)),
             Call::Return => Family::Exceptions(ExceptionCall::Return),
@@ -279,7 +279,7 @@ fn condition<'s>(call: ConditionCall) -> Call<'s>
         ConditionCall::Notify(cond) => Call::Notify { cond },
         ConditionCall::Broadcast(cond) => Call::Broadcast { cond },
         ConditionCall::Send(cond, tid) => Call::CvSend { cond, tid },
-        ConditionCall::List => Call::Conditions,
+        ConditionCall::List => Call::Conds,
         ConditionCall::Waiters(cond) => Call::CvWaiters { cond },
     }
 }

@@ -1,7 +1,8 @@
 //! The program: standard input holds a script, and standard output takes what is wrong with it.
 //!
-//! All that it does is `script_advice::check`, on the standard streams; no contract can say what those hold. What is written is
-//! gathered, and goes out 64 KiB at a time. What went wrong with the program itself is said on standard error.
+//! All that it does is `script_advice::check`, on the standard streams; no contract can say what those hold. With the word `--print` it
+//! is `script_printer::copy`: standard output takes the script, each line in its one spelling. What is written is gathered, and goes out
+//! 64 KiB at a time. What went wrong with the program itself is said on standard error.
 #![tactic(auto)]
 
 ghost use Rattle.std.specs.Prelude.{◌≡◌, ◌≢◌};
@@ -10,16 +11,65 @@ ghost use Rattle.script_advice.specs.declared.checking.CheckEnd.TheVariants.{NoM
 
 use lwp_types::Failed;
 use script_advice::{CheckEnd, check, fault_text, status_of};
+use script_printer::{CopyFailure, copy};
 use std::io::{ErrorKind, Write};
 use std::process::ExitCode;
 use std::{env, io};
-use std_streams::{GATHERED, StdSink, StdSource};
+use streams::{GATHERED, StdSink, StdSource};
 
 fn main(rt: HostRuntime) -> ExitCode {
-    let end = match words(&rt) {
-        Ok(words) => end_of(&rt, &words),
-        Err(error) => end_without_words(&error),
+    match words(&rt) {
+        Ok(words) if asks_for_print(&words) => print(&rt),
+        Ok(words) => tell(&rt, end_of(&rt, &words)),
+        Err(error) => tell(&rt, end_without_words(&error)),
+    }
+}
+
+// Whether the script is to be printed, and not checked.
+fn asks_for_print(words: &Vec<String>) -> bool {
+    match words.as_slice() {
+        [word] => word.as_bytes() == b"--print".as_slice(),
+        _ => false,
+    }
+}
+
+// Prints the script, and says on standard error what was in the way.
+fn print(rt: &HostRuntime) -> ExitCode {
+    match printed(rt) {
+        Ok(()) => ExitCode::SUCCESS,
+        Err(failure) => {
+            let _ = tell_failure(rt, failure);
+            ExitCode::from(script_printer::status_of(failure))
+        }
+    }
+}
+
+// The script on standard input goes to standard output, each line in its one spelling.
+fn printed(rt: &HostRuntime) -> Result<(), CopyFailure> {
+    let Ok(mut sink) = StdSink::new(rt.alloc(), rt.stdout(), GATHERED) else {
+        return Err(CopyFailure::NoMemory);
     };
+    let mut source = StdSource::new(rt.stdin());
+    copy(rt.alloc(), &mut source, &mut sink)?;
+    match sink.finish() {
+        Ok(()) => Ok(()),
+        Err(Failed) => Err(CopyFailure::WriteFault),
+    }
+}
+
+fn tell_failure(rt: &HostRuntime, failure: CopyFailure) -> io::Result<()> {
+    match failure {
+        CopyFailure::ReadFault => eprintln!(rt; "lwpcheck: read fault"),
+        CopyFailure::WriteFault => eprintln!(rt; "lwpcheck: write fault"),
+        CopyFailure::NoMemory => eprintln!(rt; "lwpcheck: no memory"),
+        CopyFailure::Script { line, reason } => {
+            eprintln!(rt; "lwpcheck: script line {line}: {reason:?}")
+        }
+    }
+}
+
+// Says on standard error what was in the way of a check.
+fn tell(rt: &HostRuntime, end: CheckEnd) -> ExitCode {
     let _ = rt.stderr().write_all(fault_text(end));
     ExitCode::from(status_of(end))
 }

@@ -1,7 +1,7 @@
 //! The program: its words say what to do, standard input holds the script, if one is read, and standard output takes the trace, or
 //! what sums it up.
 //!
-//! All that it does is `serve_words::top`, on the standard streams; no contract can say what those hold. What is written is gathered,
+//! All that it does is `lwp_serve::top`, on the standard streams; no contract can say what those hold. What is written is gathered,
 //! and goes out 64 KiB at a time, and on `run` also whenever the pod waits for a line. What went wrong is said on standard error, and the exit status is the session's.
 #![tactic(auto)]
 
@@ -10,13 +10,13 @@ ghost use Rattle.std.specs.IoError.{error_kind};
 ghost use Rattle.script_session.specs.declared.session.SessionEnd.TheVariants.{NoMemory, Usage, WriteFault};
 
 use lwp_types::Failed;
-use serve_words::{Session, SessionEnd, fault_text, no_gates, top};
+use lwp_serve::{Session, SessionEnd, fault_text, no_gates, top};
 use std::io::{ErrorKind, Write};
 use std::process::ExitCode;
 use std::sync::Wait;
 use std::thread::Threads;
 use std::{env, io};
-use std_streams::{GATHERED, StdSink, StdSource};
+use streams::{GATHERED, StdSink, StdSource};
 
 fn main(rt: HostRuntime) -> ExitCode {
     let session = match words(&rt) {

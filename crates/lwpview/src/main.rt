@@ -12,7 +12,7 @@ use lwp_types::Failed;
 use std::io::{ErrorKind, Write};
 use std::process::ExitCode;
 use std::{env, io};
-use std_streams::{GATHERED, StdSink, StdSource};
+use streams::{GATHERED, StdSink, StdSource};
 use trace_page::{ViewEnd, fault_text, status_of, view};
 
 fn main(rt: HostRuntime) -> ExitCode {

@@ -7,8 +7,8 @@ use Rattle.monitors.specs.declared.requests.EntryRequest.{EntryRequest}
 use Rattle.std.proofs.Common.{List, [], ap, eqb, map, not, refl, sym, ℕ, ◌∙◌, ◌∷◌, ◌≡◌, ◌||◌}
 use Rattle.std.specs.List.{AllByRecursion, filter, list_any}
 use Rattle.std.specs.Prelude.{option_map}
-use Rattle.waiting_list.specs.Line.{is_for, is_thread, waiting_with_priority}
-use Rattle.waiting_list.specs.declared.rows.Waiting.{Waiting}
+use Rattle.lists.specs.WaitingList.Line.{is_for, is_thread, waiting_with_priority}
+use Rattle.lists.specs.declared.waiting_list.rows.Waiting.{Waiting}
 
 pub requests-line : (m : ℕ) (ws : List Waiting) → filter (λ (r : EntryRequest). eqb r.mon m) (map request_of ws) ≡ map request_of (filter (is_for m) ws)
 requests-line m ws = map-filter request_of (λ r. eqb r.mon m) ws

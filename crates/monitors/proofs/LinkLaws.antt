@@ -11,9 +11,9 @@ use Rattle.std.proofs.lemmas.Bool.{cases_eq, cases_lt, eq-eqb, eqb-true, ne_eqb}
 use Rattle.std.proofs.lemmas.List.{get_or-take, get_or_append_left, get_or_push, length-set, length-take-le, length_push}
 use Rattle.std.specs.List.{find}
 use Rattle.std.specs.Option.{option_eq}
-use Rattle.thread_index.proofs.LivingLemmas.{held as one_of, living-set}
-use Rattle.thread_index.specs.Index.{Found, Puts, count_of, place_of}
-use Rattle.thread_index.specs.Living.{living}
+use Rattle.lists.proofs.LivingLemmas.{held as one_of, living-set}
+use Rattle.lists.specs.ThreadIndex.{Found, Puts, count_of, place_of}
+use Rattle.lists.specs.Living.{living}
 
 -- whatever has none before has none now
 abbrev pub HasFewer : List (Option Lock) → List (Option Lock) → Type 0

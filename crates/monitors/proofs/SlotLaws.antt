@@ -9,7 +9,7 @@ use Rattle.monitors.specs.Slots.{IsLastIn, NoneIn, deeper, has_in, lock_in}
 use Rattle.std.proofs.Common.{Bool, List, None, Option, Some, [], ap, arith, cond, count_by, false, get_or, is_some, length, option_map, refl, reverse, set, suc, sym, take, true, zero, ℕ, ◌++◌, ◌<◌, ◌∙◌, ◌∷◌, ◌≡◌, ◌≢◌, ◌≤◌}
 use Rattle.std.proofs.lemmas.List.{get_or-set_other, get_or-take, get_or_append_left, get_or_past, get_or_push, reverse-append}
 use Rattle.std.specs.List.{filter, find, remove}
-use Rattle.thread_index.specs.Living.{living}
+use Rattle.lists.specs.Living.{living}
 
 -- the lock, where there is one
 abbrev pub as_list : Option Lock → List Lock

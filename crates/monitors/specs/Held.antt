@@ -4,7 +4,7 @@ use Rattle.monitors.specs.MonitorTable.{MonitorTable}
 use Rattle.monitors.specs.Slots.{IsByMonitor, IsByOwner}
 use Rattle.monitors.specs.declared.locks.Locks.{Locks}
 use Rattle.std.specs.Prelude.{length, vec_capacity, ◌+◌, ◌≤◌}
-use Rattle.thread_index.specs.Index.{width_of}
+use Rattle.lists.specs.ThreadIndex.{width_of}
 
 -- there are places for so many locks, and slots for twice as many
 pub record HasPlaces (l : Locks) : Type 0 where

@@ -1,6 +1,6 @@
 -- How requests stand in a line. No public clause cites this module.
 use Rattle.monitors.specs.declared.requests.EntryRequest.{EntryRequest}
-use Rattle.waiting_list.specs.declared.rows.Waiting.{Waiting}
+use Rattle.lists.specs.declared.waiting_list.rows.Waiting.{Waiting}
 
 -- whoever waits there asks to enter the monitor of that number
 abbrev pub request_of : Waiting → EntryRequest

@@ -5,8 +5,8 @@ use Rattle.lwp_types.specs.declared.rows.Lock.{Lock}
 use Rattle.monitors.specs.declared.slots.Link.{Link}
 use Rattle.std.specs.List.{count_by}
 use Rattle.std.specs.Prelude.{Bool, List, None, Option, Some, false, is_some, length, slice_index_or, suc, true, ℕ, ◌+◌, ◌<◌, ◌≡◌, ◌≤◌}
-use Rattle.thread_index.specs.Index.{Found, count_of, place_of}
-use Rattle.thread_index.specs.Living.{living}
+use Rattle.lists.specs.ThreadIndex.{Found, count_of, place_of}
+use Rattle.lists.specs.Living.{living}
 
 -- ---- slots
 

@@ -5,13 +5,13 @@ ghost use Rattle.lwp_types.specs.Monitors.{depth_in, with_depth};
 ghost use Rattle.lwp_types.specs.MonitorRelease.{is_owned_by, last_lock, lock_of, locks_on, without_lock};
 ghost use Rattle.monitors.specs.Held.{HasPlaces, IsTied};
 ghost use Rattle.monitors.specs.Slots.{AreLinked, IsByMonitor, IsByOwner, IsLastIn, LeadsOn, has_in, slot_at};
-ghost use Rattle.thread_index.specs.Index.{IsEmpty, Puts, count_of, place_of, width_of};
-ghost use Rattle.thread_index.specs.Living.{living};
+ghost use Rattle.lists.specs.ThreadIndex.{IsEmpty, Puts, count_of, place_of, width_of};
+ghost use Rattle.lists.specs.Living.{living};
 
 use crate::slots::{Link, close_up, deepen, last_on, link_of, lock_at};
 use lwp_types::{Lock, Mid, NoMemory, Tid};
 use std::alloc::Global;
-use thread_index::Index;
+use lists::Index;
 
 /// The locks.
 pub struct Locks {

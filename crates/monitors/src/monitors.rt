@@ -10,7 +10,7 @@ use crate::locks::Locks;
 use lwp_types::{IdList, Lock, Mid, NoMemory, Tid};
 use std::alloc::Global;
 use std::marker::Model;
-use waiting_list::{Waiting, WaitingList};
+use lists::{Waiting, WaitingList};
 
 // How many monitors may live at once.
 const MOST_LIVE: usize = 256;
@@ -44,7 +44,7 @@ impl Model for Monitors {
     ghost use Rattle.monitors.specs.MonitorTable.{MonitorTable};
     ghost use Rattle.monitors.specs.Held.{IsSound};
     ghost use Rattle.monitors.specs.Requests.{request_of};
-    ghost use Rattle.thread_index.specs.Living.{living};
+    ghost use Rattle.lists.specs.Living.{living};
 
     ghost Value = { MonitorTable };
 

@@ -3,7 +3,7 @@ ghost use Rattle.std.specs.Prelude.{◌≡◌, ◌<◌, IfNone, IfSome, IsTrue, 
 ghost use Rattle.std.specs.Slice.Scan.{HoldsNowhere, IsFirstPlace};
 ghost use Rattle.pod_events.specs.Events.{is_trapped};
 
-use event_marks::{first_marked, no_marks, with_mark};
+use lists::{first_marked, no_marks, with_mark};
 use std::marker::Model;
 
 // Events are numbered from 0 to 31, but for that of the reports.
@@ -18,7 +18,7 @@ pub(crate) struct TrapSet {
 }
 
 impl Model for TrapSet {
-    ghost use Rattle.event_marks.specs.Marks.{is_marked};
+    ghost use Rattle.lists.specs.EventMarks.{is_marked};
     ghost use Rattle.pod_events.specs.Events.{is_trapped};
     ghost use Rattle.std.specs.Prelude.{Bool, List, ℕ, ◌≡◌};
 

@@ -155,7 +155,7 @@ module _ (n : ℕ) where
   case_died s was t x known (call.MonBreak m) = absent (unless_deathless n s _ _ (deathless_release n m s))
   case_died s was t x known call.Monitors = absent (deathless_nil n)
   case_died s was t x known (call.Wait c) = absent (unless_deathless n s _ _ (deathless_waited n t c (last_lock s.locks t) s))
-  case_died s was t x known call.Conditions = absent (deathless_nil n)
+  case_died s was t x known call.Conds = absent (deathless_nil n)
   case_died s was t x known call.Return = return_died s was t x known
   case_died s was t x known (call.Raise q) = absent (unless_deathless n s _ _ (match_deathless s (catch_case s t q) (handler_of s t q) (λ f. deathless_unwind n t (caught_marks f (marks_in s t)) (later_frames f.depth (marks_in s t)) s)))
   case_died s was t x known (call.ExcNotify q) = absent (unless_deathless n s _ _ (match_deathless s (λ f. excnotify_case_by s t q f f.func) (handler_of s t q) (λ f. notified_deathless s t q f f.func)))

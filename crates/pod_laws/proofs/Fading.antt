@@ -287,7 +287,7 @@ module _ (n : ℕ) where
   case_fades s t (call.Notify c) = unless_fades s _ _ (fades_woken_all (condition_of s.conditions c) _ s)
   case_fades s t (call.Broadcast c) = unless_fades s _ _ (fades_woken_all (condition_of s.conditions c) _ s)
   case_fades s t (call.CvSend c u) = unless_fades s _ _ (fades_woken_all (condition_of s.conditions c) _ s)
-  case_fades s t call.Conditions = fades_still s
+  case_fades s t call.Conds = fades_still s
   case_fades s t (call.CvWaiters c) = unless_fades s _ _ (fades_still s)
   case_fades s t (call.CallProc number) = unless_fades s _ _ (fades_marks s _ t _ refl refl refl)
   case_fades s t call.Return = cond_fades s (nat_le 2 (frames (marks_in s t))) (leave_frame s t) (silent_case (death t s)) (fades_unwind t (first_frames (frames (marks_in s t) - 1) (marks_in s t)) (later_frames (frames (marks_in s t) - 1) (marks_in s t)) s) (fades_death t s)

@@ -238,7 +238,7 @@ module _ (p : TimerRow → Bool) where
   case_quiet s t (call.Notify c) = none_asked s _ (unless_quiet s s.timers _ _ (omega arith) (quiet_woken_all (condition_of s.conditions c) _ s))
   case_quiet s t (call.Broadcast c) = none_asked s _ (unless_quiet s s.timers _ _ (omega arith) (quiet_woken_all (condition_of s.conditions c) _ s))
   case_quiet s t (call.CvSend c u) = none_asked s _ (unless_quiet s s.timers _ _ (omega arith) (quiet_woken_all (condition_of s.conditions c) _ s))
-  case_quiet s t call.Conditions = none_asked s _ (quiet_still s)
+  case_quiet s t call.Conds = none_asked s _ (quiet_still s)
   case_quiet s t (call.CvWaiters c) = none_asked s _ (unless_quiet s s.timers _ _ (omega arith) (quiet_still s))
   case_quiet s t call.Return = none_asked s _ (cond_quiet s.timers (nat_le 2 (frames (marks_in s t))) (leave_frame s t) (silent_case (death t s)) (quiet_unwind t (first_frames (frames (marks_in s t) - 1) (marks_in s t)) (later_frames (frames (marks_in s t) - 1) (marks_in s t)) s) (quiet_death t s))
   case_quiet s t (call.Raise q) = none_asked s _ (unless_quiet s s.timers _ _ (omega arith) (quiet_match s (catch_case s t q) (handler_of s t q) (λ f. quiet_caught s t q f)))

@@ -4,8 +4,8 @@ use Rattle.std.proofs.Math.Seq.{take-append-add}
 use Rattle.pod_runner.specs.Run.{Writes, WritesCut}
 use Rattle.std.specs.Prelude.{Option}
 use Rattle.lwp_types.specs.Streams.{after_append}
-use Rattle.whole_streams.proofs.WriteLaws.{appended-append}
-use Rattle.whole_streams.specs.Writing.{AppendsPart}
+use Rattle.streams.proofs.WriteLaws.{appended-append}
+use Rattle.streams.specs.Writing.{AppendsPart}
 
 pub writes_on : (old new : Option (List ℕ)) (before out after : List ℕ) → after ≡ before ++ out → new ≡ after_append old out → Writes old new before after
 writes_on old new before out after e h base g = h ∙ rw (g, e) (appended-append base before out)

@@ -19,7 +19,7 @@ use Rattle.pod_runner.proofs.Ends.{turn-round}
 use Rattle.pod_runner.proofs.Rounds.{does-by, does-nothing, does-part, does-turn, does-turn-call, ran-answer, stream}
 use Rattle.trace_text.specs.declared.ends.Halt.{Halt}
 use Rattle.trace_text.specs.declared.ends.Halt.TheVariants as halts
-use Rattle.whole_streams.specs.Streams.{Stream}
+use Rattle.streams.specs.Streams.{Stream}
 
 -- a pod that has ended with a status is over with it
 pub over-ended : (s : EventState) (turns calls status : ℕ) (left : Shelves) → phase_of s.state turns calls ≡ phase.Ended status → over turns s calls left ≡ Some (halts.Ended status)

@@ -13,3 +13,8 @@ pub mod Rounds
 pub mod Halts
 pub mod Lawfuls
 pub mod Moving
+pub mod Armed
+pub mod Lives
+pub mod Looks
+pub mod LiveRounds
+pub mod Serving

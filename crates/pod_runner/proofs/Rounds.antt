@@ -14,7 +14,7 @@ use Rattle.pod_runner.specs.Due.{IsDefined}
 use Rattle.pod_runner.specs.Eager.{IsFirstPart, Plan, Planned, after_advance, boundary, after_finish, after_offer, one_call, opening_plan, plan_over, plan_whole, round, pod_of}
 use Rattle.pod_runner.specs.Phase.{phase_of}
 use Rattle.pod_runner.specs.Run.{Broke, GoesOn, IsNew, Played, Tells, WritesPart, Wrote, but_last, plan_now, planned_of, session_of, phase_now, setting_of, after_step, took_now, trace_before, trace_of, with_call, with_took}
-use Rattle.whole_streams.specs.Streams.{Stream}
+use Rattle.streams.specs.Streams.{Stream}
 use Rattle.pod_runner.specs.Session.{Made, Move, Session, call_step, take_step, with_move}
 use Rattle.pod_runner.specs.Play.{play}
 use Rattle.pod_runner.specs.Trace.{lines}

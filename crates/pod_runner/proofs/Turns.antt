@@ -16,7 +16,7 @@ use Rattle.pod_runner.specs.Keeps.{Keeps}
 use Rattle.pod_runner.specs.Run.{Played, Tells, after_step}
 use Rattle.pod_runner.specs.Telling.{Told}
 use Rattle.pod_runner.specs.Trace.{lines}
-use Rattle.whole_streams.specs.Streams.{Stream}
+use Rattle.streams.specs.Streams.{Stream}
 use Rattle.pod_events.specs.Events.{is_takeable}
 use Rattle.trace_text.specs.Lines.{step_lines}
 use Rattle.pod_runner.proofs.Appends.{cut_on, writes_on}

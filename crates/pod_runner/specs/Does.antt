@@ -4,7 +4,7 @@ use Rattle.lwp_types.specs.Poll.{Next}
 use Rattle.pod_runner.specs.Due.{IsDefined}
 use Rattle.pod_runner.specs.Eager.{IsFirstPart, Plan, Planned}
 use Rattle.pod_runner.specs.Run.{GoesOn, Played, Tells, plan_now, planned_of, setting_of, trace_before, trace_of}
-use Rattle.whole_streams.specs.Streams.{Stream}
+use Rattle.streams.specs.Streams.{Stream}
 use Rattle.pod_runner.specs.declared.phase.RunErr.{RunErr}
 use Rattle.std.specs.Prelude.{List, OnErr, OnOk, Result, false, ℕ, ◌≡◌, ◌≤◌}
 

@@ -16,3 +16,5 @@ pub mod Takes
 pub mod RunParts
 pub mod Laws
 pub mod SessionMoves
+pub mod Live
+pub mod Inlets

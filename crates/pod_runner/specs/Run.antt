@@ -15,7 +15,7 @@ use Rattle.pod_runner.specs.declared.phase.Phase.{Phase}
 use Rattle.pod_runner.specs.declared.phase.RunErr.{RunErr}
 use Rattle.pod_runner.specs.declared.session.Took.{Took}
 use Rattle.trace_text.specs.declared.ends.Halt.{Halt}
-use Rattle.whole_streams.specs.Streams.{IsFaultless, IsFaulty, Stream}
+use Rattle.streams.specs.Streams.{IsFaultless, IsFaulty, Stream}
 use Rattle.std.specs.Prelude.{Bool, Err, List, Ok, Option, Result, Some, [], length, take, true, ℕ, ◌++◌, ◌+◌, ◌-◌, ◌<◌, ◌≡◌, ◌≤◌, ◌∷◌}
 use Rattle.pod_runner.specs.declared.phase.RunErr.TheVariants as fails
 

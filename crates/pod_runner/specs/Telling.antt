@@ -3,8 +3,8 @@ use Rattle.lwp_types.specs.Streams.{after_append}
 use Rattle.pod_runner.specs.declared.phase.RunErr.{RunErr}
 use Rattle.pod_runner.specs.declared.phase.RunErr.TheVariants as fails
 use Rattle.std.specs.Prelude.{Bool, Err, List, Ok, Result, false, ℕ, ◌≡◌, ◌≤◌}
-use Rattle.whole_streams.specs.Streams.{IsFaultless, IsFaulty, Stream}
-use Rattle.whole_streams.specs.Writing.{AppendsPart}
+use Rattle.streams.specs.Streams.{IsFaultless, IsFaulty, Stream}
+use Rattle.streams.specs.Writing.{AppendsPart}
 
 -- all bytes were written, and the run hasn't failed; or a write failed before the last, and the run is as it was
 abbrev pub Told : {T : Type 0} → Stream → List ℕ → Bool → Bool → Result T RunErr → Type 0

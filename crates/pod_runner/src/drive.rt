@@ -8,7 +8,7 @@ ghost use Rattle.pod_runner.specs.Over.{can_take};
 ghost use Rattle.pod_runner.specs.Ready.{IsReady};
 ghost use Rattle.pod_runner.specs.Run.{session_of, phase_now, plan_now, planned_of, EndsAt, IsNew};
 ghost use Rattle.pod_runner.specs.declared.phase.Phase.TheVariants as phase;
-ghost use Rattle.whole_streams.specs.Streams.{sides};
+ghost use Rattle.streams.specs.Streams.{sides};
 
 use crate::playing::Run;
 use crate::{Phase, RunErr};

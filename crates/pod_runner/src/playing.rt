@@ -7,16 +7,16 @@ ghost use Rattle.pod_runner.specs.Due.{IsDefined};
 ghost use Rattle.pod_runner.specs.Run.{setting_of, session_of, phase_now, trace_of, names_like, after_step, with_call, with_took, Tells};
 ghost use Rattle.pod_runner.specs.Telling.{Told};
 ghost use Rattle.pod_runner.specs.declared.phase.Phase.TheVariants as phase;
-ghost use Rattle.whole_streams.specs.Streams.{sides};
+ghost use Rattle.streams.specs.Streams.{sides};
 
 use crate::parts::RunParts;
 use crate::{Made, Phase, RunErr, TakeList, Took};
 use lwp_types::{Body, Env, Line, NoMemory, PodParams, Polled, Program, Sink};
 use std::alloc::Global;
 use std::marker::Model;
-use text_list::TextList;
+use lists::TextList;
 use trace_text::StepLines;
-use whole_streams::write_all;
+use streams::write_all;
 
 /// A run of a program, seen as what it plays and how far it is; its session is the definition's.
 pub struct Run<'s, B: Body, P: Program<B>> {

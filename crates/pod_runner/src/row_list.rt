@@ -76,7 +76,7 @@ fn set_answer<'s, B>(
         Answer::Value(value) => row.answer = Answer::Value(*value),
         Answer::Thread(tid) => row.answer = Answer::Thread(*tid),
         Answer::Monitor(mon) => row.answer = Answer::Monitor(*mon),
-        Answer::Condition(cond) => row.answer = Answer::Condition(*cond),
+        Answer::Cond(cond) => row.answer = Answer::Cond(*cond),
         Answer::Letter { from, text, room } => {
             row.answer = Answer::Letter {
                 from: *from,

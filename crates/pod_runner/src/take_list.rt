@@ -5,7 +5,7 @@ use crate::Took;
 use lwp_types::{Line, NoMemory};
 use std::alloc::Global;
 use std::marker::Model;
-use text_list::TextList;
+use lists::TextList;
 
 /// A take without its text.
 #[derive(Clone, Copy)]

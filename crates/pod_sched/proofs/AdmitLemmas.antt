@@ -1,6 +1,6 @@
 -- One thread more is known.
-use Rattle.buckets.specs.Order.{Order, after_put_last, prio_of}
-use Rattle.chains.specs.Lists.{Lists, after_move_to_back, items}
+use Rattle.pod_sched.specs.Buckets.Order.{Order, after_put_last, prio_of}
+use Rattle.lists.specs.ChainLists.{Lists, after_move_to_back, items}
 use Rattle.lwp_types.specs.State.{without}
 use Rattle.pod_sched.proofs.HeldLemmas.{thread_at}
 use Rattle.pod_sched.proofs.LeaveLemmas.{AreSlots-admitted, items_moved_other, items_moved_same, known_same, lists_moved, ready_joined, ready_kept, rows_admitted, slot_free, tids_joined, tids_stay}

@@ -1,6 +1,6 @@
 -- One thread goes right before another.
-use Rattle.buckets.specs.Order.{Order, after_put_before as put_slot_before, prio_of}
-use Rattle.chains.specs.Lists.{Lists, before, items}
+use Rattle.pod_sched.specs.Buckets.Order.{Order, after_put_before as put_slot_before, prio_of}
+use Rattle.lists.specs.ChainLists.{Lists, before, items}
 use Rattle.lwp_types.specs.CountLaws.{count-cons, one, times-without_other}
 use Rattle.lwp_types.specs.State.{passes, put_before, times_in, without}
 use Rattle.pod_sched.proofs.HeldLemmas.{of_thread, thread}

@@ -1,6 +1,6 @@
 -- Each change of the fields of `Sched` leaves its invariant, and the schedule changed as said.
-use Rattle.buckets.specs.Order.{Order, after_put_last, after_take, prio_of}
-use Rattle.chains.specs.Lists.{Lists, items}
+use Rattle.pod_sched.specs.Buckets.Order.{Order, after_put_last, after_take, prio_of}
+use Rattle.lists.specs.ChainLists.{Lists, items}
 use Rattle.lwp_types.specs.State.{to_end, without}
 use Rattle.pod_sched.proofs.SlotLemmas.{All-found, All-replaced, AreSlots-changed, IsOrdered-back_with, IsOrdered-out_with, find-map, ready_back, ready_out, rows_changed, slot_known, slot_tid, tids_back, tids_out}
 use Rattle.pod_sched.specs.Held.{IsPriority, IsHeld, back_with, out_with, replace, schedule_of, tid_at}

@@ -1,7 +1,7 @@
 -- A thread is forgotten, or one more is known.
-use Rattle.buckets.specs.Order.{Order, after_take, prio_of}
-use Rattle.chains.proofs.Pushes.{items_pushed_other, items_pushed_same, length-pushed}
-use Rattle.chains.specs.Lists.{Lists, after_move_to_back, items}
+use Rattle.pod_sched.specs.Buckets.Order.{Order, after_take, prio_of}
+use Rattle.lists.proofs.ChainPushes.{items_pushed_other, items_pushed_same, length-pushed}
+use Rattle.lists.specs.ChainLists.{Lists, after_move_to_back, items}
 use Rattle.lwp_types.proofs.Ranks.{All-filter}
 use Rattle.lwp_types.specs.CountLaws.{count-cons, count-push, length-without, one, times-without_other, times-without_same}
 use Rattle.lwp_types.specs.State.{times_in, without}

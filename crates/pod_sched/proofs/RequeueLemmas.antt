@@ -1,6 +1,6 @@
 -- A thread that goes last, with the row that it has, and one whose row says that it is blocked, or no longer.
-use Rattle.buckets.specs.Order.{Order, after_put_last}
-use Rattle.chains.specs.Lists.{Lists}
+use Rattle.pod_sched.specs.Buckets.Order.{Order, after_put_last}
+use Rattle.lists.specs.ChainLists.{Lists}
 use Rattle.lwp_types.specs.State.{passes}
 use Rattle.pod_sched.proofs.HeldLemmas.{IsHeld-back, has_priority, of_thread, thread, view_back}
 use Rattle.pod_sched.proofs.OpLemmas.{back_same}

@@ -1,7 +1,7 @@
 -- More places.
-use Rattle.buckets.specs.Order.{Order, prio_of, with_keys}
-use Rattle.chains.proofs.Pushes.{length-pushed}
-use Rattle.chains.specs.Lists.{Lists, items, with_limit}
+use Rattle.pod_sched.specs.Buckets.Order.{Order, prio_of, with_keys}
+use Rattle.lists.proofs.ChainPushes.{length-pushed}
+use Rattle.lists.specs.ChainLists.{Lists, items, with_limit}
 use Rattle.lwp_types.specs.CountLaws.{count-cons, count-push, one}
 use Rattle.lwp_types.specs.State.{times_in, without}
 use Rattle.pod_sched.proofs.Counts.{one_other, one_same, times-same}

@@ -5,7 +5,7 @@ use Rattle.lwp_types.specs.State.{passes}
 use Rattle.lwp_types.specs.Unblock.{is_timer_of, without_timer}
 use Rattle.lwp_types.specs.declared.rows.TimerRow.{TimerRow}
 use Rattle.pod_sched.specs.Clock.{IsTimed}
-use Rattle.timers.specs.Clock.{Clock, after_drop, after_pop, after_reserve, after_set, after_tick, first_due, without_found}
+use Rattle.pod_sched.specs.Timers.Clock.{Clock, after_drop, after_pop, after_reserve, after_set, after_tick, first_due, without_found}
 use Rattle.pod_sched.specs.Schedule as sched
 use Rattle.pod_sched.specs.Schedule.{Schedule, is_of, without_row}
 use Rattle.pod_sched.specs.declared.rows.Known.{Known}

@@ -4,7 +4,7 @@ use Rattle.pod_sched.specs.Schedule.{Schedule, is_of}
 use Rattle.pod_sched.specs.declared.rows.Known.{Known}
 use Rattle.std.specs.List.{count_by}
 use Rattle.std.specs.Prelude.{List, ℕ, ◌≤◌}
-use Rattle.timers.specs.Clock.{Clock}
+use Rattle.pod_sched.specs.Timers.Clock.{Clock}
 
 -- the turns with this clock are what a contract of `Sched` sees
 abbrev pub with_clock : Clock → Schedule → Schedule

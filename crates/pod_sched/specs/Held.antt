@@ -1,6 +1,6 @@
 -- The invariant of `Turns` over its fields. No public clause cites this module.
-use Rattle.buckets.specs.Order.{Order, prio_of}
-use Rattle.chains.specs.Lists.{Lists, items}
+use Rattle.pod_sched.specs.Buckets.Order.{Order, prio_of}
+use Rattle.lists.specs.ChainLists.{Lists, items}
 use Rattle.lwp_types.specs.State.{to_end, without}
 use Rattle.pod_sched.specs.Schedule.{IsOrdered, Schedule, is_of}
 use Rattle.pod_sched.specs.Slots.{AreSlots, IsReady, row_at}

@@ -1,7 +1,7 @@
 // A bucket: the threads of one priority, as the choice sees them.
 ghost use Rattle.std.specs.Prelude.{◌≡◌, ◌+◌};
 
-use buckets::Steps;
+use crate::buckets::Steps;
 use lwp_types::Tid;
 use std::marker::Model;
 use std::sync::ledger::Ledger;

@@ -5,12 +5,12 @@ ghost use Rattle.pod_sched.specs.Schedule.{IsOrdered, after_admit, after_block, 
 
 use crate::Bucket;
 use crate::turns::Turns;
-use buckets::Steps;
+use crate::buckets::Steps;
 use lwp_types::{NoMemory, Tid};
 use std::alloc::Global;
 use std::marker::Model;
 use std::sync::ledger::Ledger;
-use timers::Timers;
+use crate::timers::Timers;
 
 /// Who is known, who may run after whom, and who waits for the clock until when.
 pub struct Sched {

@@ -17,3 +17,4 @@ pub mod WalkLaws
 pub mod EndWalk
 pub mod LoopLaws
 pub mod Peopled
+pub mod StockLaws

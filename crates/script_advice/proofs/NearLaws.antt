@@ -1,7 +1,7 @@
 -- The first names of a list, one after the other.
 use Rattle.std.proofs.Common.{List, [], ap, arith, drop, length, refl, suc, take, zero, ℕ, ◌+◌, ◌<◌, ◌≤◌, ◌∙◌, ◌∷◌, ◌≡◌}
 use Rattle.std.specs.Prelude.{min}
-use Rattle.text_list.specs.Texts.{text_at}
+use Rattle.lists.specs.Texts.{text_at}
 
 name_there : (n : ℕ) (names : List (List ℕ)) (i : ℕ) → i < n → i < length names → drop i (take n names) ≡ text_at names i ∷ drop (suc i) (take n names)
 name_there zero names i few some = absurd (omega (arith, few))

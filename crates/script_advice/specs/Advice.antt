@@ -5,9 +5,9 @@ use Rattle.lwp_types.specs.Streams.{after_append}
 use Rattle.script_text.specs.declared.reason.Reason.{Reason}
 use Rattle.script_text.specs.declared.script.Script.{Script}
 use Rattle.script_text.specs.Spelling.{verdict}
-use Rattle.whole_streams.specs.Limited.{HasFront, IsReadUp, IsReadWithin}
-use Rattle.whole_streams.specs.Streams.{IsFaultless, IsFaulty, IsQuiet, Stream}
-use Rattle.whole_streams.specs.Writing.{AppendsPart}
+use Rattle.streams.specs.Limited.{HasFront, IsReadUp, IsReadWithin}
+use Rattle.streams.specs.Streams.{IsFaultless, IsFaulty, IsQuiet, Stream}
+use Rattle.streams.specs.Writing.{AppendsPart}
 use Rattle.script_advice.specs.Doubts.{are_some, doubts}
 use Rattle.script_advice.specs.Errors.{errors_at}
 use Rattle.script_advice.specs.Remarks.{Remark}
@@ -101,7 +101,7 @@ status_of end.NoMemory = 106
 -- what is said of an end on standard error
 abbrev pub fault_text : CheckEnd → List ℕ
 fault_text (end.Told g) = []
-fault_text end.Usage = codes "lwpcheck: usage: [--json]\n"
+fault_text end.Usage = codes "lwpcheck: usage: [--json | --print]\n"
 fault_text end.ReadFault = codes "lwpcheck: read fault\n"
 fault_text end.WriteFault = codes "lwpcheck: write fault\n"
 fault_text end.NoMemory = codes "lwpcheck: no memory\n"

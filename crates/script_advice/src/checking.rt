@@ -1,13 +1,13 @@
 // A script is read, and what is wrong with it is told.
 ghost use Rattle.std.specs.Prelude.{◌≡◌, map, string_bytes};
 ghost use Rattle.script_advice.specs.Advice.{CheckSays, EndSays, fault_text, format_of, grade_status, status_of};
-ghost use Rattle.whole_streams.specs.Streams.{sides};
+ghost use Rattle.streams.specs.Streams.{sides};
 
 use crate::advice::{Grade, add_report};
 use crate::texts::Format;
 use lwp_types::{Sink, Source};
 use std::alloc::Global;
-use whole_streams::{ReadFailure, read_up_to, write_all};
+use streams::{ReadFailure, read_up_to, write_all};
 
 // One byte more than a script may have: so much is read, and no more.
 const MOST: usize = 16_777_217;
@@ -53,7 +53,7 @@ pub fn fault_text(end: CheckEnd) -> &'static [u8]
 {
     match end {
         CheckEnd::Told(_) => &[],
-        CheckEnd::Usage => b"lwpcheck: usage: [--json]\n",
+        CheckEnd::Usage => b"lwpcheck: usage: [--json | --print]\n",
         CheckEnd::ReadFault => b"lwpcheck: read fault\n",
         CheckEnd::WriteFault => b"lwpcheck: write fault\n",
         CheckEnd::NoMemory => b"lwpcheck: no memory\n",

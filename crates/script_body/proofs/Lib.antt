@@ -1,2 +1,5 @@
 pub mod PlaceLemmas
 pub mod WalkLemmas
+pub mod PostLaws
+mod PlaceLaws
+mod ProgramLaws

@@ -3,7 +3,7 @@ use Rattle.lwp_types.specs.Names.{Names, id_at, null_id}
 use Rattle.lwp_types.specs.declared.call.Call.{Call}
 use Rattle.lwp_types.specs.declared.call.ExitCall.{ExitCall}
 use Rattle.script_text.specs.Script.{proc_number}
-use Rattle.text_list.specs.Texts.{text_at}
+use Rattle.lists.specs.Texts.{text_at}
 use Rattle.script_text.specs.declared.script.ExitStmt.{ExitStmt}
 use Rattle.script_text.specs.declared.script.Script.{Script}
 use Rattle.script_text.specs.declared.script.Stmt.{Stmt}
@@ -48,7 +48,7 @@ plain_call texts stmt.Senders = call.Senders
 plain_call texts stmt.Receivers = call.Receivers
 plain_call texts (stmt.MonCreate m) = call.MonCreate
 plain_call texts stmt.Monitors = call.Monitors
-plain_call texts stmt.Conditions = call.Conditions
+plain_call texts stmt.Conds = call.Conds
 plain_call texts (stmt.Handle pat func arg) = call.Handle pat func arg
 plain_call texts stmt.Unhandle = call.Unhandle
 plain_call texts (stmt.Raise p) = call.Raise p

@@ -4,3 +4,8 @@ pub mod Frame
 pub mod Naming
 pub mod ScriptBody
 pub mod NameLaws
+pub mod Posted
+pub mod Places
+pub mod Stocked
+pub mod Bodies
+pub mod BodyLaws

@@ -21,7 +21,7 @@ by_monitor name (answer.Monitor m) names = record { threads = refl; monitors = l
 by_monitor name _ names = same names
 
 by_condition : (name : ℕ) (a : Answer) (names : Names) → KeepsLengths names (with_condition_name_by name a names)
-by_condition name (answer.Condition c) names = record { threads = refl; monitors = refl; conditions = length-set _ _ _ }
+by_condition name (answer.Cond c) names = record { threads = refl; monitors = refl; conditions = length-set _ _ _ }
 by_condition name _ names = same names
 
 by_stmt : (a : Answer) (s : Stmt) (names : Names) → KeepsLengths names (after_name_by a s names)

@@ -18,7 +18,7 @@ with_monitor_name_by name _ names = names
 
 -- a condition's name is set, if one was made
 abbrev pub with_condition_name_by : ℕ → Answer → Names → Names
-with_condition_name_by name (answer.Condition c) names = with_condition_name name c names
+with_condition_name_by name (answer.Cond c) names = with_condition_name name c names
 with_condition_name_by name _ names = names
 
 -- the name of the last call's statement is set, if it has one

@@ -7,7 +7,7 @@ ghost use Rattle.script_body.specs.Calls.{who_id, exit_call_of, plain_call, lock
 use crate::numbers::proc_number;
 use lwp_types::{Call, Env, ExitCall, Flags, NULL_TID, Tid};
 use script_text::{ExitStmt, Script, Stmt, Who};
-use text_list::TextList;
+use lists::TextList;
 
 /// Makes it a return.
 pub fn set_return(call: &mut Call)
@@ -90,7 +90,7 @@ fn set_plain_call<'s>(texts: &'s TextList, stmt: &Stmt, call: &mut Call<'s>)
         Stmt::Receivers => *call = Call::Receivers,
         Stmt::MonCreate { .. } => *call = Call::MonCreate,
         Stmt::Monitors => *call = Call::Monitors,
-        Stmt::Conditions => *call = Call::Conditions,
+        Stmt::Conds => *call = Call::Conds,
         Stmt::Handle { pattern, func, arg } => *call = Call::Handle {
             pattern: *pattern,
             func: *func,

@@ -27,7 +27,7 @@ pub fn name_monitor(env: &mut Env, name: u32, got: &Answer)
 pub fn name_condition(env: &mut Env, name: u32, got: &Answer)
     ensures { env.new ≡ with_condition_name_by name got.now env.old }
 {
-    if let Answer::Condition(cond) = got {
+    if let Answer::Cond(cond) = got {
         env.set_cond(name, *cond);
     }
 }

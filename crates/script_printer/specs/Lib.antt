@@ -1,3 +1,4 @@
 pub mod Printing
 pub mod Laws
 pub mod Building
+pub mod Copying

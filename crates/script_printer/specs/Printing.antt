@@ -20,7 +20,7 @@ use Rattle.script_lines.specs.Phrase.{Phrase}
 use Rattle.script_lines.specs.Line.{blank}
 use Rattle.script_text.specs.Grammar.{spelling}
 use Rattle.script_printer.specs.Building.{number_line, proc_line, mon_line, cond_line, text_line, with_whom}
-use Rattle.text_list.specs.Texts.{text_at}
+use Rattle.lists.specs.Texts.{text_at}
 use Rattle.script_text.specs.Track.{name_at}
 
 -- ---- Statements.
@@ -62,7 +62,7 @@ plain_line names texts stmt.Threads = blank op.Threads
 plain_line names texts stmt.Senders = blank op.Senders
 plain_line names texts stmt.Receivers = blank op.Receivers
 plain_line names texts stmt.Monitors = blank op.Monitors
-plain_line names texts stmt.Conditions = blank op.Conditions
+plain_line names texts stmt.Conds = blank op.Conditions
 plain_line names texts stmt.Return = blank op.Return
 plain_line names texts (stmt.Handle pattern func arg) = record (blank op.Handle) {
   pattern = pattern;

@@ -16,7 +16,7 @@ use lwp_types::NoMemory;
 use script_lines::{Op, Phrase, Whom, blank};
 use script_text::{ExitStmt, NameList, Names, Native, NativeKind, Post, Proc, Script, Stmt, Who};
 use std::alloc::Global;
-use text_list::TextList;
+use lists::TextList;
 use trace_text::{add_number, add_text};
 
 // ---- Statements.
@@ -87,7 +87,7 @@ fn plain_line<'s>(names: &'s Names, texts: &'s TextList, stmt: Stmt) -> Phrase<'
         Stmt::Senders => blank(Op::Senders),
         Stmt::Receivers => blank(Op::Receivers),
         Stmt::Monitors => blank(Op::Monitors),
-        Stmt::Conditions => blank(Op::Conditions),
+        Stmt::Conds => blank(Op::Conditions),
         Stmt::Return => blank(Op::Return),
         Stmt::Handle { pattern, func, arg } => handle_line(pattern, func, arg),
         Stmt::Unhandle => blank(Op::Unhandle),

@@ -2,17 +2,17 @@
 use Rattle.event_gate.specs.Inlet.{AllTold, EachInlet, HasEvent, Intake, IsInletTold}
 use Rattle.event_gate.specs.Port.{lines_in_pass}
 use Rattle.event_gate.specs.Texts.{lines_from}
-use Rattle.live_clients.specs.Inlets.{fresh}
-use Rattle.live_clients.specs.Served.{AreServed, Gave, Hears}
+use Rattle.script_run.specs.Inlets.{fresh}
+use Rattle.script_run.specs.Served.{AreServed, Gave, Hears}
 use Rattle.script_run.proofs.LeftLaws.{taken-append}
 use Rattle.script_run.specs.Beside.{GoesBeside, IsFed, KnowAll}
-use Rattle.script_program.specs.Bodies.{bodies_of, body_next}
+use Rattle.script_body.specs.Bodies.{bodies_of, body_next}
 use Rattle.pod_runner.proofs.Rounds.{goes-same, ran-answer, ran-behind, ran-other, stream, tells-broke, tells-wrote}
-use Rattle.live_runner.specs.Live.{Answers, Draws, Gives, LivesOn, lines_of_takes, may_lose}
+use Rattle.pod_runner.specs.Live.{Answers, Draws, Gives, LivesOn, lines_of_takes, may_lose}
 use Rattle.pod_runner.specs.Run.{Broke, GoesOn, Played, Wrote, trace_before, trace_of}
-use Rattle.whole_streams.specs.Streams.{Stream}
-use Rattle.live_runner.specs.declared.live.Live.{Live}
-use Rattle.live_runner.specs.declared.live.Live.TheVariants as live
+use Rattle.streams.specs.Streams.{Stream}
+use Rattle.pod_runner.specs.declared.live.Live.{Live}
+use Rattle.pod_runner.specs.declared.live.Live.TheVariants as live
 use Rattle.pod_runner.specs.declared.phase.RunErr.{RunErr}
 use Rattle.pod_runner.specs.declared.phase.RunErr.TheVariants as fails
 use Rattle.pod_runner.specs.declared.session.Took.{Took}

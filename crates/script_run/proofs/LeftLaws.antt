@@ -9,7 +9,7 @@ use Rattle.lwp_types.specs.Choice.{choice}
 use Rattle.lwp_types.specs.declared.call.Line.{Line}
 use Rattle.script_run.specs.Clients.{texts_for}
 use Rattle.script_session.specs.History.{counts_from, pairs_of}
-use Rattle.live_runner.specs.Live.{is_take_of, lines_of_takes}
+use Rattle.pod_runner.specs.Live.{is_take_of, lines_of_takes}
 use Rattle.pod_runner.specs.Over.{can_take, events, halt_if, is_wanted, over}
 use Rattle.pod_runner.specs.declared.session.Took.{Took}
 use Rattle.trace_text.specs.declared.ends.Halt.{Halt}

@@ -4,25 +4,25 @@ use Rattle.event_gate.specs.Inlet.{HasEvent, Intake, IsInletTaken}
 use Rattle.event_gate.specs.Port.{of}
 use Rattle.event_gate.specs.Shelves.{event_of, full_shelves}
 use Rattle.event_gate.specs.Texts.{lines_from}
-use Rattle.live_clients.specs.Inlets.{fresh}
-use Rattle.live_clients.specs.Served.{HasLines, IsServed, lines_in_all, texts_of}
+use Rattle.script_run.specs.Inlets.{fresh}
+use Rattle.script_run.specs.Served.{HasLines, IsServed, lines_in_all, texts_of}
 use Rattle.script_run.proofs.BesideLaws.{fed-fresh}
 use Rattle.script_run.proofs.ClientLaws.{items_of}
 use Rattle.script_run.proofs.LeftLaws.{ArePosts, IsAway, IsGiven, counts-are, counts_by, history-of, left-past, left_lines, lines-for, none-left-of, over-with, wants-none}
 use Rattle.script_session.proofs.RunLaws.{Plays, before-is, lines-is, plays, session-is, setting-is}
-use Rattle.whole_streams.proofs.WriteLaws.{appended-append}
+use Rattle.streams.proofs.WriteLaws.{appended-append}
 use Rattle.script_session.proofs.SaidLaws.{IsRanEnd}
 use Rattle.script_run.specs.Beside.{AreBack, GoesBeside, IsFed, KnowAll}
-use Rattle.script_program.specs.Bodies.{bodies_of, body_next}
+use Rattle.script_body.specs.Bodies.{bodies_of, body_next}
 use Rattle.script_run.specs.Clients.{count_taken, counts_of, texts_for, texts_from}
 use Rattle.script_session.specs.History.{counts_from}
 use Rattle.script_run.specs.Live.{EndsSo, IsAllPosted, IsLiveBroken, IsLiveStopped, IsLived, IsSoFar, LiveSays, PostsSay, bytes_to_end}
 use Rattle.script_session.specs.Outcome.{end_of}
 use Rattle.script_session.specs.SoFar.{AreDue, lines_after, lines_before, opening_run, session_at}
-use Rattle.whole_streams.specs.Streams.{Stream}
-use Rattle.whole_streams.specs.Writing.{AppendsPart}
-use Rattle.script_gate.specs.Posted.{IsPosted}
-use Rattle.script_program.specs.declared.body.ThreadBody.{ThreadBody}
+use Rattle.streams.specs.Streams.{Stream}
+use Rattle.streams.specs.Writing.{AppendsPart}
+use Rattle.script_body.specs.Posted.{IsPosted}
+use Rattle.script_body.specs.declared.thread_body.ThreadBody.{ThreadBody}
 use Rattle.script_session.specs.declared.session.Session.{Session}
 use Rattle.script_session.specs.declared.session.SessionEnd.{SessionEnd}
 use Rattle.script_session.specs.declared.session.SessionEnd.TheVariants as end
@@ -31,7 +31,7 @@ use Rattle.lwp_types.specs.Streams.{after_append}
 use Rattle.lwp_types.specs.declared.call.Line.{Line}
 use Rattle.lwp_types.specs.declared.text.Text.{Text}
 use Rattle.pod_runner.specs.Due.{IsDefined}
-use Rattle.live_runner.specs.Live.{Halts, NoneComes, lines_of_takes, may_lose}
+use Rattle.pod_runner.specs.Live.{Halts, NoneComes, lines_of_takes, may_lose}
 use Rattle.pod_runner.specs.Over.{is_wanted, over}
 use Rattle.pod_runner.specs.Run as run
 use Rattle.pod_runner.specs.Run.{AppendsCut, Played}

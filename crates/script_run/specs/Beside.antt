@@ -3,12 +3,12 @@ use Rattle.event_gate.specs.Inlet.{HasEvent, Intake}
 use Rattle.event_gate.specs.Port.{lines_in_pass}
 use Rattle.event_gate.specs.Shelves.{event_of}
 use Rattle.event_gate.specs.Texts.{lines_from}
-use Rattle.live_clients.specs.Served.{AreServed, texts_of}
-use Rattle.script_program.specs.Bodies.{bodies_of, body_next}
+use Rattle.script_run.specs.Served.{AreServed, texts_of}
+use Rattle.script_body.specs.Bodies.{bodies_of, body_next}
 use Rattle.pod_runner.specs.Does.{RunsOn}
-use Rattle.live_runner.specs.Live.{lines_of_takes, may_lose}
+use Rattle.pod_runner.specs.Live.{lines_of_takes, may_lose}
 use Rattle.pod_runner.specs.Run.{Played}
-use Rattle.whole_streams.specs.Streams.{Stream}
+use Rattle.streams.specs.Streams.{Stream}
 use Rattle.pod_runner.specs.declared.phase.RunErr.{RunErr}
 use Rattle.pod_runner.specs.declared.session.Took.{Took}
 use Rattle.script_text.specs.Script.{proc_names}

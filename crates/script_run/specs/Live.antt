@@ -4,7 +4,7 @@ use Rattle.script_session.specs.History.{counts_from}
 use Rattle.script_session.specs.Outcome.{end_of, status_of}
 use Rattle.script_session.specs.SoFar.{AreDue, IsHistory, lines_after, lines_before, session_at}
 use Rattle.script_session.specs.Said.{IsOf, IsUnread, Tells}
-use Rattle.whole_streams.specs.Streams.{IsFaultless, IsFaulty, Stream}
+use Rattle.streams.specs.Streams.{IsFaultless, IsFaulty, Stream}
 use Rattle.script_session.specs.declared.session.Session.{Session}
 use Rattle.script_session.specs.declared.session.SessionEnd.{SessionEnd}
 use Rattle.script_session.specs.declared.session.SessionEnd.TheVariants as end

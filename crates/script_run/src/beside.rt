@@ -1,19 +1,19 @@
 // A run goes on beside the threads that post to it.
 ghost use Rattle.event_gate.specs.Inlet.{EachInlet};
-ghost use Rattle.live_clients.specs.Served.{Gave, lines_in_all};
-ghost use Rattle.live_clients.specs.Ties.{IsClosed, IsSameOutside, IsTied, all_texts, events_of, intakes};
+ghost use Rattle.script_run.specs.Served.{Gave, lines_in_all};
+ghost use Rattle.script_run.specs.Ties.{IsClosed, IsSameOutside, IsTied, all_texts, events_of, intakes};
 ghost use Rattle.script_run.specs.Beside.{AreBack, GoesBeside, KnowAll};
-ghost use Rattle.script_program.specs.Bodies.{bodies_of, body_next};
-ghost use Rattle.live_runner.specs.Live.{Answers, Halts};
+ghost use Rattle.script_body.specs.Bodies.{bodies_of, body_next};
+ghost use Rattle.pod_runner.specs.Live.{Answers, Halts};
 ghost use Rattle.std.specs.Prelude.{IfOk, OnOk, Some, false, ◌≡◌};
-ghost use Rattle.whole_streams.specs.Streams.{sides};
+ghost use Rattle.streams.specs.Streams.{sides};
 
 use event_gate::Bell;
-use live_clients::{AllPosted, Outside, closed_are_served, draws_keep_ties};
-use live_runner::{Live, run_live};
+use crate::{AllPosted, Outside, closed_are_served, draws_keep_ties};
+use pod_runner::{Live, run_live};
 use lwp_types::Sink;
 use pod_runner::{Run, RunErr};
-use script_program::{ScriptProgram, ThreadBody};
+use script_body::{ScriptProgram, ThreadBody};
 use std::sync::Wait;
 use std::thread::Threads;
 use trace_text::Halt;

@@ -5,7 +5,7 @@ ghost use Rattle.std.specs.Prelude.{All, IfOk, length, map, ◌≡◌, ◌≤◌
 
 use lwp_types::{NoMemory, Text};
 use pod_runner::Run;
-use script_program::{ScriptProgram, ThreadBody};
+use script_body::{ScriptProgram, ThreadBody};
 use script_text::Script;
 use std::alloc::Global;
 

@@ -7,14 +7,31 @@
 //! posted among them. A session that has come to its own end has all lines of the script posted, and hands on that they are
 //! (`LiveSession`).
 //!
-//! The crate stands on the readings and ends of `script_session`, the threads and inlets of `live_clients`, and the live runs of
-//! `live_runner`.
+//! `Outside` is the outside of a pod that runs: one thread for each client, which posts its lines, and one inlet for each event that
+//! has a client. The inlet is a lane where the event has exactly one client, and else a port. Anyone who runs the pod takes from the
+//! inlets in any order; what ties them to the threads is then kept (`specs/Ties.antt`). `Outside::close` joins the threads and takes
+//! in their passes, and from then on it is known of each client that the lines taken are the first of those it posted, in order, and
+//! which are left (`specs/Served.antt`). Where a thread can't be started, its client's lines are posted before `Outside::start`
+//! returns. A thread runs a `Job`, of which its start and its end know nothing but what may come of it.
+//!
+//! The crate stands on the readings and ends of `script_session`, the live runs of `pod_runner`, and on the ports of `event_gate` and
+//! the lanes of `lanes`.
 #![tactic(auto)]
 
 mod beside;
 mod clients;
 mod gates;
+mod inlet;
+mod job;
+mod laws;
 mod live;
+mod opening;
+mod outside;
+mod poster;
 
 pub use gates::no_gates;
+pub use inlet::AnyInlet;
+pub use job::{Job, join, start};
+pub use laws::{closed_are_served, draws_keep_ties};
 pub use live::{LiveSession, run_main};
+pub use outside::{AllPosted, Outside};

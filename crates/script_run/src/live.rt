@@ -1,31 +1,31 @@
 // A script is read, and run while threads post the lines of its clients.
-ghost use Rattle.live_clients.specs.Inlets.{fresh};
-ghost use Rattle.live_clients.specs.Ties.{IsTied, all_texts, events_of, intakes};
+ghost use Rattle.script_run.specs.Inlets.{fresh};
+ghost use Rattle.script_run.specs.Ties.{IsTied, all_texts, events_of, intakes};
 ghost use Rattle.script_run.specs.Clients.{texts_from};
 ghost use Rattle.script_run.specs.Live.{IsAllPosted, IsLive, IsLiveBroken, LivePosts, IsLivePlayed, IsLiveStopped, IsLived, PostsSay};
 ghost use Rattle.script_session.specs.SoFar.{opening_run};
-ghost use Rattle.script_gate.specs.Posted.{IsPosted};
+ghost use Rattle.script_body.specs.Posted.{IsPosted};
 ghost use Rattle.lwp_types.specs.Streams.{Rose};
 ghost use Rattle.script_text.specs.Limits.{IsWithinLimits};
 ghost use Rattle.script_text.specs.Script.{lines_posted};
 ghost use Rattle.std.specs.Prelude.{All, IfOk, IsErrOf, None, OnOk, length, map, ◌≡◌, ◌≤◌};
 ghost use denote.Param.Send.{IsSync};
-ghost use Rattle.whole_streams.specs.Streams.{sides};
+ghost use Rattle.streams.specs.Streams.{sides};
 
 use crate::beside::{WholeRun, go_to_end};
 use crate::clients::{client_texts, counts_behind};
 use event_gate::{Bell, PostGate};
-use live_clients::{AllPosted, Outside};
+use crate::{AllPosted, Outside};
 use lwp_types::{Sink, Source, Text};
 use pod_runner::{Run, RunErr};
-use script_program::{ScriptProgram, ThreadBody};
+use script_body::{ScriptProgram, ThreadBody};
 use script_session::{Session, SessionEnd, end_of, read_whole, session_of, start};
 use script_text::Script;
 use std::alloc::Global;
 use std::sync::Wait;
 use std::thread::{self, Scope, Threads};
 use trace_text::end_lines;
-use whole_streams::write_all;
+use streams::write_all;
 
 /// A session of a script whose lines are posted by threads, and behind its own end, be it ended, stuck or spent, that these have posted
 /// all of them.

@@ -1,6 +1,6 @@
 -- A run of a script: what it plays, and what it has told.
-use Rattle.script_program.specs.Bodies.{bodies_of, body_next}
-use Rattle.script_program.specs.declared.body.ThreadBody.{ThreadBody}
+use Rattle.script_body.specs.Bodies.{bodies_of, body_next}
+use Rattle.script_body.specs.declared.thread_body.ThreadBody.{ThreadBody}
 use Rattle.script_session.specs.SoFar.{lines_after, lines_before, opening_names, opening_run, session_at, setting_of}
 use Rattle.lwp_types.specs.Names.{Names}
 use Rattle.lwp_types.specs.Streams.{after_append}

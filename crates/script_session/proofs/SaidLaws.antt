@@ -1,7 +1,7 @@
 -- From a script that was read, or wasn't, to what a session says.
 use Rattle.script_session.specs.Outcome.{HasRead, outcome_of, status_of}
 use Rattle.script_session.specs.Said.{EndsBy, Holds, IsNotRead, IsOf, IsRead, ReadSays, Refuses, Says}
-use Rattle.whole_streams.specs.Streams.{IsQuiet, Stream}
+use Rattle.streams.specs.Streams.{IsQuiet, Stream}
 use Rattle.script_session.specs.Reading.{IsReadOut, IsReadPart, IsReadUp}
 use Rattle.script_session.specs.declared.session.Session.{Session}
 use Rattle.script_session.specs.declared.session.SessionEnd.{SessionEnd}

@@ -6,8 +6,8 @@ use Rattle.std.proofs.lemmas.List.{drop_all, take-append-le}
 use Rattle.lwp_types.specs.Streams.{Reads}
 use Rattle.script_session.specs.Outcome.{HasRead}
 use Rattle.script_session.specs.Reading.{IsReadPart, IsReadUp, behind}
-use Rattle.whole_streams.proofs.ReadLaws.{read_end}
-use Rattle.whole_streams.specs.Reading.{ReadSoFar}
+use Rattle.streams.proofs.ReadLaws.{read_end}
+use Rattle.streams.specs.Reading.{ReadSoFar}
 
 -- all of a list that is no longer
 take-all : (n : ℕ) (xs : List ℕ) → length xs ≤ n → take n xs ≡ xs

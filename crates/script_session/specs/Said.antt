@@ -1,12 +1,12 @@
 -- What a session says of the source that it read, of the sink that it wrote to, and of the script.
 use Rattle.script_session.specs.Outcome.{status_of}
 use Rattle.script_session.specs.History.{taken_of}
-use Rattle.script_gate.specs.Posted.{IsPosted}
+use Rattle.script_body.specs.Posted.{IsPosted}
 use Rattle.script_session.specs.Reading.{IsReadOut, IsReadPart, IsReadUp}
 use Rattle.script_session.specs.declared.session.Session.{Session}
 use Rattle.script_session.specs.declared.session.SessionEnd.{SessionEnd}
 use Rattle.script_session.specs.declared.session.SessionEnd.TheVariants as end
-use Rattle.whole_streams.specs.Streams.{IsFaultless, IsFaulty, IsQuiet, Stream}
+use Rattle.streams.specs.Streams.{IsFaultless, IsFaulty, IsQuiet, Stream}
 use Rattle.script_text.specs.Grammar.{Spells}
 use Rattle.script_text.specs.Spelling.{verdict}
 use Rattle.script_text.specs.declared.reason.Reason.{Reason}

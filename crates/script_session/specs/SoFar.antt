@@ -1,6 +1,6 @@
 -- A session of a script, and a run of it before its first call.
-use Rattle.script_program.specs.Bodies.{bodies_of, body_next}
-use Rattle.script_program.specs.declared.body.ThreadBody.{ThreadBody}
+use Rattle.script_body.specs.Bodies.{bodies_of, body_next}
+use Rattle.script_body.specs.declared.thread_body.ThreadBody.{ThreadBody}
 use Rattle.lwp_types.specs.Names.{null_names, Names}
 use Rattle.pod_runner.specs.Session.{Setting}
 use Rattle.pod_runner.specs.declared.session.Took.{Took}

@@ -5,16 +5,16 @@ ghost use Rattle.script_text.specs.Script.{params_of};
 ghost use Rattle.script_session.specs.Said.{IsNotRead, IsRead};
 ghost use Rattle.script_text.specs.Limits.{IsWithinLimits};
 ghost use Rattle.std.specs.Prelude.{◌≡◌, IfErr, IfOk};
-ghost use Rattle.whole_streams.specs.Streams.{sides};
+ghost use Rattle.streams.specs.Streams.{sides};
 
 use crate::session::{Session, SessionEnd};
 use crate::source::read_all;
 use lwp_types::{Env, NoMemory, PodParams, Source};
 use pod_runner::Run;
-use script_program::{ScriptProgram, ThreadBody};
+use script_body::{ScriptProgram, ThreadBody};
 use script_text::{ReadErr, Script, ScriptReader};
 use std::alloc::Global;
-use whole_streams::ReadFailure;
+use streams::ReadFailure;
 
 /// The script that a source holds, which is read to its end; or how the session ends without one. Of what is read only a buffer and
 /// the reader are kept.

@@ -7,7 +7,7 @@ ghost use Rattle.script_session.specs.Reading.{IsReadPart, IsReadUp};
 
 use lwp_types::Source;
 use script_text::ScriptReader;
-use whole_streams::ReadFailure;
+use streams::ReadFailure;
 
 /// The most bytes that a script has.
 pub const SCRIPT_MAX: usize = 16_777_216;

@@ -11,3 +11,5 @@ pub mod LimitLaws
 pub mod KeptLaws
 pub mod PieceLaws
 pub mod FirstBadLaws
+pub mod PackedLemmas
+pub mod WordIndexLemmas

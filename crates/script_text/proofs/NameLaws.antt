@@ -5,7 +5,7 @@ use Rattle.std.specs.Str.{bytes_eq}
 use Rattle.std.specs.Cmp.Lexicographic.{bytes_decides, nat_list_eq_equiv}
 use Rattle.script_text.specs.Parts.{IsIndexed, place_in}
 use Rattle.script_text.specs.Meaning.{contains_name, is_some_text, place, enter}
-use Rattle.word_index.specs.Index.{Numbered, Puts, number_of}
+use Rattle.script_text.specs.WordIndex.{Numbered, Puts, number_of}
 
 -- ---- A name that is none of these.
 

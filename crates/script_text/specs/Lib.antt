@@ -9,3 +9,5 @@ pub mod Track
 pub mod Kept
 pub mod Pieces
 pub mod Laws
+pub mod PackedWords
+pub mod WordIndex

@@ -1,7 +1,7 @@
 -- The numbers of names.
 use Rattle.std.specs.Prelude.{ℕ, suc, ◌≡◌, List, [], ◌∷◌, Option, None, Some, if◌then◌else◌, option_map}
 use Rattle.std.specs.Str.{bytes_eq}
-use Rattle.word_index.specs.Index.{Numbered, number_of}
+use Rattle.script_text.specs.WordIndex.{Numbered, number_of}
 
 -- a name's number, if it is one of these
 abbrev pub place_in : List (List ℕ) → List ℕ → Option ℕ

@@ -5,7 +5,7 @@ use Rattle.script_text.specs.declared.script.Post.{Post}
 use Rattle.script_text.specs.declared.script.Proc.{Proc}
 use Rattle.script_text.specs.declared.script.Script.{Script}
 use Rattle.script_text.specs.declared.script.Stmt.{Stmt}
-use Rattle.text_list.specs.Texts.{text_at}
+use Rattle.lists.specs.Texts.{text_at}
 use Rattle.std.specs.Prelude.{List, None, Option, Some, [], if◌then◌else◌, length, map, slice_get, slice_index_or, suc, ℕ, ◌++◌, ◌==◌, ◌∷◌}
 
 -- a line that a client posts, with its text

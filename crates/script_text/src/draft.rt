@@ -9,7 +9,7 @@ use crate::{ExitStmt, Names, Native, NativeKind, Post, Proc, Script, Stmt, Who};
 use lwp_types::{NoMemory, Sequence};
 use script_lines::{Op, Phrase, Role, Whom};
 use std::alloc::Global;
-use text_list::TextList;
+use lists::TextList;
 
 /// The script of the lines so far, the procedure to which the next statement goes, and how many lines each client has posted.
 pub struct Draft {
@@ -154,7 +154,7 @@ fn plain_statement(phrase: &Phrase<'_>) -> Option<Stmt>
         Op::Senders => Some(Stmt::Senders),
         Op::Receivers => Some(Stmt::Receivers),
         Op::Monitors => Some(Stmt::Monitors),
-        Op::Conditions => Some(Stmt::Conditions),
+        Op::Conditions => Some(Stmt::Conds),
         Op::Return => Some(Stmt::Return),
         Op::Handle => Some(Stmt::Handle {
             pattern: phrase.pattern,

@@ -5,8 +5,11 @@
 //! with the first reason that fits. The reader answers the verdict, so it reads a script exactly where one is spelt. A text
 //! spells one script at most, and a pod can be made for each.
 //!
-//! The crate stands on the words of `lwp_types`, on `text_list` for texts in order, on `script_lines` for single lines, on the search for a byte of `memchr`, and on
-//! `word_index`, by which a name is found in the order of names. `script_printer` writes a script back.
+//! Names are numbered by a `WordIndex`, which finds a word in the order of the words and not by a hash, so nobody can choose words
+//! that are slow to find.
+//!
+//! The crate stands on the words of `lwp_types`, on `lists` for texts in order, on `script_lines` for single lines, and on the
+//! search for a byte of `memchr`. `script_printer` writes a script back.
 #![tactic(auto)]
 
 mod counts;
@@ -14,12 +17,15 @@ mod draft;
 mod laws;
 mod lines;
 mod names;
+mod packed_words;
 mod pieces;
 mod reader;
 mod reading;
 mod reason;
 mod script;
 mod stage;
+mod word_digits;
+mod word_index;
 
 pub use laws::{first_bad_is_blamed, one_script, spelt_is_verdict};
 pub use names::NameList;
@@ -28,3 +34,4 @@ pub use reading::read_script;
 pub use reason::{ReadErr, Reason};
 pub use script::{ExitStmt, Names, Native, NativeKind, Post, Proc, Script, Stmt, Who};
 pub use script_lines::{Test, number_at};
+pub use word_index::WordIndex;

@@ -4,8 +4,8 @@ ghost use Rattle.std.specs.Prelude.{◌≡◌, ◌≤◌, IfOk, OnErr};
 use lwp_types::{NoMemory, is_text};
 use std::alloc::Global;
 use std::marker::Model;
-use text_list::TextList;
-use word_index::WordIndex;
+use lists::TextList;
+use crate::WordIndex;
 
 /// Names in the order in which they first appear, seen as their list. They lie in one piece of memory, each at its own length. A
 /// name is found in the order of names, and not by a hash.
@@ -48,7 +48,7 @@ impl NameList {
     ghost use Rattle.std.specs.Prelude.{◌≡◌, ◌<◌, ◌≤◌, [], IfOk, IsTrue, OnOk, OnErr, length, false};
     ghost use Rattle.lwp_types.specs.TextFields.{is_text};
     ghost use Rattle.script_text.specs.Meaning.{contains_name, enter, place, place_of};
-    ghost use Rattle.text_list.specs.Texts.{text_at};
+    ghost use Rattle.lists.specs.Texts.{text_at};
 
     /// No names.
     pub fn new(alloc: Global) -> NameList

@@ -2,7 +2,7 @@
 use crate::names::NameList;
 use lwp_types::{Flags, Func, Mode, Pattern, Sequence};
 use script_lines::Test;
-use text_list::TextList;
+use lists::TextList;
 
 /// Whom a statement speaks of: a name, the thread itself, thread 0, the sender of the letter received last, nobody.
 #[derive(Clone, Copy)]
@@ -136,7 +136,7 @@ pub enum Stmt {
     CvWaiters {
         cond: u32,
     },
-    Conditions,
+    Conds,
     CallProc {
         proc: u32,
     },

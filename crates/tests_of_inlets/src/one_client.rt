@@ -27,7 +27,7 @@ fn early<'s, R: Wait>(
 type Said = (u8, bool, u32, u32, u32);
 
 fn asked<'s, I: Inlet<'s>, R: Wait>(rt: &R, inlet: &mut I) -> Said {
-    let (event, told) = (inlet.event(), inlet.is_told());
+    let (event, told) = (inlet.event(), inlet.told());
     let (left, other) = (inlet.left(3), inlet.left(4));
     let seq = inlet.take(rt).map_or(9, |line| line.seq);
     (event, told, left, other, seq)

@@ -2,7 +2,7 @@ ghost use Rattle.std.specs.Prelude.{◌≡◌, ◌+◌, ◌≤◌, [], All, IfOk
 ghost use denote.Param.Send.{IsSync};
 
 use event_gate::{Bell, Gate, ListGate, NoGate, PostEnd, Poster, Taker, open_port, post_all};
-use live_clients::{Job, join, start};
+use script_run::{Job, join, start};
 use lwp_types::{Line, NoMemory, Text};
 use std::alloc::Global;
 use std::snapshot::Snapshot;
@@ -193,7 +193,7 @@ fn take_beside<'s, E, R: Threads + Wait + Sync>(
         left = left.wrapping_add(taker.left(client));
     }
     take_some(rt, &mut taker, bell, left, &mut tally);
-    let done = taker.is_told() && taker.take(rt).is_none();
+    let done = taker.told() && taker.take(rt).is_none();
     Ok(Harvest {
         tally,
         whole,
@@ -252,7 +252,7 @@ fn take_in_each<'s, R: Wait>(
     for poster in posters {
         let PostEnd { pass, all: _ } = post_all(rt, poster, &mut NoGate, texts, bell);
         taker.take_in(pass);
-        out = out.wrapping_add(u32::from(!taker.is_told()));
+        out = out.wrapping_add(u32::from(!taker.told()));
     }
     out
 }

@@ -1,11 +1,11 @@
-ghost use Rattle.live_clients.specs.Served.{Gave};
-ghost use Rattle.live_clients.specs.Ties.{IsTied, any_intake};
+ghost use Rattle.script_run.specs.Served.{Gave};
+ghost use Rattle.script_run.specs.Ties.{IsTied, any_intake};
 ghost use Rattle.std.specs.Prelude.{All, IfOk, OnOk, length, ◌+◌, ◌%◌, ◌≡◌, ◌≤◌};
 ghost use denote.Param.Send.{IsSync};
 
 use crossbeam_utils::atomic::AtomicCell;
 use event_gate::{Bell, Inlet, PostGate};
-use live_clients::{AllPosted, AnyInlet, Outside, draws_keep_ties};
+use script_run::{AllPosted, AnyInlet, Outside, draws_keep_ties};
 use lwp_types::{NoMemory, Text};
 use std::alloc::Global;
 use std::sync::Wait;
@@ -94,7 +94,7 @@ fn drain<'s, R: Wait>(rt: &R, outside: &mut Outside<'s>, tally: &mut Tally)
 
 // What an inlet says in the end: its event, and how many lines of its clients are left; 9 where a pass is missing.
 fn last_word(inlet: &AnyInlet) -> (u8, u32) {
-    if !inlet.is_told() {
+    if !inlet.told() {
         return (inlet.event(), 9);
     }
     let mut left = 0u32;

@@ -1,9 +1,9 @@
 ghost use Rattle.std.specs.Prelude.{◌≡◌, false};
-ghost use Rattle.messages.specs.MessageTable.{no_messages};
+ghost use Rattle.rendezvous.specs.MessageTable.{no_messages};
 
 use crate::lists::holds;
 use lwp_types::{Letter, LwpErr, Text, Tid};
-use messages::Messages;
+use rendezvous::Mail;
 
 const A: Tid = Tid { number: 0 };
 
@@ -28,14 +28,14 @@ fn letter<'s>(from: Tid, to: Tid, text: Text<'s>) -> Letter<'s>
 }
 
 // The letter of a named sender is received, or of any.
-fn takes(messages: &mut Messages, from: Option<Tid>, wanted: Tid) -> bool {
+fn takes(messages: &mut Mail, from: Option<Tid>, wanted: Tid) -> bool {
     let Some(letter) = messages.take_letter(D, from) else {
         return false;
     };
     letter.from == wanted && letter.received && letter.text.equals(b"hello")
 }
 
-fn is_received(messages: &mut Messages) -> bool {
+fn is_received(messages: &mut Mail) -> bool {
     holds(messages.senders(D), &[2, 0, 1])
         && takes(messages, Some(A), A)
         && takes(messages, None, C)
@@ -49,7 +49,7 @@ const REPLIES: [(Tid, usize, Option<LwpErr>); 4] = [
     (A, 4, Some(LwpErr::NoWait)),
 ];
 
-fn replies(messages: &mut Messages) -> bool {
+fn replies(messages: &mut Mail) -> bool {
     for (from, len, refusal) in REPLIES {
         if messages.reply(D, from, len).err() != refusal {
             return false;
@@ -59,7 +59,7 @@ fn replies(messages: &mut Messages) -> bool {
 }
 
 // They go with their senders and receivers.
-fn forgets(messages: &mut Messages) -> bool {
+fn forgets(messages: &mut Mail) -> bool {
     messages.forget(D);
     messages.pop_to(C).is_none()
         && messages.pop_to(D) == Some(C)
@@ -68,7 +68,7 @@ fn forgets(messages: &mut Messages) -> bool {
 }
 
 // Three letters are received in the order of sending, and replied to.
-fn does_all(messages: &mut Messages) -> bool
+fn does_all(messages: &mut Mail) -> bool
     requires { messages.old ≡ no_messages }
 {
     let Ok(()) = messages.reserve(3) else {
@@ -85,6 +85,6 @@ fn does_all(messages: &mut Messages) -> bool
 
 #[test]
 fn letters_are_received_in_send_order_and_replied_to(rt: HostRuntime) {
-    let mut messages = Messages::new(rt.alloc());
+    let mut messages = Mail::new(rt.alloc());
     assert!(rt; does_all(&mut messages));
 }

@@ -1,7 +1,7 @@
 ghost use Rattle.std.specs.Prelude.{◌≡◌};
-ghost use Rattle.chains.specs.Lists.{empty_lists};
+ghost use Rattle.lists.specs.ChainLists.{empty_lists};
 
-use chains::Chains;
+use lists::Chains;
 use std::alloc::Global;
 
 // Keys join and leave; more keys leave the lists as they are.

@@ -1,7 +1,7 @@
 ghost use Rattle.std.specs.Prelude.{◌≡◌, ◌<◌};
-ghost use Rattle.buckets.specs.Order.{empty_order};
+ghost use Rattle.pod_sched.specs.Buckets.Order.{empty_order};
 
-use buckets::{Buckets, Steps, first_of_last};
+use pod_sched::{Buckets, Steps, first_of_last};
 use std::alloc::Global;
 use std::marker::Brand;
 use std::sync::ledger::{Blank, Ledger};

@@ -1,4 +1,4 @@
-use exceptions::ExceptionStack;
+use exc_stack::ExcStack;
 use lwp_types::{ExitCall, ExitMark, Func, LwpErr, Mark, Pattern};
 use std::alloc::Global;
 
@@ -26,7 +26,7 @@ const MARKS: [Mark<'static>; 5] = [
 ];
 
 // The call by which such a mark is set.
-fn sets<'s>(stack: &mut ExceptionStack<'s>, mark: &Mark<'s>) -> bool {
+fn sets<'s>(stack: &mut ExcStack<'s>, mark: &Mark<'s>) -> bool {
     if stack.marks() == 0 {
         return false;
     }
@@ -38,7 +38,7 @@ fn sets<'s>(stack: &mut ExceptionStack<'s>, mark: &Mark<'s>) -> bool {
     set == Ok(true)
 }
 
-fn sets_all(stack: &mut ExceptionStack) -> bool {
+fn sets_all(stack: &mut ExcStack) -> bool {
     for mark in &MARKS {
         if !sets(stack, mark) {
             return false;
@@ -48,7 +48,7 @@ fn sets_all(stack: &mut ExceptionStack) -> bool {
 }
 
 // Why a handler isn't taken back.
-fn refusal(stack: &mut ExceptionStack) -> Option<LwpErr> {
+fn refusal(stack: &mut ExcStack) -> Option<LwpErr> {
     if stack.marks() == 0 {
         return Some(LwpErr::NonExist);
     }
@@ -56,7 +56,7 @@ fn refusal(stack: &mut ExceptionStack) -> Option<LwpErr> {
 }
 
 // The depth, the number and the argument of the handler that catches an exception.
-fn found(stack: &ExceptionStack, exception: u32) -> (u32, u32, u32) {
+fn found(stack: &ExcStack, exception: u32) -> (u32, u32, u32) {
     if stack.marks() == 0 {
         return (0, 0, 0);
     }
@@ -67,7 +67,7 @@ fn found(stack: &ExceptionStack, exception: u32) -> (u32, u32, u32) {
 }
 
 // Of the topmost frame, the handler that catches the exception goes, and those above it.
-fn settles(stack: &mut ExceptionStack, exception: u32) -> bool {
+fn settles(stack: &mut ExcStack, exception: u32) -> bool {
     if stack.marks() == 0 {
         return false;
     }
@@ -81,7 +81,7 @@ fn settles(stack: &mut ExceptionStack, exception: u32) -> bool {
     true
 }
 
-fn unwinds(stack: &mut ExceptionStack) -> bool {
+fn unwinds(stack: &mut ExcStack) -> bool {
     if stack.frames() == 0 {
         return false;
     }
@@ -92,7 +92,7 @@ fn unwinds(stack: &mut ExceptionStack) -> bool {
 }
 
 // The second frame is settled and left.
-fn does_all(stack: &mut ExceptionStack) -> bool {
+fn does_all(stack: &mut ExcStack) -> bool {
     sets_all(stack)
         && refusal(stack).is_none()
         && found(stack, 7) == (2, 1, 6)
@@ -105,7 +105,7 @@ fn does_all(stack: &mut ExceptionStack) -> bool {
 }
 
 fn is_done(alloc: Global) -> bool {
-    let Ok(mut stack) = ExceptionStack::new(alloc) else {
+    let Ok(mut stack) = ExcStack::new(alloc) else {
         return false;
     };
     does_all(&mut stack)

@@ -1,9 +1,9 @@
 ghost use Rattle.std.specs.Prelude.{◌≡◌};
-ghost use Rattle.waiting_list.specs.Line.{empty_line};
+ghost use Rattle.lists.specs.WaitingList.Line.{empty_line};
 
 use crate::lists::holds;
 use lwp_types::Tid;
-use waiting_list::{Waiting, WaitingList};
+use lists::{Waiting, WaitingList};
 
 const A: Tid = Tid { number: 1 };
 

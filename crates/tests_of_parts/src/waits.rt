@@ -2,7 +2,7 @@ ghost use Rattle.std.specs.Prelude.{◌≡◌};
 ghost use Rattle.conditions.specs.ConditionTable.{empty_table};
 
 use crate::lists::holds;
-use conditions::{Conditions, WaitRec};
+use conditions::{Conds, WaitRec};
 use lwp_types::{Cid, Mid, Tid};
 
 const MON: Mid = Mid { number: 7 };
@@ -32,7 +32,7 @@ fn is_of(wait: Option<WaitRec>, tid: Tid) -> bool {
     matches!(wait, Some(wait) if wait.tid == tid)
 }
 
-fn knows(conds: &Conditions) -> bool {
+fn knows(conds: &Conds) -> bool {
     conds.waited(FIRST)
         && conds.waited_of(MON)
         && holds(conds.waiters(FIRST), &[1, 2, 3])
@@ -40,7 +40,7 @@ fn knows(conds: &Conditions) -> bool {
 }
 
 // The greatest priority is notified; then one thread is woken, and the last of all.
-fn wakes(conds: &mut Conditions) -> bool {
+fn wakes(conds: &mut Conds) -> bool {
     let woken = is_of(conds.notify(FIRST), B)
         && is_of(conds.send_to(FIRST, C), C)
         && conds.send_to(FIRST, C).is_none();
@@ -49,7 +49,7 @@ fn wakes(conds: &mut Conditions) -> bool {
 }
 
 // A condition ends, and the monitor takes the other with it.
-fn ends(conds: &mut Conditions) -> bool {
+fn ends(conds: &mut Conds) -> bool {
     if conds.monitor_of(SECOND) != Some(MON) || conds.waited(SECOND) {
         return false;
     }
@@ -62,7 +62,7 @@ fn ends(conds: &mut Conditions) -> bool {
 }
 
 // Two conditions are born, and three threads wait on the first.
-fn does_all(conds: &mut Conditions) -> bool
+fn does_all(conds: &mut Conds) -> bool
     requires { conds.old ≡ empty_table 10 }
 {
     let Ok(()) = conds.reserve(4) else {
@@ -83,6 +83,6 @@ fn does_all(conds: &mut Conditions) -> bool
 
 #[test]
 fn the_greatest_priority_is_notified(rt: HostRuntime) {
-    let mut conds = Conditions::new(rt.alloc(), 10);
+    let mut conds = Conds::new(rt.alloc(), 10);
     assert!(rt; does_all(&mut conds));
 }

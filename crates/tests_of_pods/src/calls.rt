@@ -22,7 +22,7 @@ const ASKING: [Call<'static>; 15] = [
     Call::CvCreate {
         mon: Mid { number: 0 },
     },
-    Call::Conditions,
+    Call::Conds,
     Call::CvWaiters {
         cond: Cid { number: 0 },
     },

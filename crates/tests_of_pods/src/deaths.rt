@@ -4,18 +4,18 @@ ghost use Rattle.death_cleanup.specs.Example.{thread};
 ghost use Rattle.death_cleanup.specs.Named.{IsNoteOf};
 ghost use Rattle.death_cleanup.specs.Ties.{LawfulParts};
 ghost use Rattle.tests_of_pods.specs.Living.{register_as};
-ghost use Rattle.exceptions.specs.Stack.{one_frame};
+ghost use Rattle.exc_stack.specs.Stack.{one_frame};
 ghost use Rattle.monitors.specs.MonitorTable.{empty_table};
 ghost use Rattle.stale_ids.specs.Register.{after_insert};
 
 use agents::Agents;
-use conditions::{Conditions, WaitRec};
+use conditions::{Conds, WaitRec};
 use death_cleanup::{Kind, Named, Parts, ThreadRec, die, note};
-use exceptions::ExceptionStack;
+use exc_stack::ExcStack;
 use lwp_types::{
     Answer, Block, Cid, Effect, Effects, ExitCall, Flags, Letter, LwpErr, Mid, NoMemory, Text, Tid,
 };
-use messages::Messages;
+use rendezvous::Mail;
 use monitors::Monitors;
 use pod_sched::Sched;
 use stale_ids::Registry;
@@ -36,7 +36,7 @@ const JOINS: Block = Block::Joining(DYING);
 const AGENT: Tid = Tid { number: 8 };
 
 // A thread is born that waits so, with these marks.
-fn bear_with<'s>(ids: &mut Registry<Kind<'s>>, block: Block, stack: ExceptionStack<'s>)
+fn bear_with<'s>(ids: &mut Registry<Kind<'s>>, block: Block, stack: ExcStack<'s>)
     requires room { length ids.old.live < ids.old.places }
     requires more { ids.old.births < ids.old.limit }
     ensures { ids.new ≡ after_insert ids.old (thread block stack.entry) }
@@ -54,16 +54,16 @@ fn bear(ids: &mut Registry<Kind>, alloc: Global, block: Block) -> Result<(), NoM
     requires more { ids.old.births < ids.old.limit }
     ensures { OnOk result (ids.new ≡ after_insert ids.old (thread block one_frame)) }
 {
-    let stack = ExceptionStack::new(alloc)?;
+    let stack = ExcStack::new(alloc)?;
     bear_with(ids, block, stack);
     Ok(())
 }
 
 // The stack with five exit procedures: one of them resumes the dying thread itself.
-fn five_exits<'s>(alloc: Global) -> Result<ExceptionStack<'s>, NoMemory>
+fn five_exits<'s>(alloc: Global) -> Result<ExcStack<'s>, NoMemory>
     ensures { IfOk result (λ s. s ≡ example.stack) }
 {
-    let mut stack = ExceptionStack::new(alloc)?;
+    let mut stack = ExcStack::new(alloc)?;
     stack.on_exit(
         0,
         ExitCall::Note {
@@ -163,10 +163,10 @@ fn letter<'s>(from: u64, room: u8, received: bool) -> Letter<'s>
     }
 }
 
-fn posted<'s>(alloc: Global) -> Result<Messages<'s>, NoMemory>
-    ensures { IfOk result (λ m. m ≡ example.messages) }
+fn posted<'s>(alloc: Global) -> Result<Mail<'s>, NoMemory>
+    ensures { IfOk result (λ m. m ≡ example.mail) }
 {
-    let mut messages = Messages::new(alloc);
+    let mut messages = Mail::new(alloc);
     messages.reserve(9)?;
     messages.post_letter(letter(1, 9, true));
     messages.post_letter(letter(2, 9, false));
@@ -227,10 +227,10 @@ fn held(alloc: Global) -> Result<Monitors, NoMemory>
     Ok(mons)
 }
 
-fn waited(alloc: Global) -> Result<Conditions, NoMemory>
+fn waited(alloc: Global) -> Result<Conds, NoMemory>
     ensures { IfOk result (λ c. c ≡ example.conds) }
 {
-    let mut conds = Conditions::new(alloc, 100);
+    let mut conds = Conds::new(alloc, 100);
     conds.reserve(8)?;
     conds.create(Mid { number: 2 })?;
     conds.wait(WaitRec {
@@ -273,7 +273,7 @@ fn parts<'s>(alloc: Global) -> Result<Parts<'s>, NoMemory>
     Ok(Parts {
         ids: all_waiting(alloc)?,
         sched: scheduled(alloc)?,
-        messages: posted(alloc)?,
+        mail: posted(alloc)?,
         mons: held(alloc)?,
         conds: waited(alloc)?,
         agents: armed(alloc)?,
@@ -349,7 +349,7 @@ fn left(parts: &mut Parts) -> u32 {
     if parts.ids.is_live(0) || parts.ids.is_live(8) {
         return 2;
     }
-    if parts.messages.pop_to(DYING).is_some() {
+    if parts.mail.pop_to(DYING).is_some() {
         return 3;
     }
     if parts.agents.owner_of(AGENT).is_some() {

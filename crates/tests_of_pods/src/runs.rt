@@ -3,9 +3,9 @@ ghost use Rattle.std.specs.Prelude.{◌≡◌, []};
 use lwp_types::{Effect, Effects, Line, MemSink, NoMemory, Text, Tid};
 use std::alloc::Global;
 use std::test::Fail;
-use text_list::TextList;
+use lists::TextList;
 use trace_text::StepLines;
-use whole_streams::write_all;
+use streams::write_all;
 
 fn push_three(effects: &mut Effects)
     requires { effects.old ≡ [] }

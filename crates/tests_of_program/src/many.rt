@@ -2,7 +2,7 @@
 ghost use Rattle.std.specs.Prelude.{◌≤◌};
 
 use lwp_types::{MemSink, MemSource, NoMemory};
-use serve_words::{SessionEnd, batch_main};
+use lwp_serve::{SessionEnd, batch_main};
 use std::alloc::Global;
 use std::test::Fail;
 use std::thread::Threads;

@@ -1,5 +1,5 @@
 use lwp_types::{MemSink, MemSource, NoMemory};
-use serve_words::{Session, SessionEnd, fault_text, make_main, plan_main};
+use lwp_serve::{Session, SessionEnd, fault_text, make_main, plan_main};
 use std::alloc::Global;
 use std::test::Fail;
 

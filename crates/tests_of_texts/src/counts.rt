@@ -1,6 +1,6 @@
 use lwp_types::Sink;
 use std::test::Fail;
-use whole_streams::*;
+use streams::*;
 
 #[test]
 fn counts_what_it_takes(rt: HostRuntime) -> Result<(), Fail> {

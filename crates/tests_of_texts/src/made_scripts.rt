@@ -1,4 +1,4 @@
-use script_maker::*;
+use lwp_serve::make_script;
 use std::alloc::Global;
 
 const SMALL: &[u8] = b"lwp 1

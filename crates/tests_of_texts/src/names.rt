@@ -2,7 +2,7 @@ use lwp_types::NoMemory;
 use script_text::NameList;
 use std::alloc::Global;
 use std::test::Fail;
-use word_index::WordIndex;
+use script_text::WordIndex;
 
 // Words that differ in their length, in their last byte, in a byte that is 0, and in a byte behind the sixteenth.
 const WORDS: [&[u8]; 10] = [

@@ -2,7 +2,7 @@ use lwp_types::{
     Answer, Call, Effect, Effects, Flags, Func, Line, LwpErr, Mode, NoMemory, Pattern, Text, Tid,
 };
 use std::alloc::Global;
-use text_list::TextList;
+use lists::TextList;
 use trace_text::*;
 
 const FLAGS: Flags = Flags {

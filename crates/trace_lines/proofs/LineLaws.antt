@@ -114,21 +114,21 @@ answered t (answer.Value (pos n)) h = ap (λ g. Some (entry.Answered t g)) (valu
 answered t (answer.Value (negsuc n)) h = refl
 answered t (answer.Thread u) h = ap (λ g. Some (entry.Answered t g)) (born u h)
 answered t (answer.Monitor m) h = ap (λ g. Some (entry.Answered t g)) (other_id m (eqb m null_id))
-answered t (answer.Condition c) h = ap (λ g. Some (entry.Answered t g)) (other_condition c (eqb c null_id))
+answered t (answer.Cond c) h = ap (λ g. Some (entry.Answered t g)) (other_condition c (eqb c null_id))
 answered t (answer.Letter from text room) h = ap (λ n. Some (entry.Answered t (gain.Letter n))) (id_again 116 from (codes " " ++ (decimal room ++ with_space text)) h refl)
 answered t (answer.Reply text) h = refl
 answered t (answer.Bound func arg) h = refl
 answered t (answer.Caught depth mark p) h = refl
 answered t (answer.Ids kind.Thread ids) h = refl
 answered t (answer.Ids kind.Monitor ids) h = refl
-answered t (answer.Ids kind.Condition ids) h = refl
+answered t (answer.Ids kind.Cond ids) h = refl
 answered t (answer.Refused e) h = refl
 
 begins : (a : Answer) → EndsDigits (answer_text a)
 begins (answer.Value v) = refl
 begins (answer.Thread u) = refl
 begins (answer.Monitor m) = refl
-begins (answer.Condition c) = refl
+begins (answer.Cond c) = refl
 begins (answer.Letter from text room) = refl
 begins (answer.Reply text) = refl
 begins (answer.Bound func arg) = refl
@@ -215,7 +215,7 @@ headed : (a : Answer) → answer_text a ≡ 32 ∷ drop 1 (answer_text a)
 headed (answer.Value v) = refl
 headed (answer.Thread u) = refl
 headed (answer.Monitor m) = refl
-headed (answer.Condition c) = refl
+headed (answer.Cond c) = refl
 headed (answer.Letter from text room) = refl
 headed (answer.Reply text) = refl
 headed (answer.Bound func arg) = refl
@@ -253,7 +253,7 @@ outcome xs (answer.Value (pos n)) h = subst (λ m. not (ends (codes " = 0") (xs 
 outcome xs (answer.Value (negsuc n)) h = absurd (cc)
 outcome xs (answer.Thread u) h = absurd (cc)
 outcome xs (answer.Monitor m) h = absurd (cc)
-outcome xs (answer.Condition c) h = absurd (cc)
+outcome xs (answer.Cond c) h = absurd (cc)
 outcome xs (answer.Letter from text room) h = absurd (cc)
 outcome xs (answer.Reply text) h = absurd (cc)
 outcome xs (answer.Bound func arg) h = absurd (cc)

@@ -6,9 +6,9 @@ use Rattle.trace_page.specs.Page.{bad_line, page, whole_lines}
 use Rattle.trace_page.specs.declared.showing.ViewEnd.{ViewEnd}
 use Rattle.trace_page.specs.declared.showing.ViewEnd.TheVariants as end
 use Rattle.trace_page.specs.declared.words.Window.{Window}
-use Rattle.whole_streams.specs.Reading.{HasRead, IsReadPart}
-use Rattle.whole_streams.specs.Streams.{IsFaultless, IsFaulty, IsQuiet, Stream}
-use Rattle.whole_streams.specs.Writing.{AppendsPart}
+use Rattle.streams.specs.Reading.{HasRead, IsReadPart}
+use Rattle.streams.specs.Streams.{IsFaultless, IsFaulty, IsQuiet, Stream}
+use Rattle.streams.specs.Writing.{AppendsPart}
 
 -- the source was read to its end, and this holds of what it held
 abbrev pub Says : Stream → (List ℕ → Type 0) → Type 0

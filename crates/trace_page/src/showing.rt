@@ -2,14 +2,14 @@
 ghost use Rattle.std.specs.Prelude.{◌≡◌, ◌++◌, IfOk, OnOk, map, string_bytes};
 ghost use Rattle.trace_page.specs.View.{EndSays, ViewSays, fault_text, line_front, status_of};
 ghost use Rattle.trace_page.specs.Words.{window_of};
-ghost use Rattle.whole_streams.specs.Streams.{sides};
+ghost use Rattle.streams.specs.Streams.{sides};
 
 use crate::page::{PageErr, add_page};
 use crate::words::{Window, window_of};
 use lwp_types::{NoMemory, Sink, Source};
 use std::alloc::Global;
 use trace_text::{add_number, add_text};
-use whole_streams::{ReadFailure, read_all, write_all};
+use streams::{ReadFailure, read_all, write_all};
 
 /// How the program ends.
 #[derive(Clone, Copy)]

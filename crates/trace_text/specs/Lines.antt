@@ -139,7 +139,7 @@ call_text procs me (call.Wait c) = codes "wait " ++ condition_text c
 call_text procs me (call.Notify c) = codes "notify " ++ condition_text c
 call_text procs me (call.Broadcast c) = codes "broadcast " ++ condition_text c
 call_text procs me (call.CvSend c t) = codes "cvsend " ++ (condition_text c ++ (codes " " ++ who_text me t))
-call_text procs me call.Conditions = codes "conditions"
+call_text procs me call.Conds = codes "conditions"
 call_text procs me (call.CvWaiters c) = codes "cvwaiters " ++ condition_text c
 call_text procs me (call.CallProc number) = codes "call " ++ proc_text procs number
 call_text procs me call.Return = codes "return"
@@ -172,14 +172,14 @@ error_text error.NoWait = codes "LE_NOWAIT"
 abbrev pub ids_text : IdKind → List ℕ → List ℕ
 ids_text kind.Thread ids = flat_map (λ n. 32 ∷ thread_text n) ids
 ids_text kind.Monitor ids = flat_map (λ n. 32 ∷ monitor_text n) ids
-ids_text kind.Condition ids = flat_map (λ n. 32 ∷ condition_text n) ids
+ids_text kind.Cond ids = flat_map (λ n. 32 ∷ condition_text n) ids
 
 -- an answer, as it stands behind the thread
 abbrev pub answer_text : Answer → List ℕ
 answer_text (answer.Value v) = codes " = " ++ signed_decimal v
 answer_text (answer.Thread t) = codes " = " ++ thread_text t
 answer_text (answer.Monitor m) = codes " = " ++ monitor_text m
-answer_text (answer.Condition c) = codes " = " ++ condition_text c
+answer_text (answer.Cond c) = codes " = " ++ condition_text c
 answer_text (answer.Letter from text room) = codes " = letter "
     ++ (thread_text from ++ (codes " " ++ (decimal room ++ with_space text)))
 answer_text (answer.Reply text) = codes " = reply" ++ with_space text

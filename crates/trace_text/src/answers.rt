@@ -51,7 +51,7 @@ fn add_id_list(row: &mut Vec<u8>, at: usize, kind: IdKind, list: &IdList) -> Res
     match kind {
         IdKind::Thread => add_ids(row, end, b't', list),
         IdKind::Monitor => add_ids(row, end, b'm', list),
-        IdKind::Condition => add_ids(row, end, b'c', list),
+        IdKind::Cond => add_ids(row, end, b'c', list),
     }
 }
 
@@ -128,7 +128,7 @@ fn add_any_answer(row: &mut Vec<u8>, at: usize, answer: &Answer) -> Result<usize
         Answer::Value(value) => put_value(bytes, at, *value),
         Answer::Thread(tid) => put_word_id(bytes, at, b" = ", b't', tid.number),
         Answer::Monitor(mon) => put_word_id(bytes, at, b" = ", b'm', mon.number),
-        Answer::Condition(cond) => put_word_id(bytes, at, b" = ", b'c', cond.number),
+        Answer::Cond(cond) => put_word_id(bytes, at, b" = ", b'c', cond.number),
         Answer::Letter { from, text, room } => put_letter(bytes, at, *from, text, *room),
         Answer::Reply(text) => put_word_text(bytes, at, b" = reply", text),
         Answer::Bound { func, arg } => put_bound(bytes, at, *func, *arg),

@@ -12,7 +12,7 @@ use lwp_types::{
     AgentCall, Call, ConditionCall, ExceptionCall, ExitCall, Family, Flags, Func, MessageCall,
     Mode, MonitorCall, Pattern, PodCall, Text, ThreadCall, Tid, TurnCall,
 };
-use text_list::TextList;
+use lists::TextList;
 
 // A word and a thread.
 #[inline(always)]

@@ -8,7 +8,7 @@ use crate::room::make_room;
 use crate::rows::{put_byte, put_id, put_number, put_spaced, put_word};
 use lwp_types::{Answer, Call, Effect, Effects, ExitCall, Line, NoMemory, Tid};
 use std::alloc::Global;
-use text_list::TextList;
+use lists::TextList;
 
 // Who posted a line, and as which of its own, and the line's text.
 #[inline(always)]

@@ -6,7 +6,7 @@ ghost use Rattle.trace_text.specs.Lines.{with_space, id_text, who_text, proc_tex
 
 use itoa::Buffer;
 use lwp_types::{Flags, Func, LwpErr, Mode, Pattern, Text, Tid};
-use text_list::TextList;
+use lists::TextList;
 
 // A byte.
 #[inline(always)]

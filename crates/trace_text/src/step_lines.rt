@@ -7,7 +7,7 @@ use crate::lines::{add_call_line, add_lines};
 use lwp_types::{Call, Effects, Line, NoMemory, Tid};
 use std::alloc::Global;
 use std::marker::Model;
-use text_list::TextList;
+use lists::TextList;
 
 /// The lines of a step, seen as their bytes, in memory that the lines of the next step are put into.
 #[derive(Drop)]

@@ -11,9 +11,9 @@ use Rattle.pod_runner.specs.Eager.{Plan, Planned, opening_plan, plan_over, plan_
 use Rattle.pod_runner.specs.Session.{call_move, move, take_move}
 use Rattle.pod_runner.specs.Trace.{trace}
 use Rattle.script_body.specs.ScriptBody.{script_next}
-use Rattle.script_gate.specs.Stocked.{stock_of}
-use Rattle.script_plan.specs.Planned.{calls_of, halt_of, plan_of, planned_of, takes_of, trace_of}
-use Rattle.script_program.specs.declared.body.ThreadBody.{ThreadBody}
+use Rattle.script_body.specs.Stocked.{stock_of}
+use Rattle.lwp_serve.specs.Plan.Planned.{calls_of, halt_of, plan_of, planned_of, takes_of, trace_of}
+use Rattle.script_body.specs.declared.thread_body.ThreadBody.{ThreadBody}
 use Rattle.script_text.specs.Script.{proc_names}
 use Rattle.std.proofs.Common.{Some, [], ap, refl, ◌∙◌, ◌≡◌}
 use Rattle.std.specs.Fmt.{digits}

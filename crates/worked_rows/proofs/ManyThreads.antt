@@ -2,9 +2,9 @@
 use Rattle.event_gate.specs.Shelves.{first_left, full}
 use Rattle.line_server.specs.Sessions.{session_next}
 use Rattle.line_server.specs.Stores.{store_next}
-use Rattle.script_program.specs.declared.body.ThreadBody.{ThreadBody}
-use Rattle.script_gate.specs.Stocked.{stock_of}
-use Rattle.script_plan.specs.Planned.{calls_of, halt_of, plan_of, planned_of, takes_of, trace_of}
+use Rattle.script_body.specs.declared.thread_body.ThreadBody.{ThreadBody}
+use Rattle.script_body.specs.Stocked.{stock_of}
+use Rattle.lwp_serve.specs.Plan.Planned.{calls_of, halt_of, plan_of, planned_of, takes_of, trace_of}
 use Rattle.lwp_types.specs.Agents.{deliver}
 use Rattle.lwp_types.specs.Case.{unless}
 use Rattle.lwp_types.specs.State.{and_then, for_each, in_order}

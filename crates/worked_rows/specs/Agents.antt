@@ -188,7 +188,7 @@ abbrev pub lists_of_ids : Row
 lists_of_ids = record {
   script = pod 1 (named (codes "main" ∷ codes "w" ∷ []) (codes "a" ∷ codes "g" ∷ []) (codes "m" ∷ []) (codes "c" ∷ []))
       (procedure 0 (stmt.MonCreate 0 ∷ stmt.CvCreate 0 0 ∷ stmt.Create 0 1 1 plain ∷ stmt.Agent 1 5 ∷ stmt.Yield who.Me
-      ∷ stmt.Threads ∷ stmt.Agents ∷ stmt.Monitors ∷ stmt.Conditions ∷ stmt.Senders ∷ stmt.Receivers ∷ stmt.MonWaiters 0
+      ∷ stmt.Threads ∷ stmt.Agents ∷ stmt.Monitors ∷ stmt.Conds ∷ stmt.Senders ∷ stmt.Receivers ∷ stmt.MonWaiters 0
       ∷ stmt.CvWaiters 0 ∷ [])
       ∷ procedure 1 (stmt.Recv (Some who.First) mode.Block ∷ [])
       ∷ []);

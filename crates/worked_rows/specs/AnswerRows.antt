@@ -1,7 +1,7 @@
 -- What one client is told, worked out by hand: the replies to the agents of its event, and the answers to its lines.
 use Rattle.line_server.specs.Tables.{line_answers}
 use Rattle.pod_runner.specs.Due.{numbers_to}
-use Rattle.script_answers.specs.Replies.{answers_of}
+use Rattle.lwp_serve.specs.Answers.Replies.{answers_of}
 use Rattle.std.specs.List.{flat_map}
 use Rattle.std.specs.Prelude.{List, [], codes, map, ℕ, ◌++◌, ◌∷◌, ◌≡◌}
 use Rattle.worked_rows.specs.LineServer.{reply, requests, text}

@@ -105,8 +105,8 @@ conditions_go_with_their_monitor = record {
   script = pod 1 (named (codes "main" ∷ []) [] (codes "m" ∷ codes "n" ∷ [])
       (codes "c" ∷ codes "d" ∷ codes "e" ∷ codes "f" ∷ []))
       (procedure 0 (stmt.MonCreate 0 ∷ stmt.MonCreate 1 ∷ stmt.CvCreate 0 0 ∷ stmt.CvCreate 1 1
-      ∷ stmt.CvCreate 2 0 ∷ stmt.Conditions
-      ∷ stmt.MonDestroy 0 ∷ stmt.Conditions ∷ stmt.CvWaiters 0 ∷ stmt.CvWaiters 1 ∷ stmt.CvCreate 3 0 ∷ [])
+      ∷ stmt.CvCreate 2 0 ∷ stmt.Conds
+      ∷ stmt.MonDestroy 0 ∷ stmt.Conds ∷ stmt.CvWaiters 0 ∷ stmt.CvWaiters 1 ∷ stmt.CvCreate 3 0 ∷ [])
       ∷ []);
   turns = 100000;
   trace = codes "t0: moncreate\nt0 = m0\nt0: moncreate\nt0 = m1\nt0: cvcreate m0\nt0 = c0\nt0: cvcreate m1\nt0 = c1\nt0: cvcreate m0\nt0 = c2\nt0: conditions\nt0 = ids c0 c1 c2\nt0: mondestroy m0\nt0 = 0\nt0: conditions\nt0 = ids c1\nt0: cvwaiters c0\nt0 ! LE_NONEXIST\nt0: cvwaiters c1\nt0 = ids\nt0: cvcreate m0\nt0 ! LE_NONEXIST\nt0: return\nt0 dies\npod ends 0\n";

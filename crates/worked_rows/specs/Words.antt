@@ -1,5 +1,5 @@
 -- What a worked row says, and the words that its script is written in.
-use Rattle.script_plan.specs.Planned.{calls_of, halt_of, takes_of, trace_of}
+use Rattle.lwp_serve.specs.Plan.Planned.{calls_of, halt_of, takes_of, trace_of}
 use Rattle.lwp_types.specs.declared.call.Flags.{Flags}
 use Rattle.lwp_types.specs.declared.call.Line.{Line}
 use Rattle.pod_runner.specs.declared.session.Took.{Took}

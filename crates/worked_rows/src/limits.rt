@@ -24,7 +24,7 @@ pub fn live()
     ensures no_thread { Refuses (with_threads 1024) (call.Create 0 1 plain) error.NoRoom }
     ensures last_monitor { Answers (with_monitors 255) call.MonCreate (answer.Monitor 255) }
     ensures no_monitor { Refuses (with_monitors 256) call.MonCreate error.NoRoom }
-    ensures last_condition { Answers (with_conditions 255) (call.CvCreate 0) (answer.Condition 255) }
+    ensures last_condition { Answers (with_conditions 255) (call.CvCreate 0) (answer.Cond 255) }
     ensures no_condition { Refuses (with_conditions 256) (call.CvCreate 0) error.NoRoom }
 {}
 
@@ -36,7 +36,7 @@ pub fn births()
     ensures no_agent { Refuses (with_births 4294967295) (call.Agent 31) error.NoRoom }
     ensures last_monitor { Answers (with_births 4294967294) call.MonCreate (answer.Monitor 4294967294) }
     ensures no_monitor { Refuses (with_births 4294967295) call.MonCreate error.NoRoom }
-    ensures last_condition { Answers (with_births 4294967294) (call.CvCreate 0) (answer.Condition 4294967294) }
+    ensures last_condition { Answers (with_births 4294967294) (call.CvCreate 0) (answer.Cond 4294967294) }
     ensures no_condition { Refuses (with_births 4294967295) (call.CvCreate 0) error.NoRoom }
 {}
 

@@ -5,7 +5,7 @@ use Rattle.std.proofs.Common.{ap, rules, sym, ◌∙◌}
 use Rattle.std.proofs.lemmas.Bool.{eqb-false}
 use Rattle.std.proofs.lemmas.List.Sorted.{IsPartitionPoint-from_clause, IsPartitionedBy-ltb}
 use Rattle.std.specs.Prelude.{nat_lt}
-use Rattle.waiting_list.proofs.SearchLaws.{none_there}
+use Rattle.lists.proofs.WaitingLaws.SearchLaws.{none_there}
 
 pub returns-in_default-clause-none : goal.returns-in_default-clause-none
 returns-in_default-clause-none c =

@@ -6,7 +6,7 @@ use Rattle.lwp_types.specs.Messages.{after_reply, received_letter}
 use Rattle.lwp_types.specs.Unblock.{unblock}
 use Rattle.lwp_types.specs.declared.call.Answer.TheVariants as answer
 use Rattle.lwp_types.specs.declared.call.LwpErr.TheVariants as error
-use Rattle.messages.specs.MessageTable.{refusal}
+use Rattle.rendezvous.specs.MessageTable.{refusal}
 use Rattle.std.proofs.Common.{None, Some, ap, length, refl, sym, ◌∙◌, ◌≡◌}
 use Rattle.std.specs.Result.{result_err}
 
@@ -15,7 +15,7 @@ returns-then-not-lives c = record { answers = answers_refused c.args.parts.now c
 
 pub returns-in-Err : goal.returns-in-Err
 returns-in-Err c =
-    let cause : refusal (received_letter c.args.parts.now.messages.letters c.args.tid c.args.to) (length c.args.text.now) ≡ Some c.in-Err.err = rw (← c.len-len.ensures) (sym c.reply.ensures.cause ∙ ap result_err c.in-Err.is) in
+    let cause : refusal (received_letter c.args.parts.now.mail.letters c.args.tid c.args.to) (length c.args.text.now) ≡ Some c.in-Err.err = rw (← c.len-len.ensures) (sym c.reply.ensures.cause ∙ ap result_err c.in-Err.is) in
     record {
       answers = rw c.in-Err.ensures.err (answers_refused c.args.parts.now c.args.effects.now _ c.in-Err.err c.requires.lawful.step
           (reply-refused (state_of c.args.parts.now) c.args.tid c.args.to c.args.text.now (sym c.if-not-lives.ensures) c.in-Err.err cause));
@@ -26,15 +26,15 @@ wake_replied-requires-clause-step c = rw c.in_default.ensures.ok (InStep-lighter
 
 pub wake_replied-requires-clause-waits : goal.wake_replied-requires-clause-waits
 wake_replied-requires-clause-waits c =
-    let fine : refusal (received_letter c.args.parts.now.messages.letters c.args.tid c.args.to) (length c.args.text.now) ≡ None = rw (← c.len-len.ensures) (sym c.reply.ensures.cause ∙ ap result_err c.in_default.is) in
+    let fine : refusal (received_letter c.args.parts.now.mail.letters c.args.tid c.args.to) (length c.args.text.now) ≡ None = rw (← c.len-len.ensures) (sym c.reply.ensures.cause ∙ ap result_err c.in_default.is) in
     sender-waits c.args.parts.now c.args.to c.requires.lawful c.args.tid
     (reply-some (state_of c.args.parts.now) c.args.tid c.args.to c.args.text.now fine) (sym c.is_thread-is_one.ensures ∙ c.if-is_one.true)
 
 pub returns-then-is_one : goal.returns-then-is_one
 returns-then-is_one c =
-    let fine : refusal (received_letter c.args.parts.now.messages.letters c.args.tid c.args.to) (length c.args.text.now) ≡ None = rw (← c.len-len.ensures) (sym c.reply.ensures.cause ∙ ap result_err c.in_default.is) in
+    let fine : refusal (received_letter c.args.parts.now.mail.letters c.args.tid c.args.to) (length c.args.text.now) ≡ None = rw (← c.len-len.ensures) (sym c.reply.ensures.cause ∙ ap result_err c.in_default.is) in
     let no_agent = thread-apart (state_of c.args.parts.now) c.args.to (c.requires.lawful.nine.numbers.2 c.args.to) (sym c.is_thread-is_one.ensures ∙ c.if-is_one.true) in
-    let is : after_reply c.args.to c.args.text.now (state_of c.args.parts.now) ≡ unblock (answer.Reply c.args.text.now) c.args.to (state_of (record c.args.parts.now { messages = c.reply.new.self })) =
+    let is : after_reply c.args.to c.args.text.now (state_of c.args.parts.now) ≡ unblock (answer.Reply c.args.text.now) c.args.to (state_of (record c.args.parts.now { mail = c.reply.new.self })) =
     rw c.in_default.ensures.ok (replied-thread c.args.parts.now c.args.to c.args.text.now no_agent) in
     record {
       answers = answers_zero _ _ _ _ (after_reply c.args.to c.args.text.now (state_of c.args.parts.now)) _ (came_as _ _ _ _ _ _ _ c.wake_replied.ensures.came refl is)
@@ -43,7 +43,7 @@ returns-then-is_one c =
 
 pub returns : goal.returns
 returns c =
-    let fine : refusal (received_letter c.args.parts.now.messages.letters c.args.tid c.args.to) (length c.args.text.now) ≡ None = rw (← c.len-len.ensures) (sym c.reply.ensures.cause ∙ ap result_err c.in_default.is) in
+    let fine : refusal (received_letter c.args.parts.now.mail.letters c.args.tid c.args.to) (length c.args.text.now) ≡ None = rw (← c.len-len.ensures) (sym c.reply.ensures.cause ∙ ap result_err c.in_default.is) in
     let agent = agent-left (state_of c.args.parts.now) c.args.to (sym c.if-not-lives.ensures) (sym c.is_thread-is_one.ensures ∙ c.if-is_one.false) in
     record {
       answers = rw (c.release.ensures, c.in_default.ensures.ok) (answers_zero c.args.parts.now (rearmed c.args.parts.now c.args.to) c.args.effects.now c.args.effects.now (after_reply c.args.to c.args.text.now (state_of c.args.parts.now)) _

@@ -1,6 +1,6 @@
 use Rattle.death_cleanup.proofs.Living.{no-marks, written-marks}
 use Rattle.death_cleanup.proofs.frames.next_exit.Goals as goal
-use Rattle.exceptions.specs.Stack.{unwound_all}
+use Rattle.exc_stack.specs.Stack.{unwound_all}
 use Rattle.stale_ids.specs.Register.{value_of}
 use Rattle.std.proofs.Common.{ap, sym, ◌∙◌}
 use Rattle.std.specs.Option.{option_copied_mut}

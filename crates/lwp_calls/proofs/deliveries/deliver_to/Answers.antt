@@ -3,14 +3,14 @@ use Rattle.lwp_calls.proofs.Delivering.{came_found, own, owned, unowned, who}
 use Rattle.lwp_calls.proofs.Messaging.{agent-place, agent_no_letter}
 use Rattle.lwp_calls.proofs.Places.{nine}
 use Rattle.lwp_calls.proofs.deliveries.deliver_to.Goals as goal
-use Rattle.messages.specs.MessageTable.{has_letter_of}
+use Rattle.rendezvous.specs.MessageTable.{has_letter_of}
 use Rattle.std.proofs.Common.{ap, arith, sym, ◌∙◌}
 
 pub post-requires-clause-new : goal.post-requires-clause-new
 post-requires-clause-new c =
     let parts = c.args.parts.now in
     let agent = who parts c.args.event c.args.agent c.args.text.now c.requires.waits in
-    sym (ap (has_letter_of parts.messages.letters) agent.number)
+    sym (ap (has_letter_of parts.mail.letters) agent.number)
     ∙ agent_no_letter (state_of parts) (nine parts c.requires.lawful c.requires.alone) agent.row (own parts c.args.event c.args.agent c.args.text.now c.requires.waits) agent.free
 
 pub post-requires-clause-place : goal.post-requires-clause-place

@@ -1,9 +1,9 @@
-use Rattle.death_cleanup.proofs.Keeping.{InStep-messages}
+use Rattle.death_cleanup.proofs.Keeping.{InStep-mail}
 use Rattle.death_cleanup.specs.View.{state_of}
 use Rattle.lwp_calls.proofs.Made.{ComesTo-is, told-own}
 use Rattle.lwp_calls.proofs.Messaging.{awaited-is, awaited_comes, polled-is, received-is, timed_await-is, timed_comes, timed_out-is, unless_passed, unless_struck, untouched}
 use Rattle.lwp_calls.proofs.message_calls.receive.Goals as goal
-use Rattle.messages.specs.MessageTable.{after_take}
+use Rattle.rendezvous.specs.MessageTable.{after_take}
 use Rattle.std.proofs.Common.{append-nil, refl, sym, ◌∙◌, ◌≡◌}
 
 pub returns-in-Some-clause-told : goal.returns-in-Some-clause-told
@@ -12,7 +12,7 @@ returns-in-Some-clause-told c = told-own (ComesTo-is (unless_struck (state_of c.
 pub returns-in-Some-take_letter-clause-told : goal.returns-in-Some-take_letter-clause-told
 returns-in-Some-take_letter-clause-told c = rw c.take_letter.ensures.after (told-own (ComesTo-is (unless_passed (state_of c.args.parts.now) _ _ (sym c.source_refusal.ensures ∙ c.in_default.is)
     ∙ received-is c.args.parts.now c.args.caller c.args.from.now c.args.mode c.in-Some-take_letter.letter (sym c.take_letter.ensures.value ∙ c.in-Some-take_letter.is))
-    (InStep-messages c.args.parts.now c.requires.lawful.step (after_take c.args.parts.now.messages c.args.caller c.args.from.now) refl) refl) c.args.caller c.lettered.ensures)
+    (InStep-mail c.args.parts.now c.requires.lawful.step (after_take c.args.parts.now.mail c.args.caller c.args.from.now) refl) refl) c.args.caller c.lettered.ensures)
 
 pub returns-in-Poll-clause-told : goal.returns-in-Poll-clause-told
 returns-in-Poll-clause-told c =

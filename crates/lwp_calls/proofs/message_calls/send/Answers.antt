@@ -10,7 +10,7 @@ use Rattle.lwp_types.specs.State.{State, passes, thread_of}
 use Rattle.lwp_types.specs.declared.call.LwpErr.TheVariants as error
 use Rattle.lwp_types.specs.declared.rows.Block.TheVariants as block
 use Rattle.lwp_types.specs.declared.rows.Letter.{Letter}
-use Rattle.messages.specs.MessageTable.{has_letter_of}
+use Rattle.rendezvous.specs.MessageTable.{has_letter_of}
 use Rattle.std.proofs.Common.{ap, arith, false, length, refl, sym, ◌∙◌}
 
 pub returns-in_default-clause-comes : goal.returns-in_default-clause-comes

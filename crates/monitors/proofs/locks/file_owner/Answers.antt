@@ -3,7 +3,7 @@ use Rattle.monitors.proofs.locks.file_owner.Goals as goal
 use Rattle.monitors.proofs.locks.file_owner.Goals.{else-is_some, then-is_some}
 use Rattle.monitors.specs.declared.slots.Link.{Link}
 use Rattle.std.proofs.Common.{arith, is_some, refl, true, ℕ, ◌+◌, ◌∙◌, ◌≡◌, ◌≢◌, ◌≤◌}
-use Rattle.thread_index.specs.Index.{count_of, place_of}
+use Rattle.lists.specs.ThreadIndex.{count_of, place_of}
 
 pub returns-clause-owners : goal.returns-clause-owners
 returns-clause-owners c =

@@ -6,7 +6,7 @@ use Rattle.monitors.proofs.locks.refile.Goals as goal
 use Rattle.std.proofs.Common.{None, Some, [], ap, arith, get_or, length, refl, sym, take, ◌++◌, ◌<◌, ◌∙◌, ◌∷◌, ◌≡◌}
 use Rattle.std.proofs.lemmas.Bool.{eq-eqb}
 use Rattle.std.proofs.lemmas.List.{length-take-le, take_more}
-use Rattle.thread_index.specs.Living.{living}
+use Rattle.lists.specs.Living.{living}
 
 pub put-requires-clause-new : goal.put-requires-clause-new
 put-requires-clause-new c =

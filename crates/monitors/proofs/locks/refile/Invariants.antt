@@ -1,7 +1,7 @@
 use Rattle.monitors.proofs.locks.refile.Given as goal
 use Rattle.monitors.specs.Slots.{IsByMonitor, IsByOwner}
 use Rattle.std.proofs.Common.{take, vec_capacity, ◌≡◌}
-use Rattle.thread_index.specs.Index.{width_of}
+use Rattle.lists.specs.ThreadIndex.{width_of}
 
 abbrev pub invariant-loop-slot : goal.invariant-loop-slot
 invariant-loop-slot l = record {

@@ -1,4 +1,4 @@
-use Rattle.live_clients.specs.Ties.{all_texts, events_of, intakes}
+use Rattle.script_run.specs.Ties.{all_texts, events_of, intakes}
 use Rattle.pod_runner.proofs.Rounds.{stream}
 use Rattle.script_run.proofs.BesideLaws.{goes-answer, goes-err, never-quiet, told-gave}
 use Rattle.script_run.proofs.beside.go_behind.Goals as goal

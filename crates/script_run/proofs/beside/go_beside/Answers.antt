@@ -1,5 +1,5 @@
 use Rattle.std.proofs.Common.{Err, Ok, ◌∙◌}
-use Rattle.live_clients.specs.Ties.{intakes}
+use Rattle.script_run.specs.Ties.{intakes}
 use Rattle.script_run.proofs.BesideLaws.{goes-answer, goes-err, went-handed, went-of, went-then}
 use Rattle.pod_runner.proofs.Rounds.{stream}
 use Rattle.script_run.proofs.beside.go_beside.Goals as goal

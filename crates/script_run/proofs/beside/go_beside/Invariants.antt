@@ -1,4 +1,4 @@
-use Rattle.live_clients.specs.Ties.{IsSameOutside, IsTied, intakes}
+use Rattle.script_run.specs.Ties.{IsSameOutside, IsTied, intakes}
 use Rattle.script_run.proofs.BesideLaws.{WentBeside}
 use Rattle.pod_runner.proofs.Rounds.{stream}
 use Rattle.script_run.proofs.beside.go_beside.Given as goal

@@ -1,8 +1,8 @@
 use Rattle.std.proofs.Common.{map, rules}
-use Rattle.live_clients.specs.Ties.{any_intake, intakes}
+use Rattle.script_run.specs.Ties.{any_intake, intakes}
 use Rattle.script_run.proofs.BesideLaws.{gave-drawn, goes-live}
 use Rattle.pod_runner.proofs.Rounds.{stream}
-use Rattle.live_runner.specs.Live.{may_lose}
+use Rattle.pod_runner.specs.Live.{may_lose}
 use Rattle.script_run.proofs.beside.go_live.Goals as goal
 
 pub returns-clause-goes : goal.returns-clause-goes

@@ -1,7 +1,7 @@
 use Rattle.std.proofs.Common.{Err, List, None, Ok, Option, Some, ap, not, subst, sym, true, true≢false, ℕ, ◌∙◌, ◌≡◌}
 use Rattle.std.specs.Prelude.{IfSome, is_some}
-use Rattle.live_clients.specs.Served.{lines_in_all}
-use Rattle.live_clients.specs.Ties.{all_texts, events_of, intakes}
+use Rattle.script_run.specs.Served.{lines_in_all}
+use Rattle.script_run.specs.Ties.{all_texts, events_of, intakes}
 use Rattle.script_run.proofs.BesideLaws.{goes-answer, goes-err, goes-heard, goes-refused, know-all, went-of, went-then}
 use Rattle.script_run.specs.Beside.{KnowAll}
 use Rattle.pod_runner.proofs.Rounds.{stream}

@@ -1,5 +1,5 @@
 use Rattle.std.proofs.Common.{List, Ok, Some, ap, map, subst, ℕ, ◌∙◌}
-use Rattle.live_clients.specs.Ties.{all_texts, intakes}
+use Rattle.script_run.specs.Ties.{all_texts, intakes}
 use Rattle.script_run.proofs.BesideLaws.{broke-of, goes-err, wrote-of}
 use Rattle.script_run.proofs.ClientLaws.{items_of}
 use Rattle.script_run.proofs.LiveLaws.{lines-are, live-broken, live-cut, live-stopped, lived-of, over-of, ran-of, tail-of, texts-few}

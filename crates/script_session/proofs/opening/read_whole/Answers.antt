@@ -1,6 +1,6 @@
 use Rattle.std.proofs.Common.{Err, rules, ◌≡◌}
 use Rattle.script_session.proofs.SaidLaws.{gives-bad, holds-of, refuses-of}
-use Rattle.script_gate.proofs.PostLaws.{is_posted}
+use Rattle.script_body.proofs.PostLaws.{is_posted}
 use Rattle.script_text.specs.declared.reason.ReadErr.TheVariants as err
 use Rattle.script_session.proofs.opening.read_whole.Goals as goal
 

@@ -1,7 +1,7 @@
 use Rattle.std.proofs.Common.{◌≤◌, ◌<◌, ◌+◌, ◌++◌, ◌∙◌, List, arith, drop, length-append, rules, subst, take, ℕ}
 use Rattle.std.proofs.lemmas.List.{length-take-le, take-append-le}
 use Rattle.script_text.specs.Pieces.{HasRead as IsFed}
-use Rattle.whole_streams.proofs.ReadLaws.{so_far-more}
+use Rattle.streams.proofs.ReadLaws.{so_far-more}
 use Rattle.script_session.proofs.SourceLemmas.{part-read, read-end, read-full, up-end, up-full}
 use Rattle.script_session.proofs.RunLaws.{on_err}
 use Rattle.script_session.proofs.source.read_all.Goals as goal

@@ -1,5 +1,5 @@
 use Rattle.std.proofs.Common.{◌≡◌, ◌≤◌, ◌-◌, ℕ, List, length}
-use Rattle.whole_streams.specs.Reading.{ReadSoFar}
+use Rattle.streams.specs.Reading.{ReadSoFar}
 use Rattle.script_text.specs.Pieces.{HasRead as IsFed}
 use Rattle.script_session.proofs.source.read_all.Given as goal
 

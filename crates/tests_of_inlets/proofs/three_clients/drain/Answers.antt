@@ -1,10 +1,10 @@
-use Rattle.live_clients.proofs.Back.{at_place}
-use Rattle.live_clients.proofs.Draining.{one_gave}
-use Rattle.live_clients.proofs.Ties.{draws_keep_ties}
+use Rattle.script_run.proofs.Back.{at_place}
+use Rattle.script_run.proofs.Draining.{one_gave}
+use Rattle.script_run.proofs.Ties.{draws_keep_ties}
 use Rattle.tests_of_inlets.proofs.three_clients.drain.Goals as goal
 use Rattle.event_gate.specs.Inlet.{EachInlet}
-use Rattle.live_clients.specs.Served.{Gave}
-use Rattle.live_clients.specs.Ties.{all_texts, any_intake, events_of, intakes}
+use Rattle.script_run.specs.Served.{Gave}
+use Rattle.script_run.specs.Ties.{all_texts, any_intake, events_of, intakes}
 use Rattle.std.proofs.Common.{arith, length, map, set, subst, sym, ◌<◌}
 use Rattle.std.proofs.lemmas.List.{length-map, map-set}
 

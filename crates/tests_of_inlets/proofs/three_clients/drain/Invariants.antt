@@ -1,5 +1,5 @@
 use Rattle.tests_of_inlets.proofs.three_clients.drain.Given as goal
-use Rattle.live_clients.specs.Ties.{IsTied}
+use Rattle.script_run.specs.Ties.{IsTied}
 use Rattle.std.proofs.Common.{vec_len, ◌≡◌}
 
 abbrev pub invariant-loop-place : goal.invariant-loop-place

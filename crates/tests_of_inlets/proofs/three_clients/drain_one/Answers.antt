@@ -1,6 +1,6 @@
-use Rattle.live_clients.proofs.Draining.{gave_none, gave_nothing}
+use Rattle.script_run.proofs.Draining.{gave_none, gave_nothing}
 use Rattle.tests_of_inlets.proofs.three_clients.drain_one.Goals as goal
-use Rattle.live_clients.specs.Ties.{any_intake}
+use Rattle.script_run.specs.Ties.{any_intake}
 
 pub loop-init : goal.loop-init
 loop-init g c = (tt, tt, gave_none (any_intake c.args.inlet.now))

@@ -1,6 +1,6 @@
 use Rattle.tests_of_inlets.proofs.three_clients.drain_one.Given as goal
-use Rattle.live_clients.specs.Served.{Gave}
-use Rattle.live_clients.specs.Ties.{any_intake}
+use Rattle.script_run.specs.Served.{Gave}
+use Rattle.script_run.specs.Ties.{any_intake}
 
 abbrev pub invariant-loop : goal.invariant-loop
 invariant-loop g l =

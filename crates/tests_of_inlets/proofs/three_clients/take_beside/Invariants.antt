@@ -1,5 +1,5 @@
 use Rattle.tests_of_inlets.proofs.three_clients.take_beside.Given as goal
-use Rattle.live_clients.specs.Ties.{IsTied}
+use Rattle.script_run.specs.Ties.{IsTied}
 
 abbrev pub invariant-loop : goal.invariant-loop
 invariant-loop g l =

@@ -1,5 +1,5 @@
-use Rattle.exceptions.proofs.Frames.{first-append}
-use Rattle.exceptions.specs.Stack.{handlers_on_top}
+use Rattle.exc_stack.proofs.Frames.{first-append}
+use Rattle.exc_stack.specs.Stack.{handlers_on_top}
 use Rattle.lwp_types.specs.Exceptions.{first_frames, frames}
 use Rattle.lwp_types.specs.declared.rows.Mark.{Mark}
 use Rattle.std.proofs.Common.{List, [], ap, append-nil, sym, ◌<◌, ◌∙◌, ◌≡◌, ℕ}

@@ -9,7 +9,7 @@ use Rattle.pod_events.specs.Step.{event_step, event_step_by}
 use Rattle.pod_runner.specs.Eager.{plan_whole, to_the_end}
 use Rattle.pod_runner.specs.Over.{events}
 use Rattle.pod_runner.specs.Session.{call_move, move, take_move}
-use Rattle.script_answers.specs.Replies.{replies_in}
+use Rattle.lwp_serve.specs.Answers.Replies.{replies_in}
 use Rattle.script_body.specs.ScriptBody.{script_next}
 use Rattle.std.proofs.Common.{refl}
 use Rattle.std.specs.Fmt.{digits}

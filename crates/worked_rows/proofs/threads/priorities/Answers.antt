@@ -1,6 +1,6 @@
 use Rattle.line_server.specs.Sessions.{session_next}
 use Rattle.line_server.specs.Stores.{store_next}
-use Rattle.script_plan.specs.Planned.{calls_of, halt_of, takes_of, trace_of}
+use Rattle.lwp_serve.specs.Plan.Planned.{calls_of, halt_of, takes_of, trace_of}
 use Rattle.lwp_types.specs.Agents.{deliver}
 use Rattle.lwp_types.specs.Case.{unless}
 use Rattle.lwp_types.specs.State.{and_then, for_each, in_order}

@@ -1,6 +1,6 @@
 use Rattle.std.proofs.Common.{◌<◌, ◌∙◌, ap, arith, length-set, set, subst, sym}
 use Rattle.event_gate.proofs.ShelfLaws.{found_shelf, marks_put, on_err, one_more_left, set_same}
-use Rattle.event_marks.specs.Marks.{is_marked}
+use Rattle.lists.specs.EventMarks.{is_marked}
 use Rattle.std.specs.Prelude.{is_some, slice_get}
 use Rattle.event_gate.proofs.rack.Rack.add.Goals as goal
 

@@ -1,7 +1,7 @@
 use Rattle.std.proofs.Common.{◌<◌, ◌∙◌, ap, arith, length-set, set, slice_get, subst, sym}
 use Rattle.event_gate.proofs.ShelfLaws.{found_shelf, marks_put}
 use Rattle.event_gate.specs.Shelves.{after_next, after_take_from, first_left}
-use Rattle.event_marks.specs.Marks.{is_marked}
+use Rattle.lists.specs.EventMarks.{is_marked}
 use Rattle.event_gate.proofs.rack.Rack.next.Goals as goal
 
 pub invariant_of-self : goal.invariant_of-self

@@ -4,7 +4,7 @@ use Rattle.monitors.proofs.SlotLaws.{living-push}
 use Rattle.monitors.proofs.locks.Locks.acquire.Goals as goal
 use Rattle.std.proofs.Common.{Some, [], ap, arith, length, refl, ◌++◌, ◌∙◌, ◌∷◌}
 use Rattle.std.proofs.lemmas.List.{length_push}
-use Rattle.thread_index.specs.Living.{living}
+use Rattle.lists.specs.Living.{living}
 
 pub put-requires-clause-new : goal.put-requires-clause-new
 put-requires-clause-new c =

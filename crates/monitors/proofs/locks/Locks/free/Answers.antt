@@ -7,7 +7,7 @@ use Rattle.monitors.specs.Slots.{IsSlotOf}
 use Rattle.std.proofs.Common.{None, Some, ap, arith, get_or, length, set, subst, suc, sym, take, ◌∙◌, ◌≡◌}
 use Rattle.std.proofs.lemmas.Bool.{eqb-true}
 use Rattle.std.proofs.lemmas.List.{length-set, length-take-le}
-use Rattle.thread_index.specs.Living.{living}
+use Rattle.lists.specs.Living.{living}
 
 pub returns-in_default-clause-locks : goal.returns-in_default-clause-locks
 returns-in_default-clause-locks c =

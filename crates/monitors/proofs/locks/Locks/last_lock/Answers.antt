@@ -3,7 +3,7 @@ use Rattle.monitors.proofs.SlotLaws.{last_found}
 use Rattle.monitors.proofs.locks.Locks.last_lock.Goals as goal
 use Rattle.monitors.specs.Slots.{lock_in}
 use Rattle.std.proofs.Common.{ap, sym, ◌∙◌}
-use Rattle.thread_index.specs.Index.{place_of}
+use Rattle.lists.specs.ThreadIndex.{place_of}
 
 pub returns-in_err-slot : goal.returns-in_err-slot
 returns-in_err-slot c =

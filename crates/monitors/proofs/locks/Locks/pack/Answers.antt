@@ -1,7 +1,7 @@
 use Rattle.monitors.proofs.SlotLaws.{all_closed, length-closed, living-closed}
 use Rattle.monitors.proofs.locks.Locks.pack.Goals as goal
 use Rattle.std.proofs.Common.{ap, arith, length, ◌∙◌}
-use Rattle.thread_index.specs.Living.{living}
+use Rattle.lists.specs.Living.{living}
 
 pub refile-requires-clause-whole : goal.refile-requires-clause-whole
 refile-requires-clause-whole c = rw (c.deref.ensures.value, c.close_up.ensures.items) (all_closed c.args.self.now.slots.items)

@@ -5,7 +5,7 @@ use Rattle.monitors.proofs.locks.Locks.set_depth.Goals as goal
 use Rattle.monitors.specs.Slots.{IsSlotOf, deeper}
 use Rattle.std.proofs.Common.{None, ap, arith, get_or, length, option_map, refl, set, subst, sym, ◌∙◌}
 use Rattle.std.proofs.lemmas.List.{length-set}
-use Rattle.thread_index.specs.Living.{living}
+use Rattle.lists.specs.Living.{living}
 
 pub returns-in-Some-clause-tied : goal.returns-in-Some-clause-tied
 returns-in-Some-clause-tied c =

@@ -1,7 +1,7 @@
 use Rattle.monitors.proofs.Lines.{left-line}
 use Rattle.monitors.proofs.monitors.Monitors.forget.Goals as goal
 use Rattle.std.proofs.Common.{ap}
-use Rattle.thread_index.specs.Living.{living}
+use Rattle.lists.specs.Living.{living}
 
 pub returns : goal.returns
 returns c =

@@ -10,8 +10,8 @@ use Rattle.monitors.specs.declared.requests.EntryRequest.{EntryRequest}
 use Rattle.std.proofs.Common.{[], ap, map, sym, ◌++◌, ◌∙◌, ◌∷◌}
 use Rattle.std.proofs.lemmas.Bool.{eqb-true}
 use Rattle.std.specs.Prelude.{option_map}
-use Rattle.thread_index.specs.Living.{living}
-use Rattle.waiting_list.specs.Line.{is_for}
+use Rattle.lists.specs.Living.{living}
+use Rattle.lists.specs.WaitingList.Line.{is_for}
 
 pub returns-in_err-next-clause-value : goal.returns-in_err-next-clause-value
 returns-in_err-next-clause-value c =

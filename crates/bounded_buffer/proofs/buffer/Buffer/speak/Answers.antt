@@ -1,0 +1,5 @@
+use Rattle.bounded_buffer.proofs.buffer.Buffer.speak.Goals as goal
+use Rattle.std.proofs.Common.{rules}
+
+pub returns-in-Some : goal.returns-in-Some
+returns-in-Some c = search rules

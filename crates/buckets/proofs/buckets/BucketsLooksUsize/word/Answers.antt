@@ -1,6 +1,0 @@
-use Rattle.buckets.proofs.KeptLemmas.{word_says}
-use Rattle.buckets.proofs.buckets.BucketsLooksUsize.word.Goals as goal
-
-pub returns-clause-value : goal.returns-clause-value
-returns-clause-value g c i i_in =
-    rw (← c.self.view_is) (word_says c.self.inside.order c.self.inside.ready c.self.inside.prios.items c.self.inside.marks c.self.inside.levels c.self.invariant c.args.at i c.requires i_in)

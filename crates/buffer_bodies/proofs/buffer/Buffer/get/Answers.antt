@@ -1,5 +1,0 @@
-use Rattle.buffer_bodies.proofs.buffer.Buffer.get.Goals as goal
-use Rattle.std.proofs.Common.{rules}
-
-pub returns-in_ok-hand-in-Some : goal.returns-in_ok-hand-in-Some
-returns-in_ok-hand-in-Some c = search rules

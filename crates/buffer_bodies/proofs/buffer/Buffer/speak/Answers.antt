@@ -1,5 +1,0 @@
-use Rattle.buffer_bodies.proofs.buffer.Buffer.speak.Goals as goal
-use Rattle.std.proofs.Common.{rules}
-
-pub returns-in-Some : goal.returns-in-Some
-returns-in-Some c = search rules

@@ -1,5 +1,0 @@
-use Rattle.buffer_bodies.proofs.clients.Consumer.next.Goals as goal
-use Rattle.std.proofs.Common.{rules}
-
-pub returns-in-Reply : goal.returns-in-Reply
-returns-in-Reply c = search rules

@@ -1,5 +1,0 @@
-use Rattle.buffer_bodies.proofs.clients.Producer.next.Goals as goal
-use Rattle.std.proofs.Common.{rules}
-
-pub returns : goal.returns
-returns c = search rules

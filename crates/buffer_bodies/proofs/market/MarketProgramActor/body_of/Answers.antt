@@ -1,5 +1,0 @@
-use Rattle.buffer_bodies.proofs.market.MarketProgramActor.body_of.Goals as goal
-use Rattle.std.proofs.Common.{rules}
-
-pub returns : goal.returns
-returns c = search rules

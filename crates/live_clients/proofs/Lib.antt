@@ -1,6 +1,0 @@
-pub mod Sound
-pub mod Ties
-pub mod Served
-pub mod Back
-pub mod Seats
-pub mod Draining

@@ -1,5 +1,0 @@
-pub mod Ends
-pub mod Inlets
-pub mod Served
-pub mod Opening
-pub mod Ties

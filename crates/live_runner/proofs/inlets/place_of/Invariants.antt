@@ -1,6 +1,0 @@
-use Rattle.std.proofs.Common.{◌≤◌, map}
-use Rattle.live_runner.specs.Inlets.{AreBelow}
-use Rattle.live_runner.proofs.inlets.place_of.Given as goal
-
-abbrev pub invariant-loop-i : goal.invariant-loop-i
-invariant-loop-i g l = (l.from ≤ l.i) × AreBelow (map g.I.Inlet.intake l.inlets) l.from l.i l.event

@@ -1,0 +1,3 @@
+mod InputLaws
+mod EndLaws
+mod ToldLaws

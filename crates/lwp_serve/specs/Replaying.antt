@@ -1,0 +1,4 @@
+pub mod Input
+pub mod Texts
+pub mod Replay
+pub mod Found

@@ -1,5 +1,0 @@
-use Rattle.script_batch.proofs.planning.counts_at_end.Goals as goal
-use Rattle.std.proofs.Common.{rules}
-
-pub returns : goal.returns
-returns c = search rules

@@ -1,0 +1,38 @@
+// What a thread of a script runs.
+use line_server::{SessionBody, StoreBody};
+use lwp_types::{Answer, Body, Call, Env, NoMemory, Polled};
+use crate::ScriptBody;
+
+/// A thread's body: a procedure of statements, or one of the two that are built in.
+#[derive(Drop)]
+pub enum ThreadBody<'s> {
+    Scripted(ScriptBody<'s>),
+    Serving(SessionBody),
+    Storing(StoreBody<'s>),
+}
+
+impl<'s> Body for ThreadBody<'s> {
+    ghost use Rattle.script_body.specs.Bodies.{body_next};
+
+    ghost next = { body_next };
+}
+
+impl<'s> Polled<'s> for ThreadBody<'s> {
+    ghost use Rattle.script_body.specs.BodyLaws.{body_next-keeps_lengths};
+
+    #[inline(always)]
+    fn poll(
+        &mut self,
+        env: &mut Env,
+        got: &Answer<'s>,
+        call: &mut Call<'s>,
+    ) -> Result<(), NoMemory> {
+        match self {
+            ThreadBody::Scripted(body) => body.poll(env, got, call),
+            ThreadBody::Serving(body) => body.poll(env, got, call),
+            ThreadBody::Storing(body) => body.poll(env, got, call),
+        }
+    }
+
+    ghost keeps_lengths = { body_next-keeps_lengths };
+}

@@ -1,2 +1,0 @@
-pub mod PostLaws
-mod PlaceLaws

@@ -1,3 +1,0 @@
-pub mod Posted
-pub mod Places
-pub mod Stocked

@@ -1,5 +1,0 @@
-use Rattle.script_maker.proofs.draws.Draws.draw.Goals as goal
-use Rattle.std.proofs.Common.{rules}
-
-pub returns-clause-value : goal.returns-clause-value
-returns-clause-value c = search rules

@@ -1,5 +1,0 @@
-use Rattle.script_plan.proofs.make.summary_of.Goals as goal
-use Rattle.std.proofs.Common.{rules}
-
-pub returns : goal.returns
-returns c = search rules

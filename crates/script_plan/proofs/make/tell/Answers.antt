@@ -1,5 +1,0 @@
-use Rattle.script_plan.proofs.make.tell.Goals as goal
-use Rattle.std.proofs.Common.{rules}
-
-pub returns-clause-quiet : goal.returns-clause-quiet
-returns-clause-quiet c = search rules

@@ -1,0 +1,47 @@
+-- What becomes of a script that is read and printed.
+use Rattle.lwp_types.specs.Streams.{after_append}
+use Rattle.script_printer.specs.declared.failure.CopyFailure.{CopyFailure}
+use Rattle.script_printer.specs.declared.failure.CopyFailure.TheVariants as failure
+use Rattle.script_printer.specs.Printing.{text_of_script}
+use Rattle.script_text.specs.Grammar.{Spells}
+use Rattle.script_text.specs.Spelling.{verdict}
+use Rattle.script_text.specs.declared.reason.ReadErr.{ReadErr}
+use Rattle.script_text.specs.declared.reason.ReadErr.TheVariants as read_err
+use Rattle.script_text.specs.declared.script.Script.{Script}
+use Rattle.std.specs.Prelude.{Err, List, None, Option, Some, ℕ, ◌≡◌}
+use Rattle.streams.specs.declared.reading.ReadFailure.{ReadFailure}
+use Rattle.streams.specs.declared.reading.ReadFailure.TheVariants as read_failure
+
+-- the failure of a read that failed
+abbrev pub failure_of_read : ReadFailure → CopyFailure
+failure_of_read read_failure.Fault = failure.ReadFault
+failure_of_read read_failure.NoMemory = failure.NoMemory
+
+-- the failure where the bytes aren't read as a script
+abbrev pub copy_failure : ReadErr → CopyFailure
+copy_failure read_err.NoMemory = failure.NoMemory
+copy_failure (read_err.Bad line why) = failure.Script line why
+
+-- the status that the program ends with
+abbrev pub status_of : CopyFailure → ℕ
+status_of failure.ReadFault = 101
+status_of failure.WriteFault = 102
+status_of (failure.Script line why) = 103
+status_of failure.NoMemory = 106
+
+-- the bytes that the source had left spell this script, if it tells them
+abbrev pub Holds : Option (List ℕ) → Script → Type 0
+Holds None script = Unit {0}
+Holds (Some told) script = Spells told script
+
+-- behind what was written stands the printed text of the script that the source held
+abbrev pub Copies : Option (List ℕ) → Option (List ℕ) → Option (List ℕ) → Type 0
+Copies source before after = (script : Script) × Holds source script
+    × (after ≡ after_append before (text_of_script script))
+
+-- where the failure names a line, it is the first bad one of the bytes that the source had left, with the first reason
+-- that fits
+abbrev pub Refuses : Option (List ℕ) → CopyFailure → Type 0
+Refuses (Some told) (failure.Script line why) = verdict told ≡ Err (line, why)
+Refuses (Some told) _ = Unit {0}
+Refuses None _ = Unit {0}

@@ -1,0 +1,36 @@
+// A script that is read and printed.
+ghost use Rattle.std.specs.Prelude.{IfErr, IfOk, OnOk};
+ghost use Rattle.script_printer.specs.Copying.{Copies, Holds, Refuses};
+
+use crate::failure::CopyFailure;
+use crate::printing::print_script;
+use lwp_types::{Sink, Source};
+use script_text::{Script, read_script};
+use std::alloc::Global;
+use streams::{read_all, write_all};
+
+// The script that a source holds, which is read to its end.
+fn read<S: Source>(alloc: Global, source: &mut S) -> Result<Script, CopyFailure>
+    ensures held { IfOk result (λ script. Holds (S.left source.old) script) }
+    ensures refused { IfErr result (λ why. Refuses (S.left source.old) why) }
+{
+    let bytes = read_all(alloc, source)?;
+    let script = read_script(alloc, &bytes)?;
+    Ok(script)
+}
+
+/// Writes the script that a source holds as it is printed.
+pub fn copy<S: Source, K: Sink>(
+    alloc: Global,
+    source: &mut S,
+    sink: &mut K,
+) -> Result<(), CopyFailure>
+    ensures copied { OnOk result
+        (Copies (S.left source.old) (K.written sink.old) (K.written sink.new)) }
+    ensures refused { IfErr result (λ why. Refuses (S.left source.old) why) }
+{
+    let script = read(alloc, source)?;
+    let text = print_script(alloc, &script)?;
+    write_all(sink, &text)?;
+    Ok(())
+}

@@ -1,5 +1,0 @@
-use Rattle.script_program.proofs.body.ThreadBodyPolled.poll.Goals as goal
-use Rattle.std.proofs.Common.{rules}
-
-pub returns-in-Storing : goal.returns-in-Storing
-returns-in-Storing c = search rules

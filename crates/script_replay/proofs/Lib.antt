@@ -1,4 +1,0 @@
-pub mod StockLaws
-mod InputLaws
-mod EndLaws
-mod ToldLaws

@@ -1,6 +1,0 @@
-use Rattle.std.proofs.Common.{[], ◌≡◌}
-use Rattle.std.specs.Prelude.{replicate}
-use Rattle.script_replay.proofs.stock.no_places.Given as goal
-
-abbrev pub invariant-loop : goal.invariant-loop
-invariant-loop l = l.places.items ≡ replicate l.counter []

@@ -1,6 +1,0 @@
-pub mod Stock
-pub mod Compared
-pub mod Input
-pub mod Texts
-pub mod Replay
-pub mod Found

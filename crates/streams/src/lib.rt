@@ -1,0 +1,35 @@
+//! Bytes that are read to their end, written to their last, and counted; and the standard streams of a process.
+//!
+//! `write_all` writes bytes to a sink, however few of them each write takes. Its contract says: all of them come after what was
+//! written before; or a write failed, and the first of them do, but not the last (`AppendsPart` in `specs/Writing.antt`).
+//! `read_all` reads a source to its end, and gives all bytes that it had left; or it says why not, by `ReadFailure`, and some first
+//! part of them is gone. `read_up_to` does the same of a source of which no more than so many bytes may be read, and `feed_up_to` hands
+//! them on piece by piece (`specs/Limited.antt`). `specs/Streams.antt` has what a source or a sink is seen as before and after a call.
+//!
+//! A `CountSink` counts bytes and keeps none. What it was given is remembered in proofs alone. So a function that is proved for every
+//! sink, and says what it writes, says it of this one too, and the count is then the length of that.
+//!
+//! `StdSource` reads from standard input, and `StdSink` gathers what it is given and writes it to standard output. Both keep the
+//! rules that `lwp_types` has for every source and sink. They tell no bytes, since no contract can say what a stream of the process
+//! gives or takes; so a function that is proved for every source and sink says of these two how often they failed. A signal that
+//! comes in between is no failure. `GatheringSink::finish` writes what is gathered still, and leaves nothing where it answers Ok;
+//! `hand_on` does so in the midst of a run, and leaves it to the next write to tell of a failure. A write that failed is the last:
+//! the sink then refuses every other, and hands no byte on any more (`UntilFault`).
+//!
+//! The crate stands on `lwp_types`, whose sources and sinks these are.
+#![tactic(auto)]
+
+mod count;
+mod limited;
+mod reading;
+mod std_streams;
+mod told;
+mod until_fault;
+mod writing;
+
+pub use count::CountSink;
+pub use limited::{Feed, feed_up_to, read_up_to};
+pub use reading::{ReadFailure, read_all};
+pub use std_streams::{GATHERED, GatheringSink, StdSink, StdSource};
+pub use until_fault::UntilFault;
+pub use writing::write_all;

@@ -1,7 +1,0 @@
-use Rattle.std.proofs.Common.{ap, arith, length}
-use Rattle.std.proofs.lemmas.List.{length-map}
-use Rattle.text_list.specs.Texts.{text_in}
-use Rattle.text_list.proofs.list.TextList.len.Goals as goal
-
-pub returns : goal.returns
-returns c = omega (arith, c.len.ensures, length-map c.self.inside.spans.items (text_in c.self.inside.bytes.items), ap length c.self.view_is)

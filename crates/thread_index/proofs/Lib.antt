@@ -1,2 +1,0 @@
-pub mod LivingLemmas
-pub mod IndexLemmas

@@ -1,7 +1,0 @@
-use Rattle.std.proofs.Common.{length, take, ◌≡◌}
-use Rattle.timers.proofs.shelf.file.Given as goal
-use Rattle.thread_index.specs.Index.{width_of}
-use Rattle.timers.specs.Kept.{IsFiled}
-
-abbrev pub invariant-loop-leaf : goal.invariant-loop-leaf
-invariant-loop-leaf l = record { filed : IsFiled (take l.leaf l.leaves.items) l.dues l.index; len : length l.dues ≡ length l.fn.dues; width : width_of l.index ≡ width_of l.fn.index; room : l.index.room ≡ l.fn.index.room }

@@ -1,6 +1,0 @@
-use Rattle.std.proofs.Common.{sym, ◌∙◌}
-use Rattle.waiting_list.proofs.KeptLaws.{none_chosen}
-use Rattle.waiting_list.proofs.line.WaitingList.best.Goals as goal
-
-pub returns-in_err-at : goal.returns-in_err-at
-returns-in_err-at c = rw (← c.self.view_is) (c.from_residual.ensures ∙ sym (none_chosen c.args.what c.self.inside.entries.items c.in_err-at.ensures.none))

@@ -1,7 +1,0 @@
-use Rattle.std.proofs.Common.{map, take, ◌≡◌}
-use Rattle.std.specs.List.{filter}
-use Rattle.waiting_list.proofs.rows.tids_among.Given as goal
-use Rattle.waiting_list.specs.Entries.{is_entry_for}
-
-abbrev pub invariant-loop-i : goal.invariant-loop-i
-invariant-loop-i l = l.ids ≡ map (λ e. e.tid) (filter (is_entry_for l.what) (take l.i l.entries.items))

@@ -1,6 +1,0 @@
-use Rattle.std.proofs.Common.{drop, ◌++◌, ◌≡◌}
-use Rattle.waiting_list.proofs.RunLaws.{listed}
-use Rattle.waiting_list.proofs.rows.tids_filed.Given as goal
-
-abbrev pub invariant-loop-at : goal.invariant-loop-at
-invariant-loop-at l = listed l.entries.items l.what l.arrived.items ≡ l.ids ++ listed l.entries.items l.what (drop l.at l.arrived.items)

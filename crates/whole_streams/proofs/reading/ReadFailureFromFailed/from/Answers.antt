@@ -1,5 +1,0 @@
-use Rattle.std.proofs.Common.{rules}
-use Rattle.whole_streams.proofs.reading.ReadFailureFromFailed.from.Goals as goal
-
-pub returns : goal.returns
-returns c = search rules

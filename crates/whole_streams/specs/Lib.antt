@@ -1,5 +1,0 @@
-pub mod Streams
-pub mod Reading
-pub mod Limited
-pub mod Writing
-pub mod Counting
