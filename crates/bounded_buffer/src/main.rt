@@ -14,7 +14,6 @@ mod buffer;
 mod clients;
 mod market;
 
-
 ghost use Rattle.std.specs.Prelude.{IfOk, false, ◌≡◌};
 
 use crate::actor::Actor;

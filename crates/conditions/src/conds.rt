@@ -7,10 +7,10 @@ ghost use Rattle.conditions.specs.ConditionTable.{after_create, after_destroy, a
 use crate::WaitRec;
 use crate::rows::{list, row_of, take_out, take_out_of};
 use crate::waits::{is_waited, rec_of};
+use lists::{Waiting, WaitingList};
 use lwp_types::{Cid, CondRow, IdList, Mid, NoMemory, Tid};
 use std::alloc::Global;
 use std::marker::Model;
-use lists::{Waiting, WaitingList};
 
 // How many conditions may live at once.
 const MOST_LIVE: usize = 256;

@@ -3,8 +3,8 @@ ghost use Rattle.std.specs.Prelude.{◌≡◌, map};
 ghost use Rattle.conditions.specs.ConditionTable.{is_waited_in};
 ghost use Rattle.conditions.specs.Waits.{wait_in};
 
-use lwp_types::{Cid, Tid};
 use lists::{Waiting, WaitingList};
+use lwp_types::{Cid, Tid};
 
 /// A thread that waits on a condition: the priority that it was last given, and the depth at which it left the monitor.
 #[derive(Clone, Copy)]

@@ -1,6 +1,6 @@
 // What the program makes of its words and a script.
-use lwp_types::{MemSink, MemSource, NoMemory};
 use lwp_serve::{fault_text, no_gates, top};
+use lwp_types::{MemSink, MemSource, NoMemory};
 use std::alloc::Global;
 use std::sync::Wait;
 use std::thread::Threads;

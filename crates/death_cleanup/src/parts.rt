@@ -17,9 +17,9 @@ use crate::rows::Kind;
 use agents::Agents;
 use conditions::Conds;
 use lwp_types::{Block, Effects, Letter, LwpErr, Text, Tid};
-use rendezvous::Mail;
 use monitors::Monitors;
 use pod_sched::Sched;
+use rendezvous::Mail;
 use stale_ids::Registry;
 
 /// All that a pod holds.

@@ -34,9 +34,9 @@ use exc_stack::ExcStack;
 use lwp_types::{
     Block, Call, Effect, Effects, Family, Flags, NoMemory, PodEnd, PodParams, Text, Tid,
 };
-use rendezvous::Mail;
 use monitors::Monitors;
 use pod_sched::Sched;
+use rendezvous::Mail;
 use stale_ids::Registry;
 use std::alloc::Global;
 use std::marker::Model;

@@ -3,13 +3,13 @@ ghost use Rattle.std.specs.Prelude.{◌≡◌, ◌≤◌, IfSome, length, map, s
 ghost use Rattle.lwp_serve.specs.Words.{MayBe, TopSays, answers_by, batch_by, client_of, command_by, command_of, is_answers, is_batch, is_make, is_plan, is_replay, is_run, threads_of, turns_of};
 ghost use Rattle.streams.specs.Streams.{sides};
 
-use event_gate::PostGate;
-use lwp_types::{Sink, Source};
 use crate::answers::answers_main;
 use crate::batches::batch_main;
 use crate::maker::{Order, order_at};
 use crate::plan::{make_main, plan_main};
 use crate::replaying::replay_main;
+use event_gate::PostGate;
+use lwp_types::{Sink, Source};
 use script_run::run_main;
 use script_session::{Session, SessionEnd};
 use script_text::number_at;

@@ -9,8 +9,8 @@ ghost use Rattle.std.specs.Prelude.{◌≡◌, ◌≢◌};
 ghost use Rattle.std.specs.IoError.{error_kind};
 ghost use Rattle.script_session.specs.declared.session.SessionEnd.TheVariants.{NoMemory, Usage, WriteFault};
 
-use lwp_types::Failed;
 use lwp_serve::{Session, SessionEnd, fault_text, no_gates, top};
+use lwp_types::Failed;
 use std::io::{ErrorKind, Write};
 use std::process::ExitCode;
 use std::sync::Wait;

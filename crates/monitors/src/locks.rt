@@ -9,9 +9,9 @@ ghost use Rattle.lists.specs.ThreadIndex.{IsEmpty, Puts, count_of, place_of, wid
 ghost use Rattle.lists.specs.Living.{living};
 
 use crate::slots::{Link, close_up, deepen, last_on, link_of, lock_at};
+use lists::Index;
 use lwp_types::{Lock, Mid, NoMemory, Tid};
 use std::alloc::Global;
-use lists::Index;
 
 /// The locks.
 pub struct Locks {

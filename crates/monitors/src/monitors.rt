@@ -7,10 +7,10 @@ ghost use Rattle.monitors.specs.MonitorTable.{after_create, after_destroy, after
 
 use crate::live::{has, list, take_out};
 use crate::locks::Locks;
+use lists::{Waiting, WaitingList};
 use lwp_types::{IdList, Lock, Mid, NoMemory, Tid};
 use std::alloc::Global;
 use std::marker::Model;
-use lists::{Waiting, WaitingList};
 
 // How many monitors may live at once.
 const MOST_LIVE: usize = 256;

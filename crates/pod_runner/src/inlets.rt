@@ -9,9 +9,9 @@ ghost use Rattle.event_gate.specs.Inlet.{AllTold, EventsRise};
 ghost use Rattle.pod_runner.specs.Live.{LivesOn};
 ghost use Rattle.streams.specs.Streams.{sides};
 
+use crate::{Run, RunErr};
 use event_gate::Inlet;
 use lwp_types::{Polled, Program, Sink};
-use crate::{Run, RunErr};
 use std::sync::Wait;
 
 // Whether all passes came back to each.

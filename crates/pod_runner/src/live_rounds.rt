@@ -8,11 +8,10 @@ ghost use Rattle.pod_runner.specs.Run.{phase_now};
 ghost use Rattle.pod_runner.specs.declared.phase.Phase.TheVariants as phase;
 ghost use Rattle.streams.specs.Streams.{sides};
 
-use crate::Live;
 use crate::inlets::{all_told, serve_all};
+use crate::{Live, Phase, Run, RunErr};
 use event_gate::Inlet;
 use lwp_types::{Polled, Program, Sink};
-use crate::{Phase, Run, RunErr};
 use std::sync::Wait;
 use trace_text::Halt;
 

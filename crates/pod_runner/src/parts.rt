@@ -16,11 +16,11 @@ use crate::calls::made_among;
 use crate::row_list::RowList;
 use crate::rows::{proc_of, settle};
 use crate::{Made, Phase, Took};
+use lists::TextList;
 use lwp_calls::Pod;
 use lwp_types::{Call, Effects, Env, NoMemory, PodEnd, PodParams, Polled, Program, Tid};
 use pod_events::{Driven, EventPod};
 use std::alloc::Global;
-use lists::TextList;
 use trace_text::StepLines;
 
 // A call before which a trap is raised, and `out` has the lines of what that did: the effects tell the call themselves, if it was

@@ -11,12 +11,12 @@ ghost use Rattle.streams.specs.Streams.{sides};
 
 use crate::parts::RunParts;
 use crate::{Made, Phase, RunErr, TakeList, Took};
+use lists::TextList;
 use lwp_types::{Body, Env, Line, NoMemory, PodParams, Polled, Program, Sink};
 use std::alloc::Global;
 use std::marker::Model;
-use lists::TextList;
-use trace_text::StepLines;
 use streams::write_all;
+use trace_text::StepLines;
 
 /// A run of a program, seen as what it plays and how far it is; its session is the definition's.
 pub struct Run<'s, B: Body, P: Program<B>> {

@@ -2,10 +2,10 @@
 ghost use Rattle.std.specs.Prelude.{◌≡◌, ◌<◌, ◌∷◌, ◌++◌, [], length, slice_index_or, OnErr, OnOk};
 
 use crate::Took;
+use lists::TextList;
 use lwp_types::{Line, NoMemory};
 use std::alloc::Global;
 use std::marker::Model;
-use lists::TextList;
 
 /// A take without its text.
 #[derive(Clone, Copy)]

@@ -4,13 +4,13 @@ ghost use Rattle.lwp_types.specs.First.{FindsBest};
 ghost use Rattle.pod_sched.specs.Schedule.{IsOrdered, after_admit, after_block, after_leave, after_pop, after_resched, after_reserve, after_resume, after_set_priority, after_set_timer, after_suspend, after_tick, after_unblock, after_yield, choice, empty_schedule, first_due, first_of, has_timer, is_blocked_in, is_eligible_in, knows, prio_in, priority_in, with_maxpri};
 
 use crate::Bucket;
-use crate::turns::Turns;
 use crate::buckets::Steps;
+use crate::timers::Timers;
+use crate::turns::Turns;
 use lwp_types::{NoMemory, Tid};
 use std::alloc::Global;
 use std::marker::Model;
 use std::sync::ledger::Ledger;
-use crate::timers::Timers;
 
 /// Who is known, who may run after whom, and who waits for the clock until when.
 pub struct Sched {

@@ -5,9 +5,9 @@ ghost use Rattle.pod_sched.specs.Schedule.{IsOrdered, after_admit, after_block, 
 
 use crate::Known;
 use crate::bucket::{self, Bucket};
+use crate::buckets::{Buckets, Looks, Steps, first_of_last};
 use crate::index::{self, Index};
 use crate::rows::{LEVELS, extend_rows, free_slots, may_run, put_row, row_at};
-use crate::buckets::{Buckets, Looks, Steps, first_of_last};
 use lists::Chains;
 use lwp_types::{NoMemory, Tid};
 use std::alloc::Global;

@@ -6,10 +6,9 @@ ghost use Rattle.rendezvous.specs.Kept.{IsFiled, IsSound};
 ghost use Rattle.rendezvous.specs.Slots.{IsFirstIn, IsOnce, is_unread_by, slot_at};
 ghost use Rattle.lists.specs.ThreadIndex.{count_of, place_of};
 
-use lists::Chains;
+use lists::{Chains, Index};
 use lwp_types::{Letter, NoMemory, Tid};
 use std::alloc::Global;
-use lists::Index;
 
 /// Finds letters in their slots.
 pub struct Directory {

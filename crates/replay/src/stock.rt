@@ -6,9 +6,9 @@ ghost use Rattle.replay.specs.Stock.{AreFrom, with_place, without_first};
 ghost use Rattle.script_text.specs.Script.{lines_posted};
 ghost use Rattle.std.specs.Prelude.{IfOk, OnOk, [], length, replicate, ◌<◌, ◌≡◌};
 
+use crate::Posted;
 use crate::places::Places;
 use lwp_types::{Line, NoMemory, Text};
-use crate::Posted;
 use script_text::Script;
 use std::alloc::Global;
 use std::marker::Model;

@@ -7,8 +7,8 @@ ghost use Rattle.script_text.specs.Limits.{IsWithinLimits};
 ghost use Rattle.std.specs.Prelude.{IfOk, length, ◌≡◌, ◌≤◌};
 
 use crate::stock::ScriptLines;
-use lwp_types::{Env, NoMemory, PodParams, Polled, Program};
 use crate::{Replayed, follow_recorded};
+use lwp_types::{Env, NoMemory, PodParams, Polled, Program};
 use script_text::Script;
 use std::alloc::Global;
 

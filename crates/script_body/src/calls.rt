@@ -5,9 +5,9 @@ ghost use Rattle.script_text.specs.Script.{proc_number, proc_places};
 ghost use Rattle.script_body.specs.Calls.{who_id, exit_call_of, plain_call, lock_call, thread_call, call_of};
 
 use crate::numbers::proc_number;
+use lists::TextList;
 use lwp_types::{Call, Env, ExitCall, Flags, NULL_TID, Tid};
 use script_text::{ExitStmt, Script, Stmt, Who};
-use lists::TextList;
 
 /// Makes it a return.
 pub fn set_return(call: &mut Call)

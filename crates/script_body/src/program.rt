@@ -3,10 +3,10 @@ ghost use Rattle.script_body.specs.Bodies.{native_body};
 ghost use Rattle.std.specs.Prelude.{◌≡◌, ◌<◌, ◌^◌, ◌+◌, length, slice_index};
 ghost use Rattle.script_text.specs.Script.{proc_places};
 
+use crate::ScriptBody;
 use crate::thread_body::ThreadBody;
 use line_server::{SessionBody, StoreBody};
 use lwp_types::{NoMemory, Program};
-use crate::ScriptBody;
 use script_text::{NativeKind, Script};
 use std::alloc::Global;
 use std::marker::Model;

@@ -1,7 +1,7 @@
 // What a thread of a script runs.
+use crate::ScriptBody;
 use line_server::{SessionBody, StoreBody};
 use lwp_types::{Answer, Body, Call, Env, NoMemory, Polled};
-use crate::ScriptBody;
 
 /// A thread's body: a procedure of statements, or one of the two that are built in.
 #[derive(Drop)]

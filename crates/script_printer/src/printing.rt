@@ -12,11 +12,11 @@ use crate::lines::{
     agent_line, cond_line, create_line, cv_create_line, handle_line, mon_line, number_line,
     proc_line, receive_line, send_line, skip_line, text_line, with_session, with_whom,
 };
+use lists::TextList;
 use lwp_types::NoMemory;
 use script_lines::{Op, Phrase, Whom, blank};
 use script_text::{ExitStmt, NameList, Names, Native, NativeKind, Post, Proc, Script, Stmt, Who};
 use std::alloc::Global;
-use lists::TextList;
 use trace_text::{add_number, add_text};
 
 // ---- Statements.

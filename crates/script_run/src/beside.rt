@@ -8,11 +8,10 @@ ghost use Rattle.pod_runner.specs.Live.{Answers, Halts};
 ghost use Rattle.std.specs.Prelude.{IfOk, OnOk, Some, false, ◌≡◌};
 ghost use Rattle.streams.specs.Streams.{sides};
 
-use event_gate::Bell;
 use crate::{AllPosted, Outside, closed_are_served, draws_keep_ties};
-use pod_runner::{Live, run_live};
+use event_gate::Bell;
 use lwp_types::Sink;
-use pod_runner::{Run, RunErr};
+use pod_runner::{Live, Run, RunErr, run_live};
 use script_body::{ScriptProgram, ThreadBody};
 use std::sync::Wait;
 use std::thread::Threads;

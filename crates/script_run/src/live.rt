@@ -14,8 +14,8 @@ ghost use Rattle.streams.specs.Streams.{sides};
 
 use crate::beside::{WholeRun, go_to_end};
 use crate::clients::{client_texts, counts_behind};
-use event_gate::{Bell, PostGate};
 use crate::{AllPosted, Outside};
+use event_gate::{Bell, PostGate};
 use lwp_types::{Sink, Source, Text};
 use pod_runner::{Run, RunErr};
 use script_body::{ScriptProgram, ThreadBody};
@@ -24,8 +24,8 @@ use script_text::Script;
 use std::alloc::Global;
 use std::sync::Wait;
 use std::thread::{self, Scope, Threads};
-use trace_text::end_lines;
 use streams::write_all;
+use trace_text::end_lines;
 
 /// A session of a script whose lines are posted by threads, and behind its own end, be it ended, stuck or spent, that these have posted
 /// all of them.

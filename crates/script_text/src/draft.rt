@@ -6,10 +6,10 @@ ghost use Rattle.script_text.specs.declared.script.Stmt.TheVariants as stmt;
 use crate::counts::Counts;
 use crate::names::NameList;
 use crate::{ExitStmt, Names, Native, NativeKind, Post, Proc, Script, Stmt, Who};
+use lists::TextList;
 use lwp_types::{NoMemory, Sequence};
 use script_lines::{Op, Phrase, Role, Whom};
 use std::alloc::Global;
-use lists::TextList;
 
 /// The script of the lines so far, the procedure to which the next statement goes, and how many lines each client has posted.
 pub struct Draft {

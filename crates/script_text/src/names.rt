@@ -1,11 +1,11 @@
 // Names and their numbers.
 ghost use Rattle.std.specs.Prelude.{◌≡◌, ◌≤◌, IfOk, OnErr};
 
+use crate::WordIndex;
+use lists::TextList;
 use lwp_types::{NoMemory, is_text};
 use std::alloc::Global;
 use std::marker::Model;
-use lists::TextList;
-use crate::WordIndex;
 
 /// Names in the order in which they first appear, seen as their list. They lie in one piece of memory, each at its own length. A
 /// name is found in the order of names, and not by a hash.

@@ -1,8 +1,8 @@
 // A script as a program sees it. A name or a text is the place at which it stands in the list of its kind.
 use crate::names::NameList;
+use lists::TextList;
 use lwp_types::{Flags, Func, Mode, Pattern, Sequence};
 use script_lines::Test;
-use lists::TextList;
 
 /// Whom a statement speaks of: a name, the thread itself, thread 0, the sender of the letter received last, nobody.
 #[derive(Clone, Copy)]

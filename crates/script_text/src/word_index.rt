@@ -2,8 +2,8 @@
 ghost use Rattle.std.specs.Prelude.{◌≡◌, None, OnErr, OnOk, Some};
 ghost use Rattle.script_text.specs.WordIndex.{Puts, bare, number_of};
 
-use crate::word_digits::Digits;
 use crate::packed_words::packed;
+use crate::word_digits::Digits;
 use lwp_types::NoMemory;
 use std::alloc::Global;
 use std::collections::BTreeMap;

@@ -2,8 +2,8 @@ ghost use Rattle.std.specs.Prelude.{◌≡◌, ◌+◌, ◌≤◌, [], All, IfOk
 ghost use denote.Param.Send.{IsSync};
 
 use event_gate::{Bell, Gate, ListGate, NoGate, PostEnd, Poster, Taker, open_port, post_all};
-use script_run::{Job, join, start};
 use lwp_types::{Line, NoMemory, Text};
+use script_run::{Job, join, start};
 use std::alloc::Global;
 use std::snapshot::Snapshot;
 use std::sync::Wait;

@@ -5,8 +5,8 @@ ghost use denote.Param.Send.{IsSync};
 
 use crossbeam_utils::atomic::AtomicCell;
 use event_gate::{Bell, Inlet, PostGate};
-use script_run::{AllPosted, AnyInlet, Outside, draws_keep_ties};
 use lwp_types::{NoMemory, Text};
+use script_run::{AllPosted, AnyInlet, Outside, draws_keep_ties};
 use std::alloc::Global;
 use std::sync::Wait;
 use std::sync::atomic::{AtomicU64, Ordering};

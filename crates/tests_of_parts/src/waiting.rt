@@ -2,8 +2,8 @@ ghost use Rattle.std.specs.Prelude.{◌≡◌};
 ghost use Rattle.lists.specs.WaitingList.Line.{empty_line};
 
 use crate::lists::holds;
-use lwp_types::Tid;
 use lists::{Waiting, WaitingList};
+use lwp_types::Tid;
 
 const A: Tid = Tid { number: 1 };
 

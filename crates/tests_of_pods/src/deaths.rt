@@ -15,9 +15,9 @@ use exc_stack::ExcStack;
 use lwp_types::{
     Answer, Block, Cid, Effect, Effects, ExitCall, Flags, Letter, LwpErr, Mid, NoMemory, Text, Tid,
 };
-use rendezvous::Mail;
 use monitors::Monitors;
 use pod_sched::Sched;
+use rendezvous::Mail;
 use stale_ids::Registry;
 use std::alloc::Global;
 

@@ -1,11 +1,11 @@
 ghost use Rattle.std.specs.Prelude.{◌≡◌, []};
 
+use lists::TextList;
 use lwp_types::{Effect, Effects, Line, MemSink, NoMemory, Text, Tid};
 use std::alloc::Global;
 use std::test::Fail;
-use lists::TextList;
-use trace_text::StepLines;
 use streams::write_all;
+use trace_text::StepLines;
 
 fn push_three(effects: &mut Effects)
     requires { effects.old ≡ [] }

@@ -4,8 +4,8 @@ ghost use Rattle.std.specs.Prelude.{◌≤◌};
 
 use crossbeam_utils::atomic::AtomicCell;
 use event_gate::PostGate;
-use lwp_types::{Failed, MemSource, NoMemory, Sink};
 use lwp_serve::run_main;
+use lwp_types::{Failed, MemSource, NoMemory, Sink};
 use std::alloc::Global;
 use std::sync::Wait;
 use std::test::Fail;

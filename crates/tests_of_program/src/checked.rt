@@ -1,6 +1,6 @@
 // A recorded trace before its script: what comes of a read or a write that fails. The corpus has what comes of inputs.
-use lwp_types::{MemSink, MemSource, NoMemory};
 use lwp_serve::{SessionEnd, replay_main};
+use lwp_types::{MemSink, MemSource, NoMemory};
 use std::alloc::Global;
 use std::test::Fail;
 

@@ -1,8 +1,8 @@
 // Many scripts at once: what comes of a read or a write that fails. The corpus has what comes of inputs.
 ghost use Rattle.std.specs.Prelude.{◌≤◌};
 
-use lwp_types::{MemSink, MemSource, NoMemory};
 use lwp_serve::{SessionEnd, batch_main};
+use lwp_types::{MemSink, MemSource, NoMemory};
 use std::alloc::Global;
 use std::test::Fail;
 use std::thread::Threads;

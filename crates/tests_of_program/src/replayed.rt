@@ -5,10 +5,10 @@ ghost use Rattle.script_text.specs.Limits.{IsWithinLimits};
 
 use crossbeam_utils::atomic::AtomicCell;
 use event_gate::PostGate;
+use lwp_serve::{ScriptProgram, Session, Taken, ThreadBody, run_main};
 use lwp_types::{Env, Line, MemSink, MemSource, NoMemory, PodParams};
 use pod_runner::{Phase, Run, RunErr};
 use script_text::{Script, read_script};
-use lwp_serve::{ScriptProgram, Session, Taken, ThreadBody, run_main};
 use std::alloc::Global;
 use std::sync::Wait;
 use std::test::Fail;

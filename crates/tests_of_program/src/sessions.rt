@@ -1,5 +1,5 @@
-use lwp_types::{MemSink, MemSource, NoMemory};
 use lwp_serve::{Session, SessionEnd, fault_text, make_main, plan_main};
+use lwp_types::{MemSink, MemSource, NoMemory};
 use std::alloc::Global;
 use std::test::Fail;
 

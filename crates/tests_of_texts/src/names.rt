@@ -1,8 +1,7 @@
 use lwp_types::NoMemory;
-use script_text::NameList;
+use script_text::{NameList, WordIndex};
 use std::alloc::Global;
 use std::test::Fail;
-use script_text::WordIndex;
 
 // Words that differ in their length, in their last byte, in a byte that is 0, and in a byte behind the sixteenth.
 const WORDS: [&[u8]; 10] = [

@@ -1,8 +1,8 @@
+use lists::TextList;
 use lwp_types::{
     Answer, Call, Effect, Effects, Flags, Func, Line, LwpErr, Mode, NoMemory, Pattern, Text, Tid,
 };
 use std::alloc::Global;
-use lists::TextList;
 use trace_text::*;
 
 const FLAGS: Flags = Flags {

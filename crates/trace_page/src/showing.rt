@@ -8,8 +8,8 @@ use crate::page::{PageErr, add_page};
 use crate::words::{Window, window_of};
 use lwp_types::{NoMemory, Sink, Source};
 use std::alloc::Global;
-use trace_text::{add_number, add_text};
 use streams::{ReadFailure, read_all, write_all};
+use trace_text::{add_number, add_text};
 
 /// How the program ends.
 #[derive(Clone, Copy)]

@@ -8,11 +8,11 @@ use crate::rows::{
     put_flags, put_func, put_id, put_mode, put_number, put_pattern, put_proc, put_source,
     put_spaced, put_who, put_word,
 };
+use lists::TextList;
 use lwp_types::{
     AgentCall, Call, ConditionCall, ExceptionCall, ExitCall, Family, Flags, Func, MessageCall,
     Mode, MonitorCall, Pattern, PodCall, Text, ThreadCall, Tid, TurnCall,
 };
-use lists::TextList;
 
 // A word and a thread.
 #[inline(always)]

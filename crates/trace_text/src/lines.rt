@@ -6,9 +6,9 @@ use crate::answers::add_answer;
 use crate::calls::{put_call, put_exit, put_word_id, put_word_number};
 use crate::room::make_room;
 use crate::rows::{put_byte, put_id, put_number, put_spaced, put_word};
+use lists::TextList;
 use lwp_types::{Answer, Call, Effect, Effects, ExitCall, Line, NoMemory, Tid};
 use std::alloc::Global;
-use lists::TextList;
 
 // Who posted a line, and as which of its own, and the line's text.
 #[inline(always)]

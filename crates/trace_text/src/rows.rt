@@ -5,8 +5,8 @@ ghost use Rattle.trace_text.specs.Pairs.{pair_of, pairs_from};
 ghost use Rattle.trace_text.specs.Lines.{with_space, id_text, who_text, proc_text, letter_if, flags_text, source_text, mode_text, pattern_text, func_text, error_text};
 
 use itoa::Buffer;
-use lwp_types::{Flags, Func, LwpErr, Mode, Pattern, Text, Tid};
 use lists::TextList;
+use lwp_types::{Flags, Func, LwpErr, Mode, Pattern, Text, Tid};
 
 // A byte.
 #[inline(always)]

@@ -4,10 +4,10 @@ ghost use Rattle.lwp_types.specs.declared.call.Effect.TheVariants as Effect;
 ghost use Rattle.trace_text.specs.Lines.{step_lines};
 
 use crate::lines::{add_call_line, add_lines};
+use lists::TextList;
 use lwp_types::{Call, Effects, Line, NoMemory, Tid};
 use std::alloc::Global;
 use std::marker::Model;
-use lists::TextList;
 
 /// The lines of a step, seen as their bytes, in memory that the lines of the next step are put into.
 #[derive(Drop)]

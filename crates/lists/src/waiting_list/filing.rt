@@ -5,11 +5,11 @@ ghost use Rattle.std.specs.VecDeque.{deque_capacity};
 ghost use Rattle.lists.specs.ThreadIndex.{IsEmpty, Puts, count_of, place_of, width_of};
 ghost use Rattle.lists.specs.WaitingList.Entries.{IsFiled, IsIndexed, IsKnown, IsLike, IsOnce, IsPrioritized, IsSortedOut, arrival_key, arrivals, rank_of, waiting_of, with_arrivals};
 
+use crate::Index;
 use crate::waiting_list::keys::{self, Key};
 use crate::waiting_list::rows::{Entry, arrival_key, rank_of, take_out};
 use lwp_types::{NoMemory, Tid};
 use std::collections::VecDeque;
-use crate::Index;
 
 // Each is numbered by its place.
 fn renumber(entries: &mut VecDeque<Entry>)

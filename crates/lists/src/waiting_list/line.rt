@@ -3,6 +3,7 @@ ghost use Rattle.std.specs.Prelude.{◌≡◌, ◌<◌, ◌≤◌, false, length
 ghost use Rattle.std.specs.List.{list_any};
 ghost use Rattle.lists.specs.WaitingList.Line.{after_join, after_leave, after_reserve, after_set_priority, best_for, empty_line, first_for, thread_waiting_for, has_thread, is_for, waiting_for};
 
+use crate::Index;
 use crate::waiting_list::Waiting;
 use crate::waiting_list::filing::{dismiss, file_next, next_arrival, prioritize, widen};
 use crate::waiting_list::keys::Key;
@@ -13,7 +14,6 @@ use lwp_types::{IdList, NoMemory, Tid};
 use std::alloc::Global;
 use std::collections::VecDeque;
 use std::marker::Model;
-use crate::Index;
 
 /// Threads that wait, each for one thing.
 pub struct WaitingList {

@@ -4,11 +4,11 @@ ghost use Rattle.std.specs.List.{filter, remove};
 ghost use Rattle.std.specs.VecDeque.{deque_capacity};
 ghost use Rattle.lists.specs.WaitingList.Entries.{AreAlike, AreRising, IsAt, IsBestAt, IsFiled, IsFirstAt, IsFrontAt, IsIndexed, IsKnown, IsThreadAt, arrival_key, arrivals, entry_of, has_arrival, is_entry_for, is_entry_of, rank_of, tid_in, waiting_of};
 
+use crate::Index;
 use crate::waiting_list::keys::{self, Key};
 use lwp_types::{IdList, NoMemory, Tid};
 use std::alloc::Global;
 use std::collections::VecDeque;
-use crate::Index;
 
 /// A thread that waits for something, with the priority that it was last given, and a depth that it is to have back.
 #[derive(Clone, Copy)]

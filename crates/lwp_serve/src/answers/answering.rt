@@ -14,13 +14,12 @@ use crate::answers::notes::Notes;
 use crate::answers::silent::Silent;
 use lwp_types::{Sink, Source};
 use pod_runner::{Made, Run, RunErr, go_round};
-use script_body::{ScriptGate, stock};
-use script_body::{ScriptProgram, ThreadBody};
+use script_body::{ScriptGate, ScriptProgram, ThreadBody, stock};
 use script_session::{Session, SessionEnd, end_of, read_whole, session_of, start};
 use script_text::Script;
 use std::alloc::Global;
-use trace_text::Halt;
 use streams::write_all;
+use trace_text::Halt;
 
 // The event of a client, if it is declared.
 fn event_of(script: &Script, client: u8) -> Option<u8>

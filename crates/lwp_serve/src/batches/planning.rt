@@ -5,9 +5,9 @@ ghost use Rattle.script_body.specs.Posted.{IsPosted};
 ghost use Rattle.script_text.specs.Limits.{IsWithinLimits};
 
 use crate::batches::report::{Counts, bad_text, counts_text};
+use crate::plan::{is_over, play_script};
 use batch::Job;
 use lwp_types::NoMemory;
-use crate::plan::{is_over, play_script};
 use script_session::Session;
 use script_text::{ReadErr, Script, read_script};
 use std::alloc::Global;

@@ -10,10 +10,10 @@ ghost use Rattle.script_text.specs.declared.script.Script.{Script as AnyScript};
 ghost use Rattle.streams.specs.Writing.{AppendsPart};
 ghost use Rattle.streams.specs.Streams.{sides};
 
+use crate::maker::{Summary, made_spells, make_script, summary_lines};
 use crate::plan::session::play_script;
 use lwp_types::{NoMemory, Sink};
 use pod_runner::RunErr;
-use crate::maker::{Summary, made_spells, make_script, summary_lines};
 use script_session::{Session, SessionEnd};
 use script_text::{ReadErr, Script, read_script};
 use std::alloc::Global;

@@ -11,13 +11,12 @@ ghost use Rattle.streams.specs.Streams.{sides};
 use crate::plan::lines::counts_left;
 use lwp_types::{Sink, Source};
 use pod_runner::{Run, RunErr, run};
-use script_body::{ScriptGate, stock};
-use script_body::{ScriptProgram, ThreadBody};
+use script_body::{ScriptGate, ScriptProgram, ThreadBody, stock};
 use script_session::{Session, SessionEnd, end_of, read_whole, session_of, start};
 use script_text::Script;
 use std::alloc::Global;
-use trace_text::{Halt, end_lines};
 use streams::write_all;
+use trace_text::{Halt, end_lines};
 
 // A run over a gate goes on to its end, and then what stands behind its lines is written. It stands apart, so that the loop of a run
 // isn't part of a function with many more locals.

@@ -9,10 +9,10 @@ ghost use Rattle.pod_sched.specs.Timers.Leaves.{IsOnce, after_pack, after_take, 
 ghost use Rattle.lists.specs.Living.{living};
 
 use crate::timers::minima::{Minima, NEVER};
+use lists::Index;
 use lwp_types::{NoMemory, Tid, TimerRow};
 use std::alloc::Global;
 use std::marker::Model;
-use lists::Index;
 
 /// Leaves in the order in which timers were set. A leaf is empty once its timer is gone.
 pub struct Shelf {
