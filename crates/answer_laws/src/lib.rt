@@ -33,8 +33,8 @@
 //! difference: a trap is the end of whoever has no handler, and a store that lives in the end has met none.
 //!
 //! It stands on the bodies of `line_server`, on the laws of the machine in `pod_laws`, on the events of `pod_events`, and on the sessions of
-//! `pod_runner` with their laws in `session_laws`; that scripts are such sessions it takes from `script_program`, and what is written of a client from
-//! `script_answers`.
+//! `pod_runner` with their laws in `session_laws`; that scripts are such sessions it takes from `script_body`, and what is written of a client from
+//! `lwp_serve`.
 #![tactic(auto)]
 
 pub mod rows;

@@ -3,8 +3,8 @@
 //! The contract of each call is one equation between lists: the live monitors, the held locks in the order of their
 //! acquisition, the requests in the order of their arrival (`specs/MonitorTable.antt`). It says for the monitors by
 //! themselves what the machine of `lwp_types` does to a pod's; the operations on locks are cited from there. A request
-//! keeps its thread's priority, which the machine looks up. Requests stand in a `waiting_list`, and locks are found by
-//! `thread_index`.
+//! keeps its thread's priority, which the machine looks up. Requests stand in a `WaitingList` of `lists`, and locks are
+//! found by its `Index`.
 #![tactic(auto)]
 
 mod laws;

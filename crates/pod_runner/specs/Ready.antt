@@ -1,4 +1,4 @@
--- What a run is before a step: what the private functions of a run need of it, here and in `live_runner`. Whoever calls
+-- What a run is before a step: what the private functions of a run need of it, over gates and over inlets. Anyone who calls
 -- a run from without sees the session alone.
 use Rattle.lwp_types.specs.Poll.{Next}
 use Rattle.pod_runner.specs.Due.{IsDefined}

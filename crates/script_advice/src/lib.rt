@@ -12,7 +12,7 @@
 //! law). `add_form` writes what may stand in a line of a kind, and `nearest_op` finds the kind whose key is nearly what stands there.
 //!
 //! The crate stands on `script_text`, whose verdict this is, on `script_lines`, whose table of lines is the only one, on the buffers of
-//! `trace_text`, and reads and writes by `whole_streams`.
+//! `trace_text`, and reads and writes by `streams`.
 #![tactic(auto)]
 
 mod advice;

@@ -6,7 +6,7 @@
 //! made; `fault_text` is what is said of an end on standard error.
 //!
 //! `specs/SoFar.antt` has what a script's session is, and `specs/Said.antt` what each end says of the source, whatever is said of
-//! the script. The crate stands on the reader of `script_text`, the program of `script_program` and the runs of `pod_runner`.
+//! the script. The crate stands on the reader of `script_text`, the program of `script_body` and the runs of `pod_runner`.
 #![tactic(auto)]
 
 mod opening;

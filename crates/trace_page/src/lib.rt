@@ -10,7 +10,7 @@
 //! behind each line and what is drawn for it; `Shapes.antt` and `Frame.antt` are the text of that, by the measures of
 //! `Measures.antt`.
 //!
-//! The crate stands on `trace_lines`, which reads the lines, on `trace_text` for numbers, and reads and writes by `whole_streams`.
+//! The crate stands on `trace_lines`, which reads the lines, on `trace_text` for numbers, and reads and writes by `streams`.
 #![tactic(auto)]
 
 mod frame;

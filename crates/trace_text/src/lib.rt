@@ -6,7 +6,8 @@
 //! has room, and only an answer that lists numbers may ask for more within its line. Numbers of up to six digits, which are nearly
 //! all, are put by two digits at a time, and longer ones by the kit's `itoa`.
 //!
-//! The crate stands on the words of `lwp_types` and the names of `text_list`. What scripts and traces write alike, such as flags and patterns, is here too.
+//! The crate stands on the words of `lwp_types` and the texts of `lists`. What scripts and traces write alike, such as flags and patterns, is
+//! here too.
 #![tactic(auto)]
 
 mod answers;
