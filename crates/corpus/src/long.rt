@@ -10,7 +10,7 @@ fn times(file: &[u8]) -> Option<(u32, &[u8])> {
     Some((count, text))
 }
 
-/// The text behind the first line of the file, as often as that line says; nothing, where it says no number.
+/// The text after the first line of the file, as often as that line says; nothing, where it says no number.
 pub fn repeated(alloc: Global, file: &[u8]) -> Result<Vec<u8>, NoMemory> {
     let mut script = Vec::new(alloc);
     if let Some((count, text)) = times(file) {

@@ -1,77 +1,39 @@
-// What the program makes of its words and a script.
-use lwp_serve::{fault_text, no_gates, top};
+// What a program makes of its words and its input, over streams in memory of which none fails.
 use lwp_types::{MemSink, MemSource, NoMemory};
 use std::alloc::Global;
-use std::sync::Wait;
-use std::thread::Threads;
-use stored_rows::{Damage, damaged};
 
-// A trace has room for so many bytes, of which the sink takes at most so many at once.
+// What is written has room for so many bytes, of which the sink takes at most so many at once.
 const ROOM: usize = 4_194_304;
 
 const PER_CALL: usize = 1000;
 
-/// The status that a session ends with, and its text: the trace, and behind it what is said on standard error.
+/// The status that a program ends with, and its text: what it writes, followed by what it says on standard error.
 #[derive(Drop)]
 pub struct Outcome {
     pub status: u8,
     pub text: Vec<u8>,
 }
 
-/// The session of these words, over streams in memory of which none fails.
-pub fn session<R: Threads + Wait + Sync>(
-    rt: &R,
-    alloc: Global,
-    words: &Vec<String>,
-    script: &[u8],
-) -> Result<Outcome, NoMemory> {
-    let mut source = MemSource::new(script.to_vec(alloc)?, Vec::new(alloc));
-    let mut sink = MemSink::new(alloc, ROOM, PER_CALL, Vec::new(alloc))?;
-    let gates = no_gates(alloc)?;
-    let session = top(rt, alloc, words, &mut source, &mut sink, gates);
-    let mut text = sink.bytes().to_vec(alloc)?;
-    text.extend_from_slice(fault_text(alloc, &session.end)?.as_slice())?;
-    Ok(Outcome {
-        status: session.status,
-        text,
-    })
+/// The streams of a program.
+#[derive(Drop)]
+pub struct Streams {
+    pub source: MemSource,
+    pub sink: MemSink,
 }
 
-// Runs the script so damaged, and adds what came of it.
-fn add_damaged<R: Threads + Wait + Sync>(
-    rt: &R,
-    alloc: Global,
-    words: &Vec<String>,
-    script: &[u8],
-    damage: Damage,
-    all: &mut Outcome,
-) -> Result<(), NoMemory> {
-    let one = session(rt, alloc, words, damaged(alloc, script, damage)?.as_slice())?;
-    let status = one.status;
-    let head = format!(in alloc; "{damage}: {status}\n")?;
-    all.status = all.status.max(status);
-    all.text.extend_from_slice(head.as_bytes())?;
-    all.text.extend_from_slice(one.text.as_slice())?;
-    Ok(())
-}
+impl Streams {
+    /// Streams of which the source gives these bytes.
+    pub fn new(alloc: Global, given: Vec<u8>) -> Result<Streams, NoMemory> {
+        Ok(Streams {
+            source: MemSource::new(given, Vec::new(alloc)),
+            sink: MemSink::new(alloc, ROOM, PER_CALL, Vec::new(alloc))?,
+        })
+    }
 
-/// The sessions of a script cut at each length and with each byte zeroed, one behind the other, each headed by its damage and
-/// its status; the status is the greatest of theirs.
-pub fn damaged_sessions<R: Threads + Wait + Sync>(
-    rt: &R,
-    alloc: Global,
-    words: &Vec<String>,
-    script: &[u8],
-) -> Result<Outcome, NoMemory> {
-    let mut all = Outcome {
-        status: 0,
-        text: Vec::new(alloc),
-    };
-    for count in 0..=script.len() {
-        add_damaged(rt, alloc, words, script, Damage::Cut(count), &mut all)?;
+    /// The outcome of a program that has written to the sink, ended with this status and said this on standard error.
+    pub fn outcome(&self, alloc: Global, status: u8, said: &[u8]) -> Result<Outcome, NoMemory> {
+        let mut text = self.sink.bytes().to_vec(alloc)?;
+        text.extend_from_slice(said)?;
+        Ok(Outcome { status, text })
     }
-    for count in 0..script.len() {
-        add_damaged(rt, alloc, words, script, Damage::Zero(count), &mut all)?;
-    }
-    Ok(all)
 }

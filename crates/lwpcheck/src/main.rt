@@ -1,8 +1,10 @@
-//! The program: standard input holds a script, and standard output takes what is wrong with it.
+//! The program: standard input holds a script, and standard output takes what is wrong with it or, with the word `--print` alone, the
+//! script, each line in its one spelling.
 //!
-//! All that it does is `script_advice::check`, on the standard streams; no contract can say what those hold. With the word `--print` it
-//! is `script_printer::copy`: standard output takes the script, each line in its one spelling. What is written is gathered, and goes out
-//! 64 KiB at a time. What went wrong with the program itself is said on standard error.
+//! All that it does is `script_advice::check` or `script_printer::copy`, on the standard streams; no contract can say what those hold.
+//! What is written is gathered, and goes out 64 KiB at a time. Standard error takes why a script isn't checked or printed.
+//!
+//! The crate stands on these two, and on `streams` for the standard streams.
 #![tactic(auto)]
 
 ghost use Rattle.std.specs.Prelude.{◌≡◌, ◌≢◌};
@@ -38,7 +40,7 @@ fn print(rt: &HostRuntime) -> ExitCode {
     match printed(rt) {
         Ok(()) => ExitCode::SUCCESS,
         Err(failure) => {
-            let _ = tell_failure(rt, failure);
+            let _ = eprintln!(rt; "lwpcheck: {failure}");
             ExitCode::from(script_printer::status_of(failure))
         }
     }
@@ -54,17 +56,6 @@ fn printed(rt: &HostRuntime) -> Result<(), CopyFailure> {
     match sink.finish() {
         Ok(()) => Ok(()),
         Err(Failed) => Err(CopyFailure::WriteFault),
-    }
-}
-
-fn tell_failure(rt: &HostRuntime, failure: CopyFailure) -> io::Result<()> {
-    match failure {
-        CopyFailure::ReadFault => eprintln!(rt; "lwpcheck: read fault"),
-        CopyFailure::WriteFault => eprintln!(rt; "lwpcheck: write fault"),
-        CopyFailure::NoMemory => eprintln!(rt; "lwpcheck: no memory"),
-        CopyFailure::Script { line, reason } => {
-            eprintln!(rt; "lwpcheck: script line {line}: {reason:?}")
-        }
     }
 }
 

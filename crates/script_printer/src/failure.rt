@@ -1,13 +1,14 @@
-// Why a script wasn't copied.
+// Why a script isn't printed.
 ghost use Rattle.std.specs.Prelude.{◌≡◌};
 ghost use Rattle.script_printer.specs.Copying.{copy_failure, failure_of_read, status_of};
 ghost use Rattle.script_printer.specs.declared.failure.CopyFailure.TheVariants as failure;
 
 use lwp_types::{Failed, NoMemory};
 use script_text::{ReadErr, Reason};
+use std::fmt;
 use streams::ReadFailure;
 
-/// Why a script wasn't copied.
+/// Why a script isn't printed.
 #[derive(Clone, Copy, Debug, PartialEq, Eq)]
 pub enum CopyFailure {
     ReadFault,
@@ -51,6 +52,18 @@ impl From<ReadErr> for CopyFailure {
         match why {
             ReadErr::Bad { line, reason } => CopyFailure::Script { line, reason },
             ReadErr::NoMemory => CopyFailure::NoMemory,
+        }
+    }
+}
+
+// What the program says of it on standard error, after its own name.
+impl fmt::Display for CopyFailure {
+    fn fmt<W: fmt::Write>(&self, f: &mut fmt::Formatter<W>) -> fmt::Result {
+        match self {
+            CopyFailure::ReadFault => f.write_str("read fault"),
+            CopyFailure::WriteFault => f.write_str("write fault"),
+            CopyFailure::Script { line, reason } => write!(f, "script line {line}: {reason:?}"),
+            CopyFailure::NoMemory => f.write_str("no memory"),
         }
     }
 }

@@ -6,10 +6,12 @@
 //! A line that is printed is a phrase, made of what its slots hold (`specs/Building.antt`), and `add_line` puts the phrase's text
 //! behind the bytes so far. What a phrase and its text are is a matter of `script_lines`.
 //!
-//! `copy` prints the script that a source holds; what is printed is read as the same script, so printed once more it is the same bytes.
+//! `copy` reads the script that a source holds and writes it so printed; `lwpcheck --print` is made of it. What is printed is read as the
+//! same script, so printed once more it is the same bytes. A `CopyFailure` is why a script isn't printed, and displays as the program
+//! says it.
 //!
-//! The crate stands on the scripts of `script_text` and on its grammar, on the lines of `script_lines`, on `trace_text` for texts and
-//! numbers, and on the sources and sinks of `streams`.
+//! The crate stands on the scripts of `script_text` and on its grammar, on the lists of texts of `lists`, on the lines of `script_lines`,
+//! on `trace_text` for texts and numbers, and on `streams`, by which a source is read to its end and bytes are written to their last.
 #![tactic(auto)]
 
 mod copying;
