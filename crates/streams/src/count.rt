@@ -2,7 +2,7 @@
 ghost use Rattle.std.specs.Prelude.{◌≡◌, ◌<◌, ◌≤◌, [], IfOk, OnErr, length, take};
 ghost use Rattle.lwp_types.specs.Streams.{after_append, HasCause};
 
-use crate::told::{More, Told};
+use crate::ghost_bytes::{GhostBytes, More};
 use lwp_types::{Failed, Sink};
 use std::marker::Model;
 
@@ -11,7 +11,7 @@ use std::marker::Model;
 pub struct CountSink {
     count: u64,
     faults: u64,
-    told: Told,
+    taken: GhostBytes,
 }
 
 impl Model for CountSink {
@@ -20,9 +20,9 @@ impl Model for CountSink {
 
     ghost Value = { Counting };
 
-    ghost view = { λ s. record { bytes = s.told.bytes; faults = s.faults } };
+    ghost view = { λ s. record { bytes = s.taken.bytes; faults = s.faults } };
 
-    ghost invariant = { λ s. s.count ≡ length s.told.bytes };
+    ghost invariant = { λ s. s.count ≡ length s.taken.bytes };
 }
 
 impl CountSink {
@@ -33,7 +33,7 @@ impl CountSink {
         CountSink {
             count: 0,
             faults: 0,
-            told: Told::new(),
+            taken: GhostBytes::new(),
         }
     }
 
@@ -67,7 +67,7 @@ impl Sink for CountSink {
             self.faults = self.faults.saturating_add(1);
             return Err(Failed);
         };
-        self.told = self.told.then(&More { bytes });
+        self.taken = self.taken.then(&More { bytes });
         self.count = count;
         Ok(bytes.len())
     }

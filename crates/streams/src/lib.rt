@@ -2,9 +2,11 @@
 //!
 //! `write_all` writes bytes to a sink, however few of them each write takes. Its contract says: all of them come after what was
 //! written before; or a write failed, and the first of them do, but not the last (`AppendsPart` in `specs/Writing.antt`).
-//! `read_all` reads a source to its end, and gives all bytes that it had left; or it says why not, by `ReadFailure`, and some first
-//! part of them is gone. `read_up_to` does the same of a source of which no more than so many bytes may be read, and `feed_up_to` hands
-//! them on piece by piece (`specs/Limited.antt`). `specs/Streams.antt` has what a source or a sink is seen as before and after a call.
+//!
+//! `feed_up_to` reads a source to its end, or up to so many bytes, and hands them on piece by piece to a `Feed`
+//! (`specs/Limited.antt`). There is no other loop that reads: `read_up_to` gathers the pieces in a vector, and `read_all` does so
+//! without a limit and gives all bytes that the source had left (`specs/Reading.antt`). Where one of them fails, `ReadFailure` says
+//! why, and some first part of the bytes is gone. `specs/Streams.antt` has what a source or a sink is seen as before and after a call.
 //!
 //! A `CountSink` counts bytes and keeps none. What it was given is remembered in proofs alone. So a function that is proved for every
 //! sink, and says what it writes, says it of this one too, and the count is then the length of that.
@@ -20,16 +22,14 @@
 #![tactic(auto)]
 
 mod count;
-mod limited;
+mod ghost_bytes;
 mod reading;
 mod std_streams;
-mod told;
 mod until_fault;
 mod writing;
 
 pub use count::CountSink;
-pub use limited::{Feed, feed_up_to, read_up_to};
-pub use reading::{ReadFailure, read_all};
+pub use reading::{Feed, ReadFailure, feed_up_to, read_all, read_up_to};
 pub use std_streams::{GATHERED, GatheringSink, StdSink, StdSource};
 pub use until_fault::UntilFault;
 pub use writing::write_all;

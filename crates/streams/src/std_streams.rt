@@ -32,6 +32,7 @@ pub type StdSink = GatheringSink<Stdout>;
 impl StdSource {
     ghost use Rattle.streams.specs.StdStreams.{read_faults};
 
+    /// No read has failed yet.
     pub fn new(stdin: Stdin) -> StdSource
         ensures { read_faults result ≡ 0 }
     {
@@ -80,6 +81,7 @@ impl<W: Write + Drop> GatheringSink<W> {
         Err(Failed)
     }
 }
+
 // Reads once, and again as long as a signal comes in between.
 fn read_past_signals<R: Read>(reader: &mut R, buf: &mut [u8]) -> io::Result<usize>
     ensures bound { IfOk result (λ n. n ≤ length buf.new) }
@@ -274,7 +276,7 @@ mod tests {
     }
 
     // Gathers six bytes and hands them on; answers whether the sink still takes bytes then.
-    fn is_open_behind(alloc: Global, out: &mut FailsOnce) -> io::Result<bool> {
+    fn is_open_after_hand_on(alloc: Global, out: &mut FailsOnce) -> io::Result<bool> {
         let mut sink = GatheringSink::new(alloc, out, 8)?;
         let is_gathered = sink.write(b"sixth\n").is_ok();
         sink.hand_on();
@@ -286,7 +288,7 @@ mod tests {
         let cases = [(0, false, 0), (1, true, 6)];
         for (before, is_open, taken) in cases {
             let mut out = FailsOnce { before, taken: 0 };
-            assert_eq!(rt; is_open_behind(rt.alloc(), &mut out)?, is_open);
+            assert_eq!(rt; is_open_after_hand_on(rt.alloc(), &mut out)?, is_open);
             assert_eq!(rt; out.taken, taken);
         }
         Ok(())

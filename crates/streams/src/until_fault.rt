@@ -6,8 +6,8 @@ ghost use Rattle.streams.specs.StdStreams.{after_close};
 use std::io;
 use std::io::{ErrorKind, Write};
 
-/// Hands bytes on to a writer until a write fails, and none after that. So whoever gathers bytes for it, and tries them again or
-/// writes the rest as it is dropped, writes nothing more. A signal that comes in between is no failure.
+/// Hands bytes on to a writer until a write fails, and none after that. So a buffer that gathers bytes for it, and tries them again
+/// or writes the rest as it is dropped, writes nothing more. A signal that comes in between is no failure.
 #[derive(Drop)]
 pub struct UntilFault<W: Write + Drop> {
     out: W,

@@ -4,13 +4,13 @@ ghost use base.Fml.{ftrue};
 
 use std::marker::Model;
 
-/// Bytes, one behind the other. They take no memory, and nobody can read them.
+/// Bytes, one after the other. They take no memory, and no code can read them.
 #[derive(Drop)]
-pub struct Told {
+pub struct GhostBytes {
     pub ghost bytes: { List ℕ },
 }
 
-impl Model for Told {
+impl Model for GhostBytes {
     ghost also_owns = { λ _. ftrue };
 }
 
@@ -20,18 +20,18 @@ pub struct More<'a> {
     pub bytes: &'a [u8],
 }
 
-impl Told {
+impl GhostBytes {
     /// None.
-    pub fn new() -> Told
+    pub fn new() -> GhostBytes
         ensures { result.bytes ≡ [] }
     {
-        Told {}
+        GhostBytes {}
     }
 
     /// These and some more.
-    pub fn then(&self, _more: &More<'_>) -> Told
+    pub fn then(&self, _more: &More<'_>) -> GhostBytes
         ensures { result.bytes ≡ self.now.bytes ++ _more.now.bytes.now }
     {
-        Told {}
+        GhostBytes {}
     }
 }

@@ -1,6 +1,6 @@
 use Rattle.std.proofs.Common.{List, length, ℕ, ◌-◌, ◌≡◌, ◌≤◌}
 use Rattle.streams.specs.Reading.{ReadSoFar}
-use Rattle.streams.proofs.limited.feed_up_to.Given as goal
+use Rattle.streams.proofs.reading.feed_up_to.Given as goal
 
 abbrev pub invariant-loop-total : goal.invariant-loop-total
 invariant-loop-total g l = record {

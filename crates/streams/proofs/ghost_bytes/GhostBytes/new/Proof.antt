@@ -24,11 +24,11 @@ use denote.Triple.Spec.{Meets, triple_of}
 use denote.Triple.Table.{entered}
 use denote.Triple.Walked.{says, Stays, walk_of, ends_at, walk_Meets}
 use Rattle.streams.proofs.Walks.{none, none_made}
-use Rattle.streams.specs.contracts.told.Told as Told
-use Rattle.streams.specs.contracts.told.Told.new as F
-use Rattle.streams.specs.contracts.told.Told.new.Key.{name as #self}
-use Rattle.streams.proofs.told.Told.new.Statement as stated
-use Rattle.streams.proofs.told.Told.new.Code as code
+use Rattle.streams.specs.contracts.ghost_bytes.GhostBytes as GhostBytes
+use Rattle.streams.specs.contracts.ghost_bytes.GhostBytes.new as F
+use Rattle.streams.specs.contracts.ghost_bytes.GhostBytes.new.Key.{name as #self}
+use Rattle.streams.proofs.ghost_bytes.GhostBytes.new.Statement as stated
+use Rattle.streams.proofs.ghost_bytes.GhostBytes.new.Code as code
 
 abbrev function : Fn
 function = code.function
@@ -56,7 +56,7 @@ module _ {M : Type 1} {𝓤 : Ura M} (𝓛 : Logic 𝓤) (at_mem : Memory → SP
     walks =
         let a = z.0.3 in
         let vss = z.0.4 in
-        let log : (Told.the_row).Denot = record { bytes = [] } in
+        let log : (GhostBytes.the_row).Denot = record { bytes = [] } in
         qed 𝓛 ((raw toks ⊛ ‵ (owns (types_at ended.signature.params z.0.0) a vss)) ∷ raw ((held z.0.0 a).requires z.1) ∷ []) ∵
         keep ! (0 ∷ []) $ split ! $ move ! (1 ∷ []) $ drop ! $
         enter ! C Λ function [] Post $ alloc_all ! (λ l. pass_all ! refl tt $
