@@ -1,4 +1,4 @@
--- What `Conditions` keeps of its fields. No public clause cites this module.
+-- What `Conds` keeps of its fields. No public clause cites this module.
 use Rattle.lwp_types.specs.declared.rows.CondRow.{CondRow}
 use Rattle.std.specs.List.{AllByRecursion}
 use Rattle.std.specs.Prelude.{List, [], length, slice_index_or, ℕ, ◌<◌, ◌∷◌, ◌≡◌}
