@@ -35,6 +35,7 @@ pub use condition_wakes::{broadcast, cond_send, is_last, notify};
 pub use death::die;
 pub use exits::{exit_call, reply, resume, set_exit};
 pub use frames::leave_frames;
+pub use lwp_types::Block;
 pub use monitor_releases::{monitor_break, monitor_exit, release};
 pub use named::{Named, note};
 pub use parts::{

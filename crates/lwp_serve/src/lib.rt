@@ -30,3 +30,4 @@ pub use replaying::{REPLAY_MAX, replay_main};
 pub use script_body::{ScriptProgram, ThreadBody};
 pub use script_run::{LiveSession, no_gates, run_main};
 pub use script_session::{SCRIPT_MAX, Session, SessionEnd, Taken, TakenLines, fault_text};
+pub use streams::{StdSink, StdSource};
