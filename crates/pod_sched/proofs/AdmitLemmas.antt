@@ -6,7 +6,7 @@ use Rattle.pod_sched.proofs.HeldLemmas.{thread_at}
 use Rattle.pod_sched.proofs.LeaveLemmas.{AreSlots-admitted, items_moved_other, items_moved_same, known_same, lists_moved, ready_joined, ready_kept, rows_admitted, slot_free, tids_joined, tids_stay}
 use Rattle.pod_sched.proofs.Ordered.{IsOrdered-admitted}
 use Rattle.pod_sched.proofs.SlotLemmas.{All-push}
-use Rattle.pod_sched.specs.Held.{IsPriority, IsHeld, schedule_of, tid_at}
+use Rattle.pod_sched.specs.Held.{IsHeld, IsPriority, schedule_of, tid_at}
 use Rattle.pod_sched.specs.Schedule.{IsOrdered, after_admit, is_of, knows, newcomer}
 use Rattle.pod_sched.specs.Slots.{AreSlots, Changes, IsFree, Puts, row_at}
 use Rattle.pod_sched.specs.declared.rows.Known.{Known}

@@ -3,7 +3,7 @@ use Rattle.pod_sched.specs.Buckets.Order.{Order, after_put_last, after_take, pri
 use Rattle.lists.specs.ChainLists.{Lists, items}
 use Rattle.lwp_types.specs.State.{to_end, without}
 use Rattle.pod_sched.proofs.SlotLemmas.{All-found, All-replaced, AreSlots-changed, IsOrdered-back_with, IsOrdered-out_with, find-map, ready_back, ready_out, rows_changed, slot_known, slot_tid, tids_back, tids_out}
-use Rattle.pod_sched.specs.Held.{IsPriority, IsHeld, back_with, out_with, replace, schedule_of, tid_at}
+use Rattle.pod_sched.specs.Held.{IsHeld, IsPriority, back_with, out_with, replace, schedule_of, tid_at}
 use Rattle.pod_sched.specs.Schedule.{is_eligible, is_of, knows, thread_of}
 use Rattle.pod_sched.specs.Slots.{AreSlots, Changes, IsKnown, row_at}
 use Rattle.pod_sched.specs.declared.rows.Known.{Known}

@@ -9,7 +9,7 @@ use Rattle.pod_sched.proofs.Counts.{one_other, one_same, times-same, times_found
 use Rattle.pod_sched.proofs.HeldLemmas.{is_slot, thread}
 use Rattle.pod_sched.proofs.Ordered.{IsOrdered-left}
 use Rattle.pod_sched.proofs.SlotLemmas.{All-found, All-push, All-weaker, All-without, find_agree, located, map_push, only, slot_known, slot_tid, tids_same, tids_without, without_none}
-use Rattle.pod_sched.specs.Held.{IsPriority, IsHeld, schedule_of, tid_at}
+use Rattle.pod_sched.specs.Held.{IsHeld, IsPriority, schedule_of, tid_at}
 use Rattle.pod_sched.specs.Schedule.{after_leave, is_of, without_row}
 use Rattle.pod_sched.specs.Slots.{AreSlots, Changes, IsFree, IsKnown, IsReady, Puts, has_tid, row_at}
 use Rattle.pod_sched.specs.declared.rows.Known.{Known}

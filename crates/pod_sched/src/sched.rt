@@ -201,8 +201,8 @@ impl Sched {
     }
 
     /// What `current` answers, with its steps counted. A step is a look at one of the four words that say of 64 priorities each
-    /// whether they have somebody, or at the bucket of one priority. There are five at most, and no more than priorities,
-    /// however many threads there are. `current` takes the same steps.
+    /// whether they have somebody, or at the bucket of one priority. There are at most five, and at most as many as there
+    /// are priorities, however many threads there are. `current` takes the same steps.
     pub fn current_counted<L: Ledger>(&self, steps: &mut Steps<L>) -> Option<Tid>
         ensures value { result ≡ choice self.now }
         ensures cost { steps.new ≤ steps.old + 5 }

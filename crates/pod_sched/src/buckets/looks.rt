@@ -104,9 +104,9 @@ fn last_of_all<L: Ledger, K, B: Looks<L, K>>(lists: &B, steps: &mut Steps<L>) ->
     last_of_word(lists, 0, steps)
 }
 
-/// The first of the last list that has anybody, where only lists from 1 to `most` have. A single list is looked at straight
-/// away. Else one word at most is looked at, if it has them all, and if not four, and then one list. It is told nothing of
-/// the lists but by looks that count.
+/// The first of the last list that has anybody, where only lists from 1 to `most` have. If that is one list, it is looked at
+/// straight away. Up to 63 lists are in one word, which is looked at and then a list; and of more, up to four words and then
+/// a list. It is told nothing of the lists but by looks that count.
 #[inline(always)]
 pub fn first_of_last<L: Ledger, K, B: Looks<L, K>>(
     lists: &B,
