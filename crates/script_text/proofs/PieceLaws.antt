@@ -5,7 +5,7 @@ use Rattle.script_text.specs.declared.reason.Reason.TheVariants as reason
 use Rattle.script_text.specs.declared.reason.Reason.{Reason}
 use Rattle.script_text.specs.declared.reason.ReadErr.{ReadErr}
 use Rattle.script_text.specs.declared.script.Script.{Script}
-use Rattle.script_text.specs.Pieces.{IsTail, HasRead, SoFar, Standing, Standing.Reads, Standing.TooLong, so_far, standing}
+use Rattle.script_text.specs.Pieces.{IsTail, SoFar, Standing, Standing.Reads, Standing.TooLong, StandsAfter, so_far, standing}
 use Rattle.script_text.specs.Spelling.{line_cut, verdict, Gives}
 use Rattle.script_text.specs.Track.{start, step, answer_at}
 use Rattle.script_text.proofs.CutLaws.{tail_of_cut, piece_lines, piece_tail}
@@ -15,35 +15,35 @@ use Rattle.script_text.proofs.KeptLaws.{kept_tail, kept_piece, kept_answer}
 use Rattle.script_text.proofs.ScriptLaws.{verdict_long, verdict_short}
 
 -- a reader that has something of the text has all of it, and the text isn't too long
-short_read : (r : SoFar) (text : List ℕ) → HasRead (Reads r) text → (length text ≤ 16777216) × (r ≡ so_far text)
+short_read : (r : SoFar) (text : List ℕ) → StandsAfter (Reads r) text → (length text ≤ 16777216) × (r ≡ so_far text)
 short_read r text h = elim (ltb 16777216 (length text)) as (λ v. ltb 16777216 (length text) ≡ v → Reads r ≡ cond v TooLong (Reads (so_far text)) → (length text ≤ 16777216) × (r ≡ so_far text)) [
   | true ↦ λ e f. absurd (cc)
   | false ↦ λ e f. (ltb-false 16777216 (length text) e, cc)
 ] refl h
 
-long_read : (text : List ℕ) → HasRead TooLong text → 16777216 < length text
+long_read : (text : List ℕ) → StandsAfter TooLong text → 16777216 < length text
 long_read text h = elim (ltb 16777216 (length text)) as (λ v. ltb 16777216 (length text) ≡ v → TooLong ≡ cond v TooLong (Reads (so_far text)) → 16777216 < length text) [
   | true ↦ λ e f. ltb-true 16777216 (length text) e
   | false ↦ λ e f. absurd (cc)
 ] refl h
 
-reads_short : (r : SoFar) (text : List ℕ) → length text ≤ 16777216 → r ≡ so_far text → HasRead (Reads r) text
+reads_short : (r : SoFar) (text : List ℕ) → length text ≤ 16777216 → r ≡ so_far text → StandsAfter (Reads r) text
 reads_short r text short same = rw (le-ltb 16777216 (length text) short) (ap (λ (x : SoFar). Reads x) same)
 
-reads_long : (text : List ℕ) → 16777216 < length text → HasRead TooLong text
+reads_long : (text : List ℕ) → 16777216 < length text → StandsAfter TooLong text
 reads_long text long = rw (lt-ltb 16777216 (length text) long) refl
 
 -- a reader whose flags are these
-pub read_small : (failed is_large : Bool) (r : SoFar) (now : Standing) (text : List ℕ) → standing failed is_large r ≡ now → failed ≡ false → is_large ≡ false → HasRead now text → HasRead (Reads r) text
+pub read_small : (failed is_large : Bool) (r : SoFar) (now : Standing) (text : List ℕ) → standing failed is_large r ≡ now → failed ≡ false → is_large ≡ false → StandsAfter now text → StandsAfter (Reads r) text
 read_small failed is_large r now text is sound small h = sym (ap (λ v. standing v is_large r) sound ∙ ap (λ v. standing false v r) small) ∙ is ∙ h
 
-pub read_large : (failed is_large : Bool) (r : SoFar) (now : Standing) (text : List ℕ) → standing failed is_large r ≡ now → failed ≡ false → is_large ≡ true → HasRead now text → HasRead TooLong text
+pub read_large : (failed is_large : Bool) (r : SoFar) (now : Standing) (text : List ℕ) → standing failed is_large r ≡ now → failed ≡ false → is_large ≡ true → StandsAfter now text → StandsAfter TooLong text
 read_large failed is_large r now text is sound large h = sym (ap (λ v. standing v is_large r) sound ∙ ap (λ v. standing false v r) large) ∙ is ∙ h
 
-pub reads_small : (is_large : Bool) (r : SoFar) (text : List ℕ) → is_large ≡ false → HasRead (Reads r) text → HasRead (standing false is_large r) text
+pub reads_small : (is_large : Bool) (r : SoFar) (text : List ℕ) → is_large ≡ false → StandsAfter (Reads r) text → StandsAfter (standing false is_large r) text
 reads_small is_large r text small h = ap (λ v. standing false v r) small ∙ h
 
-pub reads_large : (failed : Bool) (r : SoFar) (text : List ℕ) → failed ≡ false → HasRead TooLong text → HasRead (standing failed true r) text
+pub reads_large : (failed : Bool) (r : SoFar) (text : List ℕ) → failed ≡ false → StandsAfter TooLong text → StandsAfter (standing failed true r) text
 reads_large failed r text sound h = ap (λ v. standing v true r) sound ∙ h
 
 -- one more piece, all of which was read
@@ -51,7 +51,7 @@ pub feeds : (old new : SoFar) (piece : List ℕ) → length piece ≤ 16777216 -
     → (IsTail old.tail → new.lines ≡ fold step old.lines (line_cut (old.tail ++ piece)).0)
     → (IsTail old.tail → new.tail ≡ kept_bytes (line_cut (old.tail ++ piece)).1)
     → new.total ≡ old.total + length piece
-    → (text : List ℕ) → HasRead (Reads old) text → HasRead (Reads new) (text ++ piece)
+    → (text : List ℕ) → StandsAfter (Reads old) text → StandsAfter (Reads new) (text ++ piece)
 feeds old new piece within lines tail total text h =
     let k = short_read old text h in
     let was : old.total ≡ length text = ap (λ (r : SoFar). r.total) k.1 in
@@ -67,19 +67,19 @@ feeds old new piece within lines tail total text h =
     reads_short new (text ++ piece) (omega (arith, count, was, within, k.0)) (λ i. record { total = total_is i; lines = lines_are i; tail = tail_is i })
 
 -- one more piece of a text that is too long
-pub feeds_more : (piece text : List ℕ) → HasRead TooLong text → HasRead TooLong (text ++ piece)
+pub feeds_more : (piece text : List ℕ) → StandsAfter TooLong text → StandsAfter TooLong (text ++ piece)
 feeds_more piece text h = reads_long (text ++ piece) (omega (arith, long_read text h, length-append text piece))
 
 -- the piece that makes it too long
-pub feeds_over : (old : SoFar) (piece : List ℕ) → 16777216 < length piece + old.total → (text : List ℕ) → HasRead (Reads old) text → HasRead TooLong (text ++ piece)
+pub feeds_over : (old : SoFar) (piece : List ℕ) → 16777216 < length piece + old.total → (text : List ℕ) → StandsAfter (Reads old) text → StandsAfter TooLong (text ++ piece)
 feeds_over old piece over text h = reads_long (text ++ piece) (omega (arith, over, ap (λ (r : SoFar). r.total) (short_read old text h).1, length-append text piece))
 
 -- ---- The end.
 
-pub finish_large : (text : List ℕ) → HasRead TooLong text → verdict text ≡ Err (0, reason.TooLarge)
+pub finish_large : (text : List ℕ) → StandsAfter TooLong text → verdict text ≡ Err (0, reason.TooLarge)
 finish_large text h = verdict_long text (lt-ltb 16777216 (length text) (long_read text h))
 
-pub finish_gives : (r : SoFar) (text : List ℕ) (result : Result Script ReadErr) → HasRead (Reads r) text → Gives (answer_at r.lines r.tail) result → Gives (verdict text) result
+pub finish_gives : (r : SoFar) (text : List ℕ) (result : Result Script ReadErr) → StandsAfter (Reads r) text → Gives (answer_at r.lines r.tail) result → Gives (verdict text) result
 finish_gives r text result h given =
     let k = short_read r text h in
     let same : answer_at r.lines r.tail ≡ verdict text = ap (λ (x : SoFar). answer_at x.lines x.tail) k.1 ∙ kept_answer (fold step start (line_cut text).0) (line_cut text).1 ∙ verdict_folds (line_cut text).0 (line_cut text).1 ∙ sym (verdict_short text k.0) in

@@ -43,8 +43,8 @@ abbrev pub standing_after : List ℕ → Standing
 standing_after text = if nat_lt 16777216 (length text) then TooLong else Reads (so_far text)
 
 -- the reader stands as after this text, whatever its pieces were; of a text that is too long it knows only that
-abbrev pub HasRead : Standing → List ℕ → Type 0
-HasRead r text = r ≡ standing_after text
+abbrev pub StandsAfter : Standing → List ℕ → Type 0
+StandsAfter r text = r ≡ standing_after text
 
 -- memory was refused to the reader
 abbrev pub HasFailed : Standing → Type 0

@@ -2,7 +2,7 @@
 ghost use Rattle.std.specs.Prelude.{◌≡◌, ◌++◌, ℕ, List, [], OnOk, OnErr, IfOk, IsErr, Err};
 ghost use Rattle.script_text.specs.Grammar.{Spells};
 ghost use Rattle.script_text.specs.Limits.{IsWithinLimits};
-ghost use Rattle.script_text.specs.Pieces.{HasRead, HasFailed};
+ghost use Rattle.script_text.specs.Pieces.{HasFailed, StandsAfter};
 ghost use Rattle.script_text.specs.Spelling.{verdict, Gives, IsReadAs};
 ghost use Rattle.script_text.specs.declared.reason.ReadErr.TheVariants as read_err;
 
@@ -54,7 +54,7 @@ impl ScriptReader {
     /// Nothing read.
     #[tactic(auto, unfolding(crate::specs::Kept::kept_bytes))]
     pub fn new(alloc: Global) -> ScriptReader
-        ensures { HasRead result [] }
+        ensures { StandsAfter result [] }
     {
         ScriptReader {
             lines: Lines::new(alloc),
@@ -67,7 +67,7 @@ impl ScriptReader {
     /// The text so far grows by the piece. After `NoMemory` every later `feed` and `finish` answers `NoMemory`.
     pub fn feed(&mut self, piece: &[u8]) -> Result<(), NoMemory>
         ensures ok { OnOk result
-            ((text : List ℕ) → HasRead self.old text → HasRead self.new (text ++ piece.now)) }
+            ((text : List ℕ) → StandsAfter self.old text → StandsAfter self.new (text ++ piece.now)) }
         ensures err { OnErr result (HasFailed self.new) }
         ensures failed { HasFailed self.old → IsErr result }
     {
@@ -88,14 +88,14 @@ impl ScriptReader {
     /// The script that the text so far spells, if it spells one, and else its first bad line.
     pub fn finish(self) -> Result<Script, ReadErr>
         // The first line that is bad, and the first reason that fits.
-        ensures exact { (text : List ℕ) → HasRead self text → Gives (verdict text) result }
+        ensures exact { (text : List ℕ) → StandsAfter self text → Gives (verdict text) result }
         // A script is read only where the text spells it.
-        ensures spelt { (text : List ℕ) → HasRead self text → IfOk result (λ s. Spells text s) }
+        ensures spelt { (text : List ℕ) → StandsAfter self text → IfOk result (λ s. Spells text s) }
         // A script that is spelt is read, and no other.
-        ensures only { (text : List ℕ) → HasRead self text → (s : Script) → Spells text s →
+        ensures only { (text : List ℕ) → StandsAfter self text → (s : Script) → Spells text s →
             IsReadAs s result }
         // A pod can be made for each script that is read.
-        ensures within { (text : List ℕ) → HasRead self text → IfOk result IsWithinLimits }
+        ensures within { (text : List ℕ) → StandsAfter self text → IfOk result IsWithinLimits }
         ensures failed { HasFailed self → result ≡ Err read_err.NoMemory }
     {
         let ScriptReader {
