@@ -1,7 +1,7 @@
 ghost use Rattle.std.specs.Prelude.{◌≡◌};
 ghost use Rattle.agents.specs.Roster.{no_agents};
 
-use crate::lists::holds;
+use crate::id_lists::holds;
 use agents::Agents;
 use lwp_types::Tid;
 

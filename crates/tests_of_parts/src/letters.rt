@@ -1,7 +1,7 @@
 ghost use Rattle.std.specs.Prelude.{◌≡◌, false};
 ghost use Rattle.rendezvous.specs.MessageTable.{no_messages};
 
-use crate::lists::holds;
+use crate::id_lists::holds;
 use lwp_types::{Letter, LwpErr, Text, Tid};
 use rendezvous::Mail;
 

@@ -9,11 +9,11 @@ mod births;
 #[cfg(test)]
 mod event_agents;
 #[cfg(test)]
+mod id_lists;
+#[cfg(test)]
 mod letters;
 #[cfg(test)]
 mod linked_lists;
-#[cfg(test)]
-mod lists;
 #[cfg(test)]
 mod locks;
 #[cfg(test)]

@@ -1,7 +1,7 @@
 ghost use Rattle.std.specs.Prelude.{◌≡◌};
 ghost use Rattle.monitors.specs.MonitorTable.{empty_table};
 
-use crate::lists::holds;
+use crate::id_lists::holds;
 use lwp_types::{Mid, Tid};
 use monitors::Monitors;
 use std::alloc::Global;

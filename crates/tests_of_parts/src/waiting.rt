@@ -1,7 +1,7 @@
 ghost use Rattle.std.specs.Prelude.{◌≡◌};
 ghost use Rattle.lists.specs.WaitingList.Line.{empty_line};
 
-use crate::lists::holds;
+use crate::id_lists::holds;
 use lists::{Waiting, WaitingList};
 use lwp_types::Tid;
 

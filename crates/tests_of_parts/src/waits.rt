@@ -1,7 +1,7 @@
 ghost use Rattle.std.specs.Prelude.{◌≡◌};
 ghost use Rattle.conditions.specs.ConditionTable.{empty_table};
 
-use crate::lists::holds;
+use crate::id_lists::holds;
 use conditions::{Conds, WaitRec};
 use lwp_types::{Cid, Mid, Tid};
 
