@@ -2,7 +2,7 @@
 use crate::outcome::{Outcome, Streams};
 use lwp_types::NoMemory;
 use script_advice::{check, fault_text, status_of};
-use script_printer::copy;
+use script_printer::{asks_for_print, copy};
 use std::alloc::Global;
 
 // A script may have so many bytes.
@@ -10,11 +10,12 @@ const SCRIPT_MAX: u32 = 16_777_216;
 
 const BAD_LINES: u32 = 5_000;
 
-/// What is wrong with a script or, with the word `--print`, the script as it is printed.
+/// What is wrong with a script or, where the words ask for it, the script as it is printed.
 pub fn checked(alloc: Global, words: &Vec<String>, script: Vec<u8>) -> Result<Outcome, NoMemory> {
-    match words.as_slice() {
-        [word] if word.as_bytes() == b"--print".as_slice() => printed(alloc, script),
-        _ => advised(alloc, words, script),
+    if asks_for_print(words) {
+        printed(alloc, script)
+    } else {
+        advised(alloc, words, script)
     }
 }
 

@@ -13,7 +13,7 @@ ghost use Rattle.script_advice.specs.declared.checking.CheckEnd.TheVariants.{NoM
 
 use lwp_types::Failed;
 use script_advice::{CheckEnd, check, fault_text, status_of};
-use script_printer::{CopyFailure, copy};
+use script_printer::{CopyFailure, asks_for_print, copy};
 use std::io::{ErrorKind, Write};
 use std::process::ExitCode;
 use std::{env, io};
@@ -24,14 +24,6 @@ fn main(rt: HostRuntime) -> ExitCode {
         Ok(words) if asks_for_print(&words) => print(&rt),
         Ok(words) => tell(&rt, end_of(&rt, &words)),
         Err(error) => tell(&rt, end_without_words(&error)),
-    }
-}
-
-// Whether the script is to be printed, and not checked.
-fn asks_for_print(words: &Vec<String>) -> bool {
-    match words.as_slice() {
-        [word] => word.as_bytes() == b"--print".as_slice(),
-        _ => false,
     }
 }
 

@@ -8,9 +8,15 @@ use Rattle.script_text.specs.Spelling.{verdict}
 use Rattle.script_text.specs.declared.reason.ReadErr.{ReadErr}
 use Rattle.script_text.specs.declared.reason.ReadErr.TheVariants as read_err
 use Rattle.script_text.specs.declared.script.Script.{Script}
-use Rattle.std.specs.Prelude.{Err, List, None, Option, Some, ℕ, ◌≡◌}
+use Rattle.std.specs.Prelude.{Bool, Err, List, None, Option, Some, [], bytes_eq, codes, false, ℕ, ◌∷◌, ◌≡◌}
 use Rattle.streams.specs.declared.reading.ReadFailure.{ReadFailure}
 use Rattle.streams.specs.declared.reading.ReadFailure.TheVariants as read_failure
+
+-- whether these words ask for the script to be printed
+abbrev pub asks_for_print : List (List ℕ) → Bool
+asks_for_print [] = false
+asks_for_print (w ∷ []) = bytes_eq w (codes "--print")
+asks_for_print (w ∷ v ∷ ws) = false
 
 -- the failure of a read that failed
 abbrev pub failure_of_read : ReadFailure → CopyFailure

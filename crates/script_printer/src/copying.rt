@@ -1,6 +1,6 @@
 // A script that is read and printed.
-ghost use Rattle.std.specs.Prelude.{IfErr, IfOk, OnOk};
-ghost use Rattle.script_printer.specs.Copying.{Copies, Holds, Refuses};
+ghost use Rattle.std.specs.Prelude.{◌≡◌, IfErr, IfOk, OnOk, map, string_bytes};
+ghost use Rattle.script_printer.specs.Copying.{Copies, Holds, Refuses, asks_for_print};
 
 use crate::failure::CopyFailure;
 use crate::printing::print_script;
@@ -8,6 +8,16 @@ use lwp_types::{Sink, Source};
 use script_text::{Script, read_script};
 use std::alloc::Global;
 use streams::{read_all, write_all};
+
+/// Whether the words of `lwpcheck`, which stand after its name, ask for the script to be printed: `--print` alone does.
+pub fn asks_for_print(words: &Vec<String>) -> bool
+    ensures { result ≡ asks_for_print (map string_bytes words.now.items) }
+{
+    match words.as_slice() {
+        [word] => word.as_bytes() == b"--print".as_slice(),
+        _ => false,
+    }
+}
 
 // The script that a source holds, which is read to its end.
 fn read<S: Source>(alloc: Global, source: &mut S) -> Result<Script, CopyFailure>

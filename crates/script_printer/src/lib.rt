@@ -21,7 +21,7 @@ mod line_text;
 mod lines;
 mod printing;
 
-pub use copying::copy;
+pub use copying::{asks_for_print, copy};
 pub use failure::{CopyFailure, status_of};
 pub use laws::printed_is_spelt;
 pub use printing::print_script;
