@@ -1,8 +1,8 @@
 -- From a script that was read, or wasn't, to what a session says.
-use Rattle.script_session.specs.Outcome.{HasRead, outcome_of, status_of}
-use Rattle.script_session.specs.Said.{EndsBy, Holds, IsNotRead, IsOf, IsRead, ReadSays, Refuses, Says}
+use Rattle.script_session.specs.Outcome.{outcome_of, status_of}
+use Rattle.script_session.specs.Said.{EndsBy, Holds, IsNotRead, IsOf, IsRead, IsReadOut, ReadSays, Refuses, Says, most_read}
+use Rattle.streams.specs.Limited.{HasFront, IsReadUp, IsReadWithin}
 use Rattle.streams.specs.Streams.{IsQuiet, Stream}
-use Rattle.script_session.specs.Reading.{IsReadOut, IsReadPart, IsReadUp}
 use Rattle.script_session.specs.declared.session.Session.{Session}
 use Rattle.script_session.specs.declared.session.SessionEnd.{SessionEnd}
 use Rattle.script_session.specs.declared.session.SessionEnd.TheVariants as end
@@ -28,7 +28,7 @@ same-verdict told = elim (cases_lt 16777216 (length told)) [
   | inr short ↦ ap verdict (take_all 16777217 told (omega (arith, short)))
 ]
 
-pub holds-of : (left : Option (List ℕ)) (bytes : List ℕ) (script : Script) → HasRead left bytes → Spells bytes script → Holds left script
+pub holds-of : (left : Option (List ℕ)) (bytes : List ℕ) (script : Script) → HasFront most_read left bytes → Spells bytes script → Holds left script
 holds-of None bytes script read spells = tt
 holds-of (Some told) bytes script read spells = rw (sym (short-read told (rw (sym read) spells.1.short)), sym read) spells
 
@@ -37,7 +37,7 @@ pub says-all : (left : Option (List ℕ)) (script : Script) (says : Script → T
 says-all None script says h s = (script, s)
 says-all (Some told) script says h s = ((script, h), λ other spells. subst says (one_script told script other h spells) s)
 
-pub refuses-of : (left : Option (List ℕ)) (bytes : List ℕ) (line : ℕ) (why : Reason) → HasRead left bytes → verdict bytes ≡ Err (line, why) → Refuses left line why
+pub refuses-of : (left : Option (List ℕ)) (bytes : List ℕ) (line : ℕ) (why : Reason) → HasFront most_read left bytes → verdict bytes ≡ Err (line, why) → Refuses left line why
 refuses-of None bytes line why read v = tt
 refuses-of (Some told) bytes line why read v = sym (same-verdict told) ∙ ap verdict (sym read) ∙ v
 
@@ -45,14 +45,14 @@ pub gives-bad : (bytes : List ℕ) (r : Result Script ReadErr) (line : ℕ) (why
 gives-bad bytes r line why is g = subst (λ (x : Result Script ReadErr). Gives (verdict bytes) x) is g
 
 -- what is a script was read to its end
-out-of : (source : Stream) (script : Script) → Holds source.old script → IsReadUp source.old source.new → IsReadOut source.old source.new
+out-of : (source : Stream) (script : Script) → Holds source.old script → IsReadUp most_read source.old source.new → IsReadOut source.old source.new
 out-of source script h up = by_told source.old h up
   where
-    by_told : (old : Option (List ℕ)) → Holds old script → IsReadUp old source.new → IsReadOut old source.new
+    by_told : (old : Option (List ℕ)) → Holds old script → IsReadUp most_read old source.new → IsReadOut old source.new
     by_told None h up = up
     by_told (Some told) h up = up ∙ ap (λ xs. Some xs) (drop_all 16777217 told (omega (arith, h.1.short)))
 
-part-of-up : (old new : Option (List ℕ)) → IsReadUp old new → IsReadPart old new
+part-of-up : (old new : Option (List ℕ)) → IsReadUp most_read old new → IsReadWithin most_read old new
 part-of-up old new up = (16777217, omega arith, up)
 
 -- an end of a script that was read

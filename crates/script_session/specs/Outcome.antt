@@ -6,7 +6,7 @@ use Rattle.script_session.specs.declared.session.SessionEnd.TheVariants as end
 use Rattle.pod_runner.specs.declared.session.Took.{Took}
 use Rattle.trace_text.specs.declared.ends.Halt.{Halt}
 use Rattle.trace_text.specs.declared.ends.Halt.TheVariants as halt
-use Rattle.std.specs.Prelude.{List, Option, None, Some, map, take, ℕ, ◌≡◌}
+use Rattle.std.specs.Prelude.{List, map, ℕ}
 
 -- the exit status of the program, by the end
 abbrev pub status_of : SessionEnd → ℕ
@@ -32,8 +32,3 @@ abbrev pub end_of : Halt → SessionEnd
 end_of (halt.Ended status) = end.Ended status
 end_of halt.Stuck = end.Stuck
 end_of halt.Spent = end.Spent
-
--- the bytes that a source had left, or one more than a script may have; where nothing is told, some bytes
-abbrev pub HasRead : Option (List ℕ) → List ℕ → Type 0
-HasRead None bytes = Unit {0}
-HasRead (Some told) bytes = bytes ≡ take 16777217 told

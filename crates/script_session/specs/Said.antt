@@ -2,10 +2,10 @@
 use Rattle.script_session.specs.Outcome.{status_of}
 use Rattle.script_session.specs.History.{taken_of}
 use Rattle.script_body.specs.Posted.{IsPosted}
-use Rattle.script_session.specs.Reading.{IsReadOut, IsReadPart, IsReadUp}
 use Rattle.script_session.specs.declared.session.Session.{Session}
 use Rattle.script_session.specs.declared.session.SessionEnd.{SessionEnd}
 use Rattle.script_session.specs.declared.session.SessionEnd.TheVariants as end
+use Rattle.streams.specs.Limited.{IsReadUp, IsReadWithin}
 use Rattle.streams.specs.Streams.{IsFaultless, IsFaulty, IsQuiet, Stream}
 use Rattle.script_text.specs.Grammar.{Spells}
 use Rattle.script_text.specs.Spelling.{verdict}
@@ -54,13 +54,22 @@ EndsBy ran source sink session end.Same = ⊥
 EndsBy ran source sink session (end.Differs line) = ⊥
 EndsBy ran source sink session e = SourceSays source (λ script. ran script e)
 
+-- a source is read to the byte that follows the most that a script may have, and no further
+abbrev pub most_read : ℕ
+most_read = 16777217
+
+-- all were taken: where bytes are told, none is left
+abbrev pub IsReadOut : Option (List ℕ) → Option (List ℕ) → Type 0
+IsReadOut None new = new ≡ None
+IsReadOut (Some told) new = new ≡ Some []
+
 -- how far each end has read the source: to its end for a script that was run; for bytes that are none, to their end
 -- too, unless they are too many; and never further than one byte past what a script may have
 abbrev pub ReadSays : Stream → SessionEnd → Type 0
 ReadSays source end.Usage = ⊥
-ReadSays source end.ReadFault = IsReadPart source.old source.new
-ReadSays source end.NoMemory = IsReadPart source.old source.new
-ReadSays source (end.Script line reason) = IsReadUp source.old source.new
+ReadSays source end.ReadFault = IsReadWithin most_read source.old source.new
+ReadSays source end.NoMemory = IsReadWithin most_read source.old source.new
+ReadSays source (end.Script line reason) = IsReadUp most_read source.old source.new
 ReadSays source (end.Input part) = ⊥
 ReadSays source end.Reported = ⊥
 ReadSays source end.Same = ⊥
@@ -82,13 +91,13 @@ Holds (Some told) script = Spells told script
 pub record IsRead (source : Stream) (script : Script) : Type 0 where
   pub holds : Holds source.old script
   pub faultless : IsFaultless source
-  pub up : IsReadUp source.old source.new
+  pub up : IsReadUp most_read source.old source.new
   pub posted : IsPosted script
 
 -- none was read, and a session ends so
 abbrev pub IsNotRead : Stream → SessionEnd → Type 0
-IsNotRead source end.ReadFault = IsFaulty source × IsReadPart source.old source.new
-IsNotRead source end.NoMemory = IsFaultless source × IsReadPart source.old source.new
+IsNotRead source end.ReadFault = IsFaulty source × IsReadWithin most_read source.old source.new
+IsNotRead source end.NoMemory = IsFaultless source × IsReadWithin most_read source.old source.new
 IsNotRead source (end.Script line reason) = IsFaultless source × Refuses source.old line reason
-    × IsReadUp source.old source.new
+    × IsReadUp most_read source.old source.new
 IsNotRead source _ = ⊥

@@ -8,13 +8,13 @@ ghost use Rattle.std.specs.Prelude.{◌≡◌, IfErr, IfOk};
 ghost use Rattle.streams.specs.Streams.{sides};
 
 use crate::session::{Session, SessionEnd};
-use crate::source::read_all;
+use crate::source::{FedReader, SCRIPT_MAX};
 use lwp_types::{Env, NoMemory, PodParams, Source};
 use pod_runner::Run;
 use script_body::{ScriptProgram, ThreadBody};
 use script_text::{ReadErr, Script, ScriptReader};
 use std::alloc::Global;
-use streams::ReadFailure;
+use streams::{ReadFailure, feed_up_to};
 
 /// The script that a source holds, which is read to its end; or how the session ends without one. Of what is read only a buffer and
 /// the reader are kept.
@@ -24,13 +24,16 @@ pub fn read_whole<S: Source>(alloc: Global, source: &mut S) -> Result<Script, Se
     ensures within { IfOk result IsWithinLimits }
     ensures not_read { IfErr result (λ e. IsNotRead (sides S.left S.faults source.old source.new) e) }
 {
-    let mut reader = ScriptReader::new(alloc);
-    match read_all(&mut reader, source) {
+    let mut fed = FedReader {
+        reader: ScriptReader::new(alloc),
+    };
+    // One byte more than a script may have tells that it is too long.
+    match feed_up_to(SCRIPT_MAX + 1, &mut fed, source) {
         Ok(()) => {}
         Err(ReadFailure::Fault) => return Err(SessionEnd::ReadFault),
         Err(ReadFailure::NoMemory) => return Err(SessionEnd::NoMemory),
     }
-    match reader.finish() {
+    match fed.reader.finish() {
         Ok(script) => Ok(script),
         Err(ReadErr::NoMemory) => Err(SessionEnd::NoMemory),
         Err(ReadErr::Bad { line, reason }) => Err(SessionEnd::Script { line, reason }),
