@@ -1,16 +1,18 @@
 //! The program: standard input holds a script, and standard output takes what is wrong with it or, with the word `--print` alone, the
 //! script, each line in its one spelling.
 //!
-//! All that it does is `script_advice::check` or `script_printer::copy`, on the standard streams; no contract can say what those hold.
+//! Where its one word is `--help` or `--version`, it says so much of itself, by the crate `about`. All else that it does is
+//! `script_advice::check` or `script_printer::copy`, on the standard streams; no contract can say what those hold.
 //! What is written is gathered, and goes out 64 KiB at a time. Standard error takes why a script isn't checked or printed.
 //!
-//! The crate stands on these two, and on `streams` for the standard streams.
+//! The crate stands on these, and on `streams` for the standard streams.
 #![tactic(auto)]
 
 ghost use Rattle.std.specs.Prelude.{◌≡◌, ◌≢◌};
 ghost use Rattle.std.specs.IoError.{error_kind};
 ghost use Rattle.script_advice.specs.declared.checking.CheckEnd.TheVariants.{NoMemory, Usage};
 
+use about::{Question, print_answer, question_of};
 use lwp_types::Failed;
 use script_advice::{CheckEnd, check, fault_text, status_of};
 use script_printer::{CopyFailure, asks_for_print, copy};
@@ -19,11 +21,33 @@ use std::process::ExitCode;
 use std::{env, io};
 use streams::{GATHERED, StdSink, StdSource};
 
+const HELP: &str = "\
+usage: lwpcheck [--json | --print] < SCRIPT
+
+  --json      write what is wrong as an object a line
+  --print     check nothing, and write the script, each line in its one spelling
+  --help      write this
+  --version   write the program's name and version
+
+Without a word, what is wrong with the script is written to be read.
+";
+
 fn main(rt: HostRuntime) -> ExitCode {
     match words(&rt) {
-        Ok(words) if asks_for_print(&words) => print(&rt),
-        Ok(words) => tell(&rt, end_of(&rt, &words)),
+        Ok(words) => match question_of(&words) {
+            Some(question) => answer(&rt, question),
+            None if asks_for_print(&words) => print(&rt),
+            None => tell(&rt, end_of(&rt, &words)),
+        },
         Err(error) => tell(&rt, end_without_words(&error)),
+    }
+}
+
+// Says what is asked of the program itself.
+fn answer(rt: &HostRuntime, question: Question) -> ExitCode {
+    match print_answer(rt, question, "lwpcheck", HELP) {
+        Ok(()) => ExitCode::SUCCESS,
+        Err(_) => tell(rt, CheckEnd::WriteFault),
     }
 }
 

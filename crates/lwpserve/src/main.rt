@@ -1,7 +1,8 @@
 //! The program: its words say what to do, standard input holds the script, if one is read, and standard output takes the trace, or
 //! what sums it up.
 //!
-//! All that it does is `lwp_serve::top`, on the standard streams; no contract can say what those hold. What is written is gathered,
+//! Where its one word is `--help` or `--version`, it says so much of itself, by the crate `about`. All else that it does is
+//! `lwp_serve::top`, on the standard streams; no contract can say what those hold. What is written is gathered,
 //! and goes out 64 KiB at a time, and on `run` also whenever the pod waits for a line. What went wrong is said on standard error, and the exit status is the session's.
 #![tactic(auto)]
 
@@ -9,6 +10,7 @@ ghost use Rattle.std.specs.Prelude.{◌≡◌, ◌≢◌};
 ghost use Rattle.std.specs.IoError.{error_kind};
 ghost use Rattle.script_session.specs.declared.session.SessionEnd.TheVariants.{NoMemory, Usage, WriteFault};
 
+use about::{print_answer, question_of};
 use lwp_serve::{Session, SessionEnd, fault_text, no_gates, top};
 use lwp_types::Failed;
 use std::io::{ErrorKind, Write};
@@ -18,9 +20,30 @@ use std::thread::Threads;
 use std::{env, io};
 use streams::{GATHERED, StdSink, StdSource};
 
+const HELP: &str = "\
+usage: lwpserve WORD [NUMBER].. < INPUT
+
+  plan [TURNS]              run a script, with all lines of its clients in place, and write its trace
+  run [TURNS]               the same, while a thread of the system for each client posts its lines
+  make SEED THREADS LINES   make a script, run it, and write five lines that sum it up; nothing is read
+  batch THREADS [TURNS]     run many scripts, as by plan, and write a line of each
+  answers CLIENT [TURNS]    run a script, as by plan, and write what one client is told
+  replay [TURNS]            read a script and a trace, and write whether it is a trace of that script
+  --help                    write this
+  --version                 write the program's name and version
+
+TURNS is how many calls a script may make: 1 to 1000000, or 100000 without it.
+";
+
 fn main(rt: HostRuntime) -> ExitCode {
     let session = match words(&rt) {
-        Ok(words) => session_of(&rt, &rt, &words),
+        Ok(words) => match question_of(&words) {
+            Some(question) => match print_answer(&rt, question, "lwpserve", HELP) {
+                Ok(()) => return ExitCode::SUCCESS,
+                Err(_) => Session::unread(rt.alloc(), SessionEnd::WriteFault),
+            },
+            None => session_of(&rt, &rt, &words),
+        },
         Err(error) => Session::unread(rt.alloc(), end_without_words(&error)),
     };
     if let Ok(text) = fault_text(rt.alloc(), &session.end) {

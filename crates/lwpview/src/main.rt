@@ -1,6 +1,7 @@
 //! The program: standard input holds a trace, and standard output takes its page, of the calls that the words ask for.
 //!
-//! All that it does is `trace_page::view`, on the standard streams; no contract can say what those hold. What is written is
+//! Where its one word is `--help` or `--version`, it says so much of itself, by the crate `about`. All else that it does is
+//! `trace_page::view`, on the standard streams; no contract can say what those hold. What is written is
 //! gathered, and goes out 64 KiB at a time. What went wrong is said on standard error.
 #![tactic(auto)]
 
@@ -8,6 +9,7 @@ ghost use Rattle.std.specs.Prelude.{◌≡◌, ◌≢◌};
 ghost use Rattle.std.specs.IoError.{error_kind};
 ghost use Rattle.trace_page.specs.declared.showing.ViewEnd.TheVariants.{NoMemory, Usage};
 
+use about::{print_answer, question_of};
 use lwp_types::Failed;
 use std::io::{ErrorKind, Write};
 use std::process::ExitCode;
@@ -15,9 +17,25 @@ use std::{env, io};
 use streams::{GATHERED, StdSink, StdSource};
 use trace_page::{ViewEnd, fault_text, status_of, view};
 
+const HELP: &str = "\
+usage: lwpview [FROM TO] < TRACE
+
+  FROM TO     draw the calls from this one to that one, counted from 1; of more than 5000 the first 5000
+  --help      write this
+  --version   write the program's name and version
+
+Without words the first 5000 calls are drawn. The page is HTML, with the picture in it.
+";
+
 fn main(rt: HostRuntime) -> ExitCode {
     let end = match words(&rt) {
-        Ok(words) => end_of(&rt, &words),
+        Ok(words) => match question_of(&words) {
+            Some(question) => match print_answer(&rt, question, "lwpview", HELP) {
+                Ok(()) => return ExitCode::SUCCESS,
+                Err(_) => ViewEnd::WriteFault,
+            },
+            None => end_of(&rt, &words),
+        },
         Err(error) => end_without_words(&error),
     };
     if let Ok(text) = fault_text(rt.alloc(), end) {
