@@ -1,0 +1,24 @@
+# Completion for bash: the words and options of lwpserve, lwpview and lwpcheck. tools/install puts it where bash-completion looks for it;
+# without that, `source tools/completion.bash`.
+
+# The words of lwpserve; behind them stand numbers alone, which nothing can complete.
+_loqzemar_lwpserve() {
+  COMPREPLY=()
+  [ "$COMP_CWORD" -ne 1 ] || mapfile -t COMPREPLY < <(compgen -W 'plan run make batch answers replay --help --version' -- "$2")
+}
+
+# The options of lwpview; its other words are numbers.
+_loqzemar_lwpview() {
+  COMPREPLY=()
+  [ "$COMP_CWORD" -ne 1 ] || mapfile -t COMPREPLY < <(compgen -W '--help --version' -- "$2")
+}
+
+# The options of lwpcheck, of which it takes one.
+_loqzemar_lwpcheck() {
+  COMPREPLY=()
+  [ "$COMP_CWORD" -ne 1 ] || mapfile -t COMPREPLY < <(compgen -W '--json --print --help --version' -- "$2")
+}
+
+complete -F _loqzemar_lwpserve lwpserve
+complete -F _loqzemar_lwpview lwpview
+complete -F _loqzemar_lwpcheck lwpcheck
