@@ -1,9 +1,8 @@
 -- The index: strays by rising numbers, and cells.
 use Rattle.lwp_types.specs.State.{passes}
-use Rattle.lists.specs.ThreadIndex.{IsAbsent, IsAt, IsEmpty, IsGapAt, IsHome, IsIndexed, IsRising, Puts, cell_in, is_entry_of, place_in, place_of, place_or, no_entry, without_entry}
+use Rattle.lists.specs.ThreadIndex.{IsAbsent, IsAt, IsEmpty, IsGapAt, IsHome, IsIndexed, IsKept, IsMask, IsRising, Puts, cell_in, home, is_entry_of, place_in, place_of, place_or, no_entry, without_entry}
 use Rattle.lists.specs.declared.thread_index.Entry.{Entry}
-use Rattle.std.proofs.Common.{Bool, Err, IfNone, IfSome, IsSome, Ok, Result, get_or, get_or-set_other, get_or-set_same, inl, inr, is_some, length-set, replicate, set, suc, zero, ◌%◌, ◌<◌, List, None, Option, Some, [], ap, arith, cond, eqb, false, length, not, option_map, refl, subst, sym, true, ℕ, ◌+◌, ◌∙◌, ◌∷◌, ◌≡◌, ◌≢◌, ◌≤◌}
-use Rattle.std.proofs.lemmas.Nat.{mod_below}
+use Rattle.std.proofs.Common.{Bool, Err, IfNone, IfSome, IsSome, Ok, Result, get_or, get_or-set_other, get_or-set_same, inl, inr, is_some, length-set, replicate, set, suc, zero, ◌<◌, List, None, Option, Some, [], ap, arith, cond, eqb, false, length, not, option_map, refl, subst, sym, true, ℕ, ◌+◌, ◌∙◌, ◌∷◌, ◌≡◌, ◌≢◌, ◌≤◌}
 use Rattle.lists.proofs.LivingLemmas.{held, living-set, none_living}
 use Rattle.lists.specs.Living.{living}
 use Rattle.std.proofs.lemmas.Bool.{cases_eq, cases_lt, eq-eqb, eqb-false, eqb-true, ne_eqb}
@@ -14,7 +13,9 @@ use Rattle.std.proofs.lemmas.List.Sorted.{IsNonDecreasingBy-from_default}
 use Rattle.std.specs.List.{AllByRecursion, find, insert, remove}
 use Rattle.std.specs.List.Sorted.{IsBinarySearchResult, IsNonDecreasingBy, IsSearchInRange}
 use Rattle.std.specs.Ordering.{nat_cmp, ordering_index}
+use Rattle.std.proofs.lemmas.List.{length-replicate}
 use Rattle.std.specs.Result.{result_err, result_ok}
+use lib.Bits.{and_le_r}
 
 find_gone : (n : ℕ) (es : List Entry) → find (is_entry_of n) (without_entry n es) ≡ None
 find_gone n [] = refl
@@ -213,110 +214,110 @@ not_by_cell t other (Some e) away = rw away refl
 foreign : (t : ℕ) (e : Entry) → e.number ≢ t → passes (is_entry_of t) (Some e) ≡ false
 foreign t e away = ne_eqb e.number t away
 
-module _ (cells : List (Option Entry)) (strays : List Entry) (was : IsIndexed cells strays) where
+module _ (cells : List (Option Entry)) (mask : ℕ) (strays : List Entry) (was : IsIndexed cells mask strays) where
   -- an entry of this number stands in its cell, and in no other
-  not_elsewhere : (n : ℕ) → passes (is_entry_of n) (cell_in cells n) ≡ false → (i : ℕ) (e : Entry) → get_or cells i None ≡ Some e → e.number ≢ n
+  not_elsewhere : (n : ℕ) → passes (is_entry_of n) (cell_in cells mask n) ≡ false → (i : ℕ) (e : Entry) → get_or cells i None ≡ Some e → e.number ≢ n
   not_elsewhere n away i e is same =
-      let homed = subst (λ c. IfSome c (IsHome (length cells) strays i)) is (was.homes i) in
-      let at : n % length cells ≡ i = ap (λ m. m % length cells) (sym same) ∙ homed.home in
-      let own : cell_in cells n ≡ Some e = ap (λ j. get_or cells j None) at ∙ is in
+      let homed = subst (λ c. IfSome c (IsHome mask strays i)) is (was.homes i) in
+      let at : home mask n ≡ i = ap (home mask) (sym same) ∙ homed.cell in
+      let own : cell_in cells mask n ≡ Some e = ap (λ j. get_or cells j None) at ∙ is in
       let differs : passes (is_entry_of n) (Some e) ≡ false = ap (passes (is_entry_of n)) (sym own) ∙ away in
       eqb-false _ _ differs same
 
   -- ---- a cell is written
 
   module _ (n : ℕ) (some : 1 ≤ length cells) (c : Option Entry) where
-    here_in : n % length cells < length cells
-    here_in = mod_below n (length cells) (omega (arith, some))
+    here_in : home mask n < length cells
+    here_in = omega (arith, and_le_r n mask, was.masked some)
 
-    same_length : length (set cells (n % length cells) c) ≡ length cells
-    same_length = length-set cells (n % length cells) c
+    masked_set : IsMask mask (set cells (home mask n) c)
+    masked_set = rw (length-set cells (home mask n) c) was.masked
 
-    cell_here : (m : ℕ) → m % length cells ≡ n % length cells → cell_in (set cells (n % length cells) c) m ≡ c
-    cell_here m same = ap (λ l. get_or (set cells (n % length cells) c) (m % l) None) same_length ∙ ap (λ j. get_or (set cells (n % length cells) c) j None) same ∙ get_or-set_same cells (n % length cells) c None here_in
+    cell_here : (m : ℕ) → home mask m ≡ home mask n → cell_in (set cells (home mask n) c) mask m ≡ c
+    cell_here m same = ap (λ j. get_or (set cells (home mask n) c) j None) same ∙ get_or-set_same cells (home mask n) c None here_in
 
-    cell_other : (m : ℕ) → m % length cells ≢ n % length cells → cell_in (set cells (n % length cells) c) m ≡ cell_in cells m
-    cell_other m away = ap (λ l. get_or (set cells (n % length cells) c) (m % l) None) same_length ∙ get_or-set_other cells (n % length cells) (m % length cells) c None away
+    cell_other : (m : ℕ) → home mask m ≢ home mask n → cell_in (set cells (home mask n) c) mask m ≡ cell_in cells mask m
+    cell_other m away = get_or-set_other cells (home mask n) (home mask m) c None away
 
-    homes_set : IfSome c (IsHome (length cells) strays (n % length cells)) → (i : ℕ) → IfSome (get_or (set cells (n % length cells) c) i None) (IsHome (length (set cells (n % length cells) c)) strays i)
-    homes_set new i = rw same_length (elim (cases_eq i (n % length cells)) [
-      | inl same ↦ rw (same, get_or-set_same cells (n % length cells) c None here_in) new
-      | inr away ↦ rw (get_or-set_other cells (n % length cells) i c None away) (was.homes i)
-    ])
+    homes_set : IfSome c (IsHome mask strays (home mask n)) → (i : ℕ) → IfSome (get_or (set cells (home mask n) c) i None) (IsHome mask strays i)
+    homes_set new i = elim (cases_eq i (home mask n)) [
+      | inl same ↦ rw (same, get_or-set_same cells (home mask n) c None here_in) new
+      | inr away ↦ rw (get_or-set_other cells (home mask n) i c None away) (was.homes i)
+    ]
 
     -- the others are found as before
-    others_set : (passed : (m : ℕ) → m ≢ n → passes (is_entry_of m) c ≡ false) → ((m : ℕ) → m ≢ n → passes (is_entry_of m) (cell_in cells n) ≡ false) → (m : ℕ) → m ≢ n → place_or m (place_in strays m) (cell_in (set cells (n % length cells) c) m) ≡ place_or m (place_in strays m) (cell_in cells m)
-    others_set passed before m away = elim (cases_eq (m % length cells) (n % length cells)) [
+    others_set : (passed : (m : ℕ) → m ≢ n → passes (is_entry_of m) c ≡ false) → ((m : ℕ) → m ≢ n → passes (is_entry_of m) (cell_in cells mask n) ≡ false) → (m : ℕ) → m ≢ n → place_or m (place_in strays m) (cell_in (set cells (home mask n) c) mask m) ≡ place_or m (place_in strays m) (cell_in cells mask m)
+    others_set passed before m away = elim (cases_eq (home mask m) (home mask n)) [
       | inl same ↦
-          let was_cell : cell_in cells m ≡ cell_in cells n = ap (λ j. get_or cells j None) same in
-          rw (cell_here m same, was_cell) (not_by_cell m (place_in strays m) c (passed m away) ∙ sym (not_by_cell m (place_in strays m) (cell_in cells n) (before m away)))
+          let was_cell : cell_in cells mask m ≡ cell_in cells mask n = ap (λ j. get_or cells j None) same in
+          rw (cell_here m same, was_cell) (not_by_cell m (place_in strays m) c (passed m away) ∙ sym (not_by_cell m (place_in strays m) (cell_in cells mask n) (before m away)))
       | inr apart ↦ rw (cell_other m apart) refl
     ]
 
   module _ (n place room : ℕ) (some : 1 ≤ length cells) where
     -- an empty cell gets an entry
-    module _ (empty : cell_in cells n ≡ None) (new : place_or n (place_in strays n) (cell_in cells n) ≡ None) where
+    module _ (empty : cell_in cells mask n ≡ None) (new : place_or n (place_in strays n) (cell_in cells mask n) ≡ None) where
       no_stray : place_in strays n ≡ None
       no_stray = sym (ap (place_or n (place_in strays n)) empty) ∙ new
 
-      pub IsIndexed-put : IsIndexed (set cells (n % length cells) (Some (entry_of n place))) strays
-      IsIndexed-put = record { rising = was.rising; homes = homes_set n some (Some (entry_of n place)) (record { home = refl; alone = no_stray }) }
+      pub IsIndexed-put : IsIndexed (set cells (home mask n) (Some (entry_of n place))) mask strays
+      IsIndexed-put = record { masked = masked_set n some (Some (entry_of n place)); rising = was.rising; homes = homes_set n some (Some (entry_of n place)) (record { cell = refl; alone = no_stray }) }
 
-      pub Puts-cell : Puts (place_of (record { cells = cells; strays = strays; room = room })) (place_of (record { cells = set cells (n % length cells) (Some (entry_of n place)); strays = strays; room = room })) n (Some place)
+      pub Puts-cell : Puts (place_of (record { cells = cells; mask = mask; strays = strays; room = room })) (place_of (record { cells = set cells (home mask n) (Some (entry_of n place)); mask = mask; strays = strays; room = room })) n (Some place)
       Puts-cell = record {
         here = ap (place_or n (place_in strays n)) (cell_here n some (Some (entry_of n place)) n refl) ∙ (rw (eq-eqb n n refl) refl);
         others = others_set n some (Some (entry_of n place)) (λ m away. foreign m (entry_of n place) (λ same. away (sym same))) (λ m away. rw empty refl);
       }
 
-      pub count-cell : length (living (set cells (n % length cells) (Some (entry_of n place)))) + length strays ≡ length (living cells) + length strays + 1
-      count-cell = omega (arith, living-set cells (n % length cells) (Some (entry_of n place)) (here_in n some None), ap held empty)
+      pub count-cell : length (living (set cells (home mask n) (Some (entry_of n place)))) + length strays ≡ length (living cells) + length strays + 1
+      count-cell = omega (arith, living-set cells (home mask n) (Some (entry_of n place)) (here_in n some None), ap held empty)
 
     -- its own entry goes
-    module _ (own : passes (is_entry_of n) (cell_in cells n) ≡ true) where
-      entry_there : (c : Option Entry) → cell_in cells n ≡ c → passes (is_entry_of n) c ≡ true → (place_in strays n ≡ None) × (held c ≡ 1) × ((m : ℕ) → m ≢ n → passes (is_entry_of m) c ≡ false)
+    module _ (own : passes (is_entry_of n) (cell_in cells mask n) ≡ true) where
+      entry_there : (c : Option Entry) → cell_in cells mask n ≡ c → passes (is_entry_of n) c ≡ true → (place_in strays n ≡ None) × (held c ≡ 1) × ((m : ℕ) → m ≢ n → passes (is_entry_of m) c ≡ false)
       entry_there None is passed = absurd (cc)
       entry_there (Some e) is passed =
-          let homed = subst (λ c. IfSome c (IsHome (length cells) strays (n % length cells))) is (was.homes (n % length cells)) in
+          let homed = subst (λ c. IfSome c (IsHome mask strays (home mask n))) is (was.homes (home mask n)) in
           let same : e.number ≡ n = eqb-true _ _ passed in
           (ap (place_in strays) (sym same) ∙ homed.alone, refl, λ m away. foreign m e (λ again. away (sym again ∙ same)))
 
-      facts : (place_in strays n ≡ None) × (held (cell_in cells n) ≡ 1) × ((m : ℕ) → m ≢ n → passes (is_entry_of m) (cell_in cells n) ≡ false)
-      facts = entry_there (cell_in cells n) refl own
+      facts : (place_in strays n ≡ None) × (held (cell_in cells mask n) ≡ 1) × ((m : ℕ) → m ≢ n → passes (is_entry_of m) (cell_in cells mask n) ≡ false)
+      facts = entry_there (cell_in cells mask n) refl own
 
-      pub IsIndexed-take : IsIndexed (set cells (n % length cells) None) strays
-      IsIndexed-take = record { rising = was.rising; homes = homes_set n some None tt }
+      pub IsIndexed-take : IsIndexed (set cells (home mask n) None) mask strays
+      IsIndexed-take = record { masked = masked_set n some None; rising = was.rising; homes = homes_set n some None tt }
 
-      pub Puts-take : Puts (place_of (record { cells = cells; strays = strays; room = room })) (place_of (record { cells = set cells (n % length cells) None; strays = strays; room = room })) n None
+      pub Puts-take : Puts (place_of (record { cells = cells; mask = mask; strays = strays; room = room })) (place_of (record { cells = set cells (home mask n) None; mask = mask; strays = strays; room = room })) n None
       Puts-take = record {
         here = ap (place_or n (place_in strays n)) (cell_here n some None n refl) ∙ facts.0;
         others = others_set n some None (λ m away. refl) facts.2;
       }
 
-      pub count-take : length (living (set cells (n % length cells) None)) + length strays + 1 ≡ length (living cells) + length strays
-      count-take = omega (arith, living-set cells (n % length cells) None (here_in n some None), facts.1)
+      pub count-take : length (living (set cells (home mask n) None)) + length strays + 1 ≡ length (living cells) + length strays
+      count-take = omega (arith, living-set cells (home mask n) None (here_in n some None), facts.1)
 
   -- ---- the strays change
 
-  module _ (n room : ℕ) (away : passes (is_entry_of n) (cell_in cells n) ≡ false) (strays' : List Entry) (o : Option ℕ) (rising : IsRising strays') (puts : Puts (place_in strays) (place_in strays') n o) where
-    pub IsIndexed-strays : IsIndexed cells strays'
-    IsIndexed-strays = record { rising = rising; homes = λ i. by_cell i (get_or cells i None) refl (was.homes i) }
+  module _ (n room : ℕ) (away : passes (is_entry_of n) (cell_in cells mask n) ≡ false) (strays' : List Entry) (o : Option ℕ) (rising : IsRising strays') (puts : Puts (place_in strays) (place_in strays') n o) where
+    pub IsIndexed-strays : IsIndexed cells mask strays'
+    IsIndexed-strays = record { masked = was.masked; rising = rising; homes = λ i. by_cell i (get_or cells i None) refl (was.homes i) }
       where
-        by_cell : (i : ℕ) (c : Option Entry) → get_or cells i None ≡ c → IfSome c (IsHome (length cells) strays i) → IfSome c (IsHome (length cells) strays' i)
-        by_cell i None is home = tt
-        by_cell i (Some e) is home = record { home = home.home; alone = puts.others e.number (not_elsewhere n away i e is) ∙ home.alone }
+        by_cell : (i : ℕ) (c : Option Entry) → get_or cells i None ≡ c → IfSome c (IsHome mask strays i) → IfSome c (IsHome mask strays' i)
+        by_cell i None is homed = tt
+        by_cell i (Some e) is homed = record { cell = homed.cell; alone = puts.others e.number (not_elsewhere n away i e is) ∙ homed.alone }
 
-    pub Puts-strays : Puts (place_of (record { cells = cells; strays = strays; room = room })) (place_of (record { cells = cells; strays = strays'; room = room })) n o
+    pub Puts-strays : Puts (place_of (record { cells = cells; mask = mask; strays = strays; room = room })) (place_of (record { cells = cells; mask = mask; strays = strays'; room = room })) n o
     Puts-strays = record {
-      here = not_by_cell n (place_in strays' n) (cell_in cells n) away ∙ puts.here;
-      others = λ m differs. ap (λ other. place_or m other (cell_in cells m)) (puts.others m differs);
+      here = not_by_cell n (place_in strays' n) (cell_in cells mask n) away ∙ puts.here;
+      others = λ m differs. ap (λ other. place_or m other (cell_in cells mask m)) (puts.others m differs);
     }
 
 -- no entry anywhere
-pub IsIndexed-bare : (cells : List (Option Entry)) → ((i : ℕ) → get_or cells i None ≡ None) → IsIndexed cells []
-IsIndexed-bare cells none = record { rising = tt; homes = λ i. rw (none i) tt }
+pub IsIndexed-bare : (cells : List (Option Entry)) (mask : ℕ) → IsMask mask cells → ((i : ℕ) → get_or cells i None ≡ None) → IsIndexed cells mask []
+IsIndexed-bare cells mask masked none = record { masked = masked; rising = tt; homes = λ i. rw (none i) tt }
 
-pub IsEmpty-bare : (cells : List (Option Entry)) (room : ℕ) → ((i : ℕ) → get_or cells i None ≡ None) → IsEmpty (record { cells = cells; strays = []; room = room })
-IsEmpty-bare cells room none = record { nobody = λ t. rw (none (t % length cells)) refl; none = omega (arith, ap length (none_living cells none)) }
+pub IsEmpty-bare : (cells : List (Option Entry)) (mask room : ℕ) → ((i : ℕ) → get_or cells i None ≡ None) → IsEmpty (record { cells = cells; mask = mask; strays = []; room = room })
+IsEmpty-bare cells mask room none = record { nobody = λ t. rw (none (home mask t)) refl; none = omega (arith, ap length (none_living cells none)) }
 
 abbrev pub no_cell : Option Entry
 no_cell = None
@@ -334,6 +335,21 @@ pub some_stray : (t : ℕ) (other : Option ℕ) (c : Option Entry) → passes (i
 some_stray t other c away some = rw (not_by_cell t other c away) at some
 
 -- who has an entry in a cell has cells
-pub wide : (cells : List (Option Entry)) (n : ℕ) → passes (is_entry_of n) (cell_in cells n) ≡ true → 1 ≤ length cells
-wide [] n own = absurd (cc)
-wide (c ∷ cells) n own = omega arith
+pub wide : (cells : List (Option Entry)) (mask n : ℕ) → passes (is_entry_of n) (cell_in cells mask n) ≡ true → 1 ≤ length cells
+wide [] mask n own = absurd (cc)
+wide (c ∷ cells) mask n own = omega arith
+
+pub IsKept-bare : (n mask : ℕ) → (1 ≤ n → mask < n) → IsKept (replicate n no_cell) mask [] 0
+IsKept-bare n mask masked = record {
+  indexed = IsIndexed-bare (replicate n no_cell) mask (rw (length-replicate {A = Option Entry} n no_cell) masked) (bare_cells n);
+  counted = sym (IsEmpty-bare (replicate n no_cell) mask 0 (bare_cells n)).none;
+}
+
+-- whose place isn't found has no entry in its cell
+pub not_own : (t : ℕ) (other : Option ℕ) (c : Option Entry) → place_or t other c ≡ None → passes (is_entry_of t) c ≡ false
+not_own t other None none = refl
+not_own t other (Some e) none = by_test (is_entry_of t e) none
+  where
+    by_test : (b : Bool) → cond b (Some e.place) other ≡ None → b ≡ false
+    by_test true is = absurd (cc)
+    by_test false is = refl

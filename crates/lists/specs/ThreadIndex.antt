@@ -1,6 +1,6 @@
 -- The index from threads to places.
 use Rattle.std.specs.List.{AllByRecursion, filter, find}
-use Rattle.std.specs.Prelude.{Bool, IfSome, List, None, Option, Some, [], if◌then◌else◌, length, not, option_map, slice_index_or, ℕ, ◌%◌, ◌+◌, ◌<◌, ◌==◌, ◌∷◌, ◌≡◌, ◌≢◌, ◌≤◌}
+use Rattle.std.specs.Prelude.{bit_and, Bool, IfSome, List, None, Option, Some, [], if◌then◌else◌, length, not, option_map, slice_index_or, ℕ, ◌+◌, ◌<◌, ◌==◌, ◌∷◌, ◌≡◌, ◌≢◌, ◌≤◌}
 use Rattle.lists.specs.Living.{living}
 use Rattle.lists.specs.declared.thread_index.Entry.{Entry}
 
@@ -12,9 +12,17 @@ is_entry_of t e = e.number == t
 abbrev pub place_in : List Entry → ℕ → Option ℕ
 place_in es t = option_map (λ e. e.place) (find (is_entry_of t) es)
 
+-- which cell is that of a number: its bits under the mask say so
+abbrev pub home : ℕ → ℕ → ℕ
+home mask n = bit_and n mask
+
+-- each number has a cell, if there are any
+abbrev pub IsMask : ℕ → List (Option Entry) → Type 0
+IsMask mask cells = 1 ≤ length cells → mask < length cells
+
 -- what stands in the cell of a number
-abbrev pub cell_in : List (Option Entry) → ℕ → Option Entry
-cell_in cells n = slice_index_or cells (n % length cells) None
+abbrev pub cell_in : List (Option Entry) → ℕ → ℕ → Option Entry
+cell_in cells mask n = slice_index_or cells (home mask n) None
 
 -- the place of thread t by its cell, and else this
 abbrev pub place_or : ℕ → Option ℕ → Option Entry → Option ℕ
@@ -23,8 +31,9 @@ place_or t other (Some e) = if is_entry_of t e then Some e.place else other
 
 -- what a contract sees of an index
 pub record Found : Type 0 where
-  -- each entry at the remainder of its number, as long as no other stands there
+  -- each entry in the cell of its number, as long as no other stands there
   pub cells : List (Option Entry)
+  pub mask : ℕ
   -- those whose cell another had
   pub strays : List Entry
   -- how many strays there can be without asking for memory
@@ -32,7 +41,7 @@ pub record Found : Type 0 where
 
 -- the place of thread t: by its cell, and else among the strays
 abbrev pub place_of : Found → ℕ → Option ℕ
-place_of f t = place_or t (place_in f.strays t) (cell_in f.cells t)
+place_of f t = place_or t (place_in f.strays t) (cell_in f.cells f.mask t)
 
 -- how many have a place
 abbrev pub count_of : Found → ℕ
@@ -85,11 +94,17 @@ no_entry = record { number = 0; place = 0 }
 -- ---- both
 
 -- the entry stands in the cell of its number, and not among the strays
-pub record IsHome (width : ℕ) (strays : List Entry) (i : ℕ) (e : Entry) : Type 0 where
-  pub home : e.number % width ≡ i
+pub record IsHome (mask : ℕ) (strays : List Entry) (i : ℕ) (e : Entry) : Type 0 where
+  pub cell : home mask e.number ≡ i
   pub alone : place_in strays e.number ≡ None
 
 -- the strays rise, and each cell has an entry of its own or none
-pub record IsIndexed (cells : List (Option Entry)) (strays : List Entry) : Type 0 where
+pub record IsIndexed (cells : List (Option Entry)) (mask : ℕ) (strays : List Entry) : Type 0 where
+  pub masked : IsMask mask cells
   pub rising : IsRising strays
-  pub homes : (i : ℕ) → IfSome (slice_index_or cells i None) (IsHome (length cells) strays i)
+  pub homes : (i : ℕ) → IfSome (slice_index_or cells i None) (IsHome mask strays i)
+
+-- the same, and so many entries are there
+pub record IsKept (cells : List (Option Entry)) (mask : ℕ) (strays : List Entry) (count : ℕ) : Type 0 where
+  pub indexed : IsIndexed cells mask strays
+  pub counted : count ≡ length (living cells) + length strays

@@ -1,9 +1,9 @@
 // The place of each thread.
-ghost use Rattle.std.specs.Prelude.{◌≡◌, ◌%◌, ◌+◌, ◌<◌, ◌≤◌, IfNone, IfOk, IfSome, IsSome, None, Some, length, replicate, slice_index_or, slice_set, vec_capacity};
+ghost use Rattle.std.specs.Prelude.{◌≡◌, ◌+◌, ◌<◌, ◌≤◌, IfNone, IfOk, IfSome, IsSome, None, OnOk, Some, length, replicate, slice_index_or, slice_set, vec_capacity};
 ghost use Rattle.std.specs.List.{find};
 ghost use Rattle.lwp_types.specs.State.{passes};
 ghost use Rattle.lists.specs.declared.thread_index.Entry.{Entry};
-ghost use Rattle.lists.specs.ThreadIndex.{IsAbsent, IsAt, IsEmpty, IsGapAt, IsRising, Puts, cell_in, count_of, is_entry_of, place_in, place_of, no_entry, width_of, without_entry};
+ghost use Rattle.lists.specs.ThreadIndex.{IsAbsent, IsAt, IsEmpty, IsGapAt, IsMask, IsRising, Puts, cell_in, count_of, home, is_entry_of, place_in, place_of, no_entry, width_of, without_entry};
 
 use lwp_types::{NoMemory, Tid};
 use std::alloc::Global;
@@ -19,21 +19,25 @@ pub struct Entry {
 /// An entry for each thread that has a place.
 #[derive(Drop)]
 pub struct Index {
-    // Each at the remainder of its number, as long as no other stands there.
+    // Each in the cell of its number, as long as no other stands there.
     cells: Vec<Option<Entry>>,
+    // The bits of a number that say which cell is its own.
+    mask: usize,
     // Those whose cell another had, by rising numbers.
     strays: Vec<Entry>,
+    // How many entries there are.
+    count: usize,
 }
 
 impl Model for Index {
     ghost use Rattle.std.specs.Prelude.{vec_capacity};
-    ghost use Rattle.lists.specs.ThreadIndex.{Found, IsIndexed};
+    ghost use Rattle.lists.specs.ThreadIndex.{Found, IsKept};
 
     ghost Value = { Found };
 
-    ghost view = { λ i. record { cells = i.cells.items; strays = i.strays.items; room = vec_capacity i.strays } };
+    ghost view = { λ i. record { cells = i.cells.items; mask = i.mask; strays = i.strays.items; room = vec_capacity i.strays } };
 
-    ghost invariant = { λ i. IsIndexed i.cells.items i.strays.items };
+    ghost invariant = { λ i. IsKept i.cells.items i.mask i.strays.items i.count };
 }
 
 // The entry there.
@@ -106,30 +110,52 @@ fn put_in(strays: &mut Vec<Entry>, number: u64, place: usize)
     }
 }
 
+// What stands in the cell of a number, where there are cells.
+fn own_cell(cells: &Vec<Option<Entry>>, mask: usize, number: u64) -> Option<Entry>
+    requires mask { IsMask mask cells.now.items }
+    requires some { 1 ≤ length cells.now.items }
+    ensures { result ≡ cell_in cells.now.items mask number }
+{
+    cells[number as usize & mask]
+}
+
 // What stands in the cell of a number: its own entry, another's or none.
-fn cell(cells: &Vec<Option<Entry>>, number: u64) -> Option<Entry>
-    ensures { result ≡ cell_in cells.now.items number }
+fn cell(cells: &Vec<Option<Entry>>, mask: usize, number: u64) -> Option<Entry>
+    requires { IsMask mask cells.now.items }
+    ensures { result ≡ cell_in cells.now.items mask number }
 {
     if cells.is_empty() {
         return None;
     }
-    cells[number as usize % cells.len()]
+    own_cell(cells, mask, number)
 }
 
 // Whether the cell of a number has its own entry.
-fn is_own(cells: &Vec<Option<Entry>>, number: u64) -> bool
-    ensures { result ≡ passes (is_entry_of number) (cell_in cells.now.items number) }
+fn is_own(cells: &Vec<Option<Entry>>, mask: usize, number: u64) -> bool
+    requires { IsMask mask cells.now.items }
+    ensures { result ≡ passes (is_entry_of number) (cell_in cells.now.items mask number) }
 {
-    cell(cells, number).is_some_and(|entry| entry.number == number)
+    cell(cells, mask, number).is_some_and(|entry| entry.number == number)
 }
 
 // The cell of a number has this entry, or none, from now on.
-fn set_cell(cells: &mut Vec<Option<Entry>>, number: u64, entry: Option<Entry>)
-    requires { 1 ≤ length cells.old.items }
-    ensures { cells.new.items ≡ slice_set cells.old.items (number % length cells.old.items) entry }
+fn set_cell(cells: &mut Vec<Option<Entry>>, mask: usize, number: u64, entry: Option<Entry>)
+    requires mask { IsMask mask cells.old.items }
+    requires some { 1 ≤ length cells.old.items }
+    ensures { cells.new.items ≡ slice_set cells.old.items (home mask number) entry }
 {
-    let home = number as usize % cells.len();
-    cells[home] = entry;
+    cells[number as usize & mask] = entry;
+}
+
+// The mask of the greatest power of two that is no more than so many cells.
+fn mask_for(width: usize) -> usize
+    ensures { 1 ≤ width → result < width }
+{
+    let mut mask = 0;
+    while mask < width / 2 {
+        mask = mask + mask + 1;
+    }
+    mask
 }
 
 // So many cells that have no entry.
@@ -156,8 +182,23 @@ impl Index {
     {
         Index {
             cells: Vec::new(alloc),
+            mask: 0,
             strays: Vec::new(alloc),
+            count: 0,
         }
+    }
+
+    /// No entry, and so many cells.
+    pub fn with_width(alloc: Global, width: usize) -> Result<Index, NoMemory>
+        ensures empty { IfOk result IsEmpty }
+        ensures width { IfOk result (λ i. width_of i ≡ width) }
+    {
+        Ok(Index {
+            cells: bare(alloc, width)?,
+            mask: mask_for(width),
+            strays: Vec::new(alloc),
+            count: 0,
+        })
     }
 
     /// No entry, and memory for so many.
@@ -168,7 +209,9 @@ impl Index {
     {
         Ok(Index {
             cells: bare(alloc, width)?,
+            mask: mask_for(width),
             strays: Vec::with_capacity(alloc, width)?,
+            count: 0,
         })
     }
 
@@ -183,10 +226,43 @@ impl Index {
     pub fn place_of(&self, tid: Tid) -> Option<usize>
         ensures { result ≡ place_of self.now tid }
     {
-        match cell(&self.cells, tid.number) {
+        match cell(&self.cells, self.mask, tid.number) {
             Some(entry) if entry.number == tid.number => Some(entry.place),
             _ => halving(&self.strays, tid.number),
         }
+    }
+
+    /// The place of a thread that has one.
+    pub fn known_place(&self, tid: Tid) -> usize
+        requires some { 1 ≤ width_of self.now }
+        requires known { IsSome (place_of self.now tid) }
+        ensures { place_of self.now tid ≡ Some result }
+    {
+        match own_cell(&self.cells, self.mask, tid.number) {
+            Some(entry) if entry.number == tid.number => entry.place,
+            _ => halving(&self.strays, tid.number).unwrap(),
+        }
+    }
+
+    /// How many threads have a place.
+    pub fn len(&self) -> usize
+        ensures { result ≡ count_of self.now }
+    {
+        self.count
+    }
+
+    /// Memory for so many threads in all, in the cells that there are.
+    pub fn reserve(&mut self, n: usize) -> Result<(), NoMemory>
+        ensures cells { self.new.cells ≡ self.old.cells }
+        ensures mask { self.new.mask ≡ self.old.mask }
+        ensures strays { self.new.strays ≡ self.old.strays }
+        ensures more { self.old.room ≤ self.new.room }
+        ensures ok { OnOk result (n ≤ self.new.room) }
+    {
+        if n > self.strays.len() {
+            self.strays.reserve(n - self.strays.len())?;
+        }
+        Ok(())
     }
 
     /// The thread has this place.
@@ -199,9 +275,15 @@ impl Index {
         ensures width { width_of self.new ≡ width_of self.old }
         ensures room { self.new.room ≡ self.old.room }
     {
-        if cell(&self.cells, tid.number).is_none() {
+        self.count += 1;
+        if cell(&self.cells, self.mask, tid.number).is_none() {
             let number = tid.number;
-            set_cell(&mut self.cells, number, Some(Entry { number, place }));
+            set_cell(
+                &mut self.cells,
+                self.mask,
+                number,
+                Some(Entry { number, place }),
+            );
         } else {
             put_in(&mut self.strays, tid.number, place);
         }
@@ -215,8 +297,9 @@ impl Index {
         ensures width { width_of self.new ≡ width_of self.old }
         ensures room { self.new.room ≡ self.old.room }
     {
-        if is_own(&self.cells, tid.number) {
-            set_cell(&mut self.cells, tid.number, None);
+        self.count = self.count.saturating_sub(1);
+        if is_own(&self.cells, self.mask, tid.number) {
+            set_cell(&mut self.cells, self.mask, tid.number, None);
         } else {
             take_out(&mut self.strays, tid.number);
         }
@@ -230,5 +313,6 @@ impl Index {
     {
         strip(&mut self.cells);
         self.strays.clear();
+        self.count = 0;
     }
 }

@@ -8,22 +8,23 @@ use Rattle.pod_sched.proofs.Ordered.{IsOrdered-admitted}
 use Rattle.pod_sched.proofs.SlotLemmas.{All-push}
 use Rattle.pod_sched.specs.Held.{IsHeld, IsPriority, schedule_of, tid_at}
 use Rattle.pod_sched.specs.Schedule.{IsOrdered, after_admit, is_of, knows, newcomer}
-use Rattle.pod_sched.specs.Slots.{AreSlots, Changes, IsFree, Puts, row_at}
+use Rattle.lists.specs.ThreadIndex.{Puts}
+use Rattle.pod_sched.specs.Slots.{AreSlots, Changes, IsFree, row_at}
 use Rattle.pod_sched.specs.declared.rows.Known.{Known}
 use Rattle.std.proofs.Common.{Bool, List, None, Option, Some, [], ap, arith, cond, false, get_or-set_other, get_or-set_same, is_some, length, length-set, map, option_map, refl, slice_get, subst, sym, true, ℕ, ◌++◌, ◌+◌, ◌-◌, ◌<◌, ◌∙◌, ◌∷◌, ◌≡◌, ◌≢◌, ◌≤◌}
 use Rattle.std.proofs.lemmas.List.{length-map, length_push}
 use Rattle.std.specs.List.{AllByRecursion, find}
 
-module _ (slots : Lists) (order : Order) (rows : List Known) (slot_of : ℕ → Option ℕ) (map_len room maxpri places : ℕ) (held : IsHeld slots order rows slot_of map_len room maxpri places) (t : ℕ) (new_thread : knows (schedule_of slots order rows maxpri places) t ≡ false) where
+module _ (slots : Lists) (order : Order) (rows : List Known) (slot_of : ℕ → Option ℕ) (map_len room width maxpri places : ℕ) (held : IsHeld slots order rows slot_of map_len room width maxpri places) (t : ℕ) (new_thread : knows (schedule_of slots order rows maxpri places) t ≡ false) where
   pub unknown : slot_of t ≡ None
-  unknown = by_case (slot_of t) (ap is_some (sym (thread_at slots order rows slot_of map_len room maxpri places held t)) ∙ new_thread)
+  unknown = by_case (slot_of t) (ap is_some (sym (thread_at slots order rows slot_of map_len room width maxpri places held t)) ∙ new_thread)
     where
       by_case : (o : Option ℕ) → is_some (option_map (row_at rows) o) ≡ false → o ≡ None
       by_case None is = refl
       by_case (Some s) is = absurd (cc)
 
   not_found : find (is_of t) (map (row_at rows) (items slots 0)) ≡ None
-  not_found = thread_at slots order rows slot_of map_len room maxpri places held t ∙ ap (option_map (row_at rows)) unknown
+  not_found = thread_at slots order rows slot_of map_len room width maxpri places held t ∙ ap (option_map (row_at rows)) unknown
 
   module _ (room_left : length (map (row_at rows) (items slots 0)) < places) where
     pub map_fits : map_len < room
@@ -89,7 +90,7 @@ module _ (slots : Lists) (order : Order) (rows : List Known) (slot_of : ℕ → 
         pub view_in : suspended ≡ false → schedule_of (after_move_to_back slots 0 slot) (after_put_last order slot prio) rows' maxpri places ≡ after_admit (schedule_of slots order rows maxpri places) t prio suspended
         view_in joins = rw (known_now, threads_now, tids_in) (ap (λ b. record { threads = map (row_at rows) (items slots 0) ++ newcomer t prio suspended ∷ []; order = cond b (map (tid_at rows) order.order) (map (tid_at rows) order.order ++ t ∷ []); timers = []; now = 0; maxpri = maxpri; places = places }) (sym joins))
 
-        pub IsHeld-out : suspended ≡ true → IsHeld (after_move_to_back slots 0 slot) order rows' slot_of' map_len' room' maxpri places
+        pub IsHeld-out : suspended ≡ true → IsHeld (after_move_to_back slots 0 slot) order rows' slot_of' map_len' room' width maxpri places
         IsHeld-out held_back = record {
           lists = lists_moved slots 0 slot (omega (arith, held.lists)) ∙ held.lists;
           slot_room = held.slot_room;
@@ -98,6 +99,7 @@ module _ (slots : Lists) (order : Order) (rows : List Known) (slot_of : ℕ → 
           row_room = omega (arith, held.row_room, len);
           as_long = omega (arith, held.as_long, longer, ap length known_now, length_push (items slots 0) slot);
           map_room = omega (arith, held.map_room, same_room);
+          some_cells = held.some_cells;
           least = held.least;
           most = held.most;
           priorities = rw (known_now, threads_now) priorities_now;
@@ -106,7 +108,7 @@ module _ (slots : Lists) (order : Order) (rows : List Known) (slot_of : ℕ → 
           ordered = rw (known_now, threads_now, tids_out) (subst (IsOrdered (map (row_at rows) (items slots 0) ++ newcomer t prio suspended ∷ [])) (ap (λ b. cond b (map (tid_at rows) order.order) (map (tid_at rows) order.order ++ t ∷ [])) held_back) ordered_now);
         }
 
-        pub IsHeld-in : suspended ≡ false → IsHeld (after_move_to_back slots 0 slot) (after_put_last order slot prio) rows' slot_of' map_len' room' maxpri places
+        pub IsHeld-in : suspended ≡ false → IsHeld (after_move_to_back slots 0 slot) (after_put_last order slot prio) rows' slot_of' map_len' room' width maxpri places
         IsHeld-in joins = record {
           lists = lists_moved slots 0 slot (omega (arith, held.lists)) ∙ held.lists;
           slot_room = held.slot_room;
@@ -115,6 +117,7 @@ module _ (slots : Lists) (order : Order) (rows : List Known) (slot_of : ℕ → 
           row_room = omega (arith, held.row_room, len);
           as_long = omega (arith, held.as_long, longer, ap length known_now, length_push (items slots 0) slot);
           map_room = omega (arith, held.map_room, same_room);
+          some_cells = held.some_cells;
           least = held.least;
           most = held.most;
           priorities = rw (known_now, threads_now) priorities_now;

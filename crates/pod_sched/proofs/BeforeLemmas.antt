@@ -52,13 +52,13 @@ eligible_known s t runs = by_case (thread_of s t) runs
     by_case None runs = absurd (cc)
     by_case (Some x) runs = refl
 
-module _ (slots : Lists) (order : Order) (rows : List Known) (slot_of : ℕ → Option ℕ) (map_len room maxpri places : ℕ) (held : IsHeld slots order rows slot_of map_len room maxpri places) where
+module _ (slots : Lists) (order : Order) (rows : List Known) (slot_of : ℕ → Option ℕ) (map_len room width maxpri places : ℕ) (held : IsHeld slots order rows slot_of map_len room width maxpri places) where
   module _ (t slot : ℕ) (at : slot_of t ≡ Some slot) (runs : is_eligible_in (schedule_of slots order rows maxpri places) t ≡ true) where
     its_row : thread_of (schedule_of slots order rows maxpri places) t ≡ Some (row_at rows slot)
-    its_row = thread slots order rows slot_of map_len room maxpri places held t slot at
+    its_row = thread slots order rows slot_of map_len room width maxpri places held t slot at
 
     its_tid : tid_at rows slot ≡ t
-    its_tid = of_thread slots order rows slot_of map_len room maxpri places held t slot at
+    its_tid = of_thread slots order rows slot_of map_len room width maxpri places held t slot at
 
     in_order : times_in (map (tid_at rows) order.order) t ≡ 1
     in_order =
@@ -102,7 +102,7 @@ module _ (slots : Lists) (order : Order) (rows : List Known) (slot_of : ℕ → 
       pub view_before : schedule_of slots (put_slot_before order other slot) rows maxpri places ≡ after_yield (schedule_of slots order rows maxpri places) t u
       view_before = rw (order_before, ne_eqb t u differs) refl
 
-      pub IsHeld-before : IsHeld slots (put_slot_before order other slot) rows slot_of map_len room maxpri places
+      pub IsHeld-before : IsHeld slots (put_slot_before order other slot) rows slot_of map_len room width maxpri places
       IsHeld-before = record {
         lists = held.lists;
         slot_room = held.slot_room;
@@ -111,6 +111,7 @@ module _ (slots : Lists) (order : Order) (rows : List Known) (slot_of : ℕ → 
         row_room = held.row_room;
         as_long = held.as_long;
         map_room = held.map_room;
+        some_cells = held.some_cells;
         least = held.least;
         most = held.most;
         priorities = held.priorities;

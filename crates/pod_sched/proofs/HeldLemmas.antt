@@ -10,7 +10,7 @@ use Rattle.pod_sched.specs.declared.rows.Known.{Known}
 use Rattle.std.proofs.Common.{IsSome, List, None, Option, Some, [], ap, arith, false, get_or-set_other, get_or-set_same, is_some, length, length-set, map, option_map, refl, sym, true, ℕ, ◌++◌, ◌+◌, ◌-◌, ◌<◌, ◌∙◌, ◌∷◌, ◌≡◌, ◌≢◌, ◌≤◌}
 use Rattle.std.specs.List.{AllByRecursion}
 
-module _ (slots : Lists) (order : Order) (rows : List Known) (slot_of : ℕ → Option ℕ) (map_len room maxpri places : ℕ) (held : IsHeld slots order rows slot_of map_len room maxpri places) where
+module _ (slots : Lists) (order : Order) (rows : List Known) (slot_of : ℕ → Option ℕ) (map_len room width maxpri places : ℕ) (held : IsHeld slots order rows slot_of map_len room width maxpri places) where
   pub thread_at : (t : ℕ) → thread_of (schedule_of slots order rows maxpri places) t ≡ option_map (row_at rows) (slot_of t)
   thread_at t = find-map (row_at rows) t (items slots 0) ∙ ap (option_map (row_at rows)) (sym (held.are_slots.index t))
 
@@ -68,7 +68,7 @@ module _ (slots : Lists) (order : Order) (rows : List Known) (slot_of : ℕ → 
       pub view_out : schedule_of slots (after_take order slot) rows' maxpri places ≡ out_with (schedule_of slots order rows maxpri places) t new
       view_out = rw (threads_changed, out_tids) refl
 
-      pub IsHeld-out : IsPriority maxpri new.prio → is_eligible new ≡ false → IsHeld slots (after_take order slot) rows' slot_of map_len room maxpri places
+      pub IsHeld-out : IsPriority maxpri new.prio → is_eligible new ≡ false → IsHeld slots (after_take order slot) rows' slot_of map_len room width maxpri places
       IsHeld-out in_range out = record {
         lists = held.lists;
         slot_room = held.slot_room;
@@ -77,6 +77,7 @@ module _ (slots : Lists) (order : Order) (rows : List Known) (slot_of : ℕ → 
         row_room = omega (arith, held.row_room, len);
         as_long = held.as_long;
         map_room = held.map_room;
+        some_cells = held.some_cells;
         least = held.least;
         most = held.most;
         priorities = priorities_changed in_range;
@@ -97,7 +98,7 @@ module _ (slots : Lists) (order : Order) (rows : List Known) (slot_of : ℕ → 
       pub view_back : schedule_of slots (after_put_last order slot new.prio) rows' maxpri places ≡ back_with (schedule_of slots order rows maxpri places) t new
       view_back = rw (threads_changed, back_tids) refl
 
-      pub IsHeld-back : IsPriority maxpri new.prio → is_eligible new ≡ true → IsHeld slots (after_put_last order slot new.prio) rows' slot_of map_len room maxpri places
+      pub IsHeld-back : IsPriority maxpri new.prio → is_eligible new ≡ true → IsHeld slots (after_put_last order slot new.prio) rows' slot_of map_len room width maxpri places
       IsHeld-back in_range runs = record {
         lists = held.lists;
         slot_room = held.slot_room;
@@ -106,6 +107,7 @@ module _ (slots : Lists) (order : Order) (rows : List Known) (slot_of : ℕ → 
         row_room = omega (arith, held.row_room, len);
         as_long = held.as_long;
         map_room = held.map_room;
+        some_cells = held.some_cells;
         least = held.least;
         most = held.most;
         priorities = priorities_changed in_range;

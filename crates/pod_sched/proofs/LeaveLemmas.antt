@@ -11,7 +11,8 @@ use Rattle.pod_sched.proofs.Ordered.{IsOrdered-left}
 use Rattle.pod_sched.proofs.SlotLemmas.{All-found, All-push, All-weaker, All-without, find_agree, located, map_push, only, slot_known, slot_tid, tids_same, tids_without, without_none}
 use Rattle.pod_sched.specs.Held.{IsHeld, IsPriority, schedule_of, tid_at}
 use Rattle.pod_sched.specs.Schedule.{after_leave, is_of, without_row}
-use Rattle.pod_sched.specs.Slots.{AreSlots, Changes, IsFree, IsKnown, IsReady, Puts, has_tid, row_at}
+use Rattle.lists.specs.ThreadIndex.{Puts}
+use Rattle.pod_sched.specs.Slots.{AreSlots, Changes, IsFree, IsKnown, IsReady, has_tid, row_at}
 use Rattle.pod_sched.specs.declared.rows.Known.{Known}
 use Rattle.std.proofs.Common.{Bool, List, None, Option, Some, [], ap, arith, cond, eqb, false, inl, inr, length, map, not, refl, slice_get, subst, sym, true, ℕ, ◌++◌, ◌+◌, ◌<◌, ◌∙◌, ◌∷◌, ◌≡◌, ◌≢◌, ◌≤◌}
 use Rattle.std.proofs.lemmas.Bool.{cases_eq, eq-eqb, eqb-true, ne_eqb}
@@ -110,9 +111,9 @@ module _ (row : ℕ → Known) (known free : List ℕ) (slot_of slot_of' : ℕ �
     pub tids_left : map (λ s. (row s).tid) (without slot order) ≡ without t (map (λ s. (row s).tid) order)
     tids_left = tids_without (λ s. (row s).tid) t slot order its_tid (All-weaker (IsReady row known weight) _ (λ s is. only row row known free slot_of places slots t slot at s is.found) order ready)
 
-module _ (slots : Lists) (order : Order) (rows : List Known) (slot_of : ℕ → Option ℕ) (map_len room maxpri places : ℕ) (held : IsHeld slots order rows slot_of map_len room maxpri places) (t slot : ℕ) (at : slot_of t ≡ Some slot) where
+module _ (slots : Lists) (order : Order) (rows : List Known) (slot_of : ℕ → Option ℕ) (map_len room width maxpri places : ℕ) (held : IsHeld slots order rows slot_of map_len room width maxpri places) (t slot : ℕ) (at : slot_of t ≡ Some slot) where
   pub key_of_slots : length slots.lists ≤ slot
-  key_of_slots = omega (arith, held.lists, is_slot slots order rows slot_of map_len room maxpri places held t slot at)
+  key_of_slots = omega (arith, held.lists, is_slot slots order rows slot_of map_len room width maxpri places held t slot at)
 
   known_left : items (after_move_to_back slots 1 slot) 0 ≡ without slot (items slots 0)
   known_left = items_moved_other slots 1 slot (omega (arith, held.lists)) 0 (omega (arith, held.lists)) (λ same. absurd (omega arith))
@@ -138,7 +139,7 @@ module _ (slots : Lists) (order : Order) (rows : List Known) (slot_of : ℕ → 
     here_once : times_in (items slots 0) slot ≡ 1
     here_once = once_known (row_at rows) (items slots 0) (items slots 1) slot_of slot_of' places held.are_slots t slot at puts
 
-    pub IsHeld-left : IsHeld (after_move_to_back slots 1 slot) (after_take order slot) rows slot_of' map_len' room' maxpri places
+    pub IsHeld-left : IsHeld (after_move_to_back slots 1 slot) (after_take order slot) rows slot_of' map_len' room' width maxpri places
     IsHeld-left = record {
       lists = lists_moved slots 1 slot (omega (arith, held.lists)) ∙ held.lists;
       slot_room = held.slot_room;
@@ -147,12 +148,13 @@ module _ (slots : Lists) (order : Order) (rows : List Known) (slot_of : ℕ → 
       row_room = held.row_room;
       as_long = omega (arith, held.as_long, shorter, ap length known_left, length-without slot (items slots 0), here_once);
       map_room = omega (arith, held.map_room, same_room);
+      some_cells = held.some_cells;
       least = held.least;
       most = held.most;
       priorities = rw (known_left, threads_left slot_of' puts) (All-filter (λ (row : Known). IsPriority maxpri row.prio) (λ r. not (is_of t r)) (map (row_at rows) (items slots 0)) held.priorities);
       are_slots = rw (known_left, free_left) (AreSlots-left (row_at rows) (items slots 0) (items slots 1) slot_of slot_of' places held.are_slots t slot at puts);
       ready = rw known_left (ready_left (row_at rows) (items slots 0) (items slots 1) slot_of slot_of' places held.are_slots t slot at puts (prio_of order) order.order held.ready);
-      ordered = rw (known_left, threads_left slot_of' puts, order_left slot_of' puts) (IsOrdered-left _ _ held.ordered t (row_at rows slot) (thread slots order rows slot_of map_len room maxpri places held t slot at));
+      ordered = rw (known_left, threads_left slot_of' puts, order_left slot_of' puts) (IsOrdered-left _ _ held.ordered t (row_at rows slot) (thread slots order rows slot_of map_len room width maxpri places held t slot at));
     }
 
 -- ---- one thread more

@@ -80,9 +80,9 @@ Freed-freed slots row slot_of places (suc n) lists are =
       are_slots = rw (at_zero, at_one) (rw (here, count) at more);
     }
 
-module _ (slots : Lists) (order : Order) (rows : List Known) (slot_of : ℕ → Option ℕ) (map_len room maxpri places : ℕ) (held : IsHeld slots order rows slot_of map_len room maxpri places) where
+module _ (slots : Lists) (order : Order) (rows : List Known) (slot_of : ℕ → Option ℕ) (map_len room width maxpri places : ℕ) (held : IsHeld slots order rows slot_of map_len room width maxpri places) where
   -- memory was taken for more slots
-  pub IsHeld-limit : (limit : ℕ) → IsHeld (with_limit slots limit) order rows slot_of map_len room maxpri places
+  pub IsHeld-limit : (limit : ℕ) → IsHeld (with_limit slots limit) order rows slot_of map_len room width maxpri places
   IsHeld-limit limit = record {
     lists = held.lists;
     slot_room = omega (arith, held.slot_room);
@@ -91,6 +91,7 @@ module _ (slots : Lists) (order : Order) (rows : List Known) (slot_of : ℕ → 
     row_room = held.row_room;
     as_long = held.as_long;
     map_room = held.map_room;
+    some_cells = held.some_cells;
     least = held.least;
     most = held.most;
     priorities = held.priorities;
@@ -145,7 +146,7 @@ module _ (slots : Lists) (order : Order) (rows : List Known) (slot_of : ℕ → 
           ]
 
       -- memory was taken, and nothing else has changed
-      pub IsHeld-grown : IsHeld (with_limit slots limit) (with_keys order keys) rows' slot_of map_len room' maxpri places
+      pub IsHeld-grown : IsHeld (with_limit slots limit) (with_keys order keys) rows' slot_of map_len room' width maxpri places
       IsHeld-grown = record {
         lists = held.lists;
         slot_room = omega (arith, held.slot_room);
@@ -154,6 +155,7 @@ module _ (slots : Lists) (order : Order) (rows : List Known) (slot_of : ℕ → 
         row_room = omega (arith, held.row_room, extends.longer);
         as_long = held.as_long;
         map_room = omega (arith, held.map_room, longer);
+        some_cells = held.some_cells;
         least = held.least;
         most = held.most;
         priorities = rw threads_kept held.priorities;
@@ -178,7 +180,7 @@ module _ (slots : Lists) (order : Order) (rows : List Known) (slot_of : ℕ → 
     in_all : places + (n - places) ≡ n
     in_all = omega arith
 
-    pub IsHeld-freed : IsHeld (after_free slots (256 + places) (n - places)) order rows slot_of map_len room maxpri n
+    pub IsHeld-freed : IsHeld (after_free slots (256 + places) (n - places)) order rows slot_of map_len room width maxpri n
     IsHeld-freed = record {
       lists = new_slots.lists ∙ held.lists;
       slot_room = rw new_slots.limit slot_room;
@@ -187,6 +189,7 @@ module _ (slots : Lists) (order : Order) (rows : List Known) (slot_of : ℕ → 
       row_room = row_room;
       as_long = rw new_slots.known held.as_long;
       map_room = map_room;
+      some_cells = held.some_cells;
       least = held.least;
       most = held.most;
       priorities = rw new_slots.known held.priorities;
@@ -200,20 +203,20 @@ module _ (slots : Lists) (order : Order) (rows : List Known) (slot_of : ℕ → 
         let most : max places n ≡ n = omega arith in
         rw (new_slots.known, most) refl
 
-module _ (slots : Lists) (order : Order) (rows : List Known) (slot_of : ℕ → Option ℕ) (map_len room maxpri places : ℕ) (held : IsHeld slots order rows slot_of map_len room maxpri places) (rows' : List Known) (extends : Extends rows rows') (n room' count : ℕ) (longer : room ≤ room') (row_room : n ≤ length rows') (map_room : n ≤ room') (more : places ≤ n) (counts : count ≡ n - places) where
-  grown : IsHeld (with_limit slots (256 + n)) (with_keys order n) rows' slot_of map_len room' maxpri places
-  grown = IsHeld-grown slots order rows slot_of map_len room maxpri places held rows' extends (256 + n) n room' longer
+module _ (slots : Lists) (order : Order) (rows : List Known) (slot_of : ℕ → Option ℕ) (map_len room width maxpri places : ℕ) (held : IsHeld slots order rows slot_of map_len room width maxpri places) (rows' : List Known) (extends : Extends rows rows') (n room' count : ℕ) (longer : room ≤ room') (row_room : n ≤ length rows') (map_room : n ≤ room') (more : places ≤ n) (counts : count ≡ n - places) where
+  grown : IsHeld (with_limit slots (256 + n)) (with_keys order n) rows' slot_of map_len room' width maxpri places
+  grown = IsHeld-grown slots order rows slot_of map_len room width maxpri places held rows' extends (256 + n) n room' longer
 
   order_room : n ≤ length (with_keys order n).prios
   order_room = omega (arith, length-append order.prios (replicate (n - length order.prios) 0), length-replicate {A = ℕ} (n - length order.prios) 0)
 
-  pub IsHeld-reserved : IsHeld (after_free (with_limit slots (256 + n)) (256 + places) count) (with_keys order n) rows' slot_of map_len room' maxpri n
-  IsHeld-reserved = rw counts (IsHeld-freed (with_limit slots (256 + n)) (with_keys order n) rows' slot_of map_len room' maxpri places grown n (omega arith) order_room row_room map_room more)
+  pub IsHeld-reserved : IsHeld (after_free (with_limit slots (256 + n)) (256 + places) count) (with_keys order n) rows' slot_of map_len room' width maxpri n
+  IsHeld-reserved = rw counts (IsHeld-freed (with_limit slots (256 + n)) (with_keys order n) rows' slot_of map_len room' width maxpri places grown n (omega arith) order_room row_room map_room more)
 
   pub view_reserved : schedule_of (after_free (with_limit slots (256 + n)) (256 + places) count) (with_keys order n) rows' maxpri n ≡ after_reserve (schedule_of slots order rows maxpri places) n
   view_reserved =
-      rw counts (view_freed (with_limit slots (256 + n)) (with_keys order n) rows' slot_of map_len room' maxpri places grown n (omega arith) order_room row_room map_room more)
-      ∙ ap (λ s. after_reserve s n) (view_grown slots order rows slot_of map_len room maxpri places held rows' extends (256 + n) n room' longer)
+      rw counts (view_freed (with_limit slots (256 + n)) (with_keys order n) rows' slot_of map_len room' width maxpri places grown n (omega arith) order_room row_room map_room more)
+      ∙ ap (λ s. after_reserve s n) (view_grown slots order rows slot_of map_len room width maxpri places held rows' extends (256 + n) n room' longer)
 
 -- a fact of what is left after an error
 pub on_err : {T E : Type 0} (r : Result T E) (P : Type 0) → P → OnErr r P

@@ -30,7 +30,7 @@ pub record IsPriority (maxpri prio : ℕ) : Type 0 where
 
 -- list 0 of the slots is of the known threads, and list 1 of the free ones
 pub record IsHeld (slots : Lists) (order : Order) (rows : List Known) (slot_of : ℕ → Option ℕ)
-    (map_len room maxpri places : ℕ) : Type 0 where
+    (map_len room width maxpri places : ℕ) : Type 0 where
   pub lists : length slots.lists ≡ 256
   pub slot_room : 256 + places ≤ slots.limit
   pub levels : order.levels ≡ 256
@@ -38,6 +38,7 @@ pub record IsHeld (slots : Lists) (order : Order) (rows : List Known) (slot_of :
   pub row_room : places ≤ length rows
   pub as_long : map_len ≡ length (items slots 0)
   pub map_room : places ≤ room
+  pub some_cells : 1 ≤ width
   pub least : 1 ≤ maxpri
   pub most : maxpri ≤ 255
   pub priorities : AllByRecursion (λ row. IsPriority maxpri row.prio) (map (row_at rows) (items slots 0))

@@ -10,7 +10,6 @@
 
 mod bucket;
 mod buckets;
-mod index;
 pub mod laws;
 mod rows;
 mod sched;

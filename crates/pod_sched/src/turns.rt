@@ -6,13 +6,15 @@ ghost use Rattle.pod_sched.specs.Schedule.{IsOrdered, after_admit, after_block, 
 use crate::Known;
 use crate::bucket::{self, Bucket};
 use crate::buckets::{Buckets, Looks, Steps, first_of_last};
-use crate::index::{self, Index};
 use crate::rows::{LEVELS, extend_rows, free_slots, may_run, put_row, row_at};
-use lists::Chains;
+use lists::{Chains, Index};
 use lwp_types::{NoMemory, Tid};
 use std::alloc::Global;
 use std::marker::{Brand, Model};
 use std::sync::ledger::{Blank, Ledger};
+
+// So many threads are found at one look.
+const CELLS: usize = 4096;
 
 /// Who is known, and who may run after whom. It is seen as a schedule in which nobody has a timer.
 pub struct Turns {
@@ -45,7 +47,7 @@ impl Drop for Turns {
 
 impl Model for Turns {
     ghost use Rattle.std.specs.Prelude.{length};
-    ghost use Rattle.pod_sched.specs.Index.{slot_in};
+    ghost use Rattle.lists.specs.ThreadIndex.{count_of, place_of, width_of};
     ghost use Rattle.pod_sched.specs.Held.{IsHeld, schedule_of};
     ghost use Rattle.pod_sched.specs.Schedule.{Schedule};
 
@@ -54,7 +56,7 @@ impl Model for Turns {
     ghost view = { λ s. schedule_of s.slots s.order s.rows.items s.maxpri s.places };
 
     ghost invariant = { λ s. IsHeld s.slots s.order s.rows.items
-        (slot_in s.index.entries) (length s.index.entries) s.index.room s.maxpri s.places };
+        (place_of s.index) (count_of s.index) s.index.room (width_of s.index) s.maxpri s.places };
 }
 
 impl Turns {
@@ -70,7 +72,7 @@ impl Turns {
             slots: Chains::new(alloc, LEVELS)?,
             order: Buckets::new(alloc, LEVELS)?,
             rows: Vec::new(alloc),
-            index: index::empty(alloc)?,
+            index: Index::with_width(alloc, CELLS)?,
             maxpri,
             places: 0,
         })
@@ -91,7 +93,7 @@ impl Turns {
         self.slots.reserve(LEVELS + n)?;
         self.order.reserve(n)?;
         extend_rows(&mut self.rows, n)?;
-        index::reserve(&mut self.index, n)?;
+        self.index.reserve(n)?;
         free_slots(&mut self.slots, LEVELS + self.places, LEVELS + n);
         self.places = n;
         Ok(())
@@ -120,7 +122,7 @@ impl Turns {
                 blocked: false,
             },
         );
-        index::put(&mut self.index, tid.number, slot);
+        self.index.put(tid, slot);
         if !suspended {
             self.order.put_last(slot, prio);
         }
@@ -131,8 +133,8 @@ impl Turns {
         requires { IsTrue (knows self.old tid) }
         ensures { self.new ≡ after_leave self.old tid }
     {
-        let slot = index::known_slot(&self.index, tid.number);
-        index::take(&mut self.index, tid.number);
+        let slot = self.index.known_place(tid);
+        self.index.take(tid);
         self.slots.move_to_back(1, slot);
         self.order.take(slot);
     }
@@ -142,7 +144,7 @@ impl Turns {
         requires { IsTrue (knows self.old tid) }
         ensures { self.new ≡ after_block self.old tid }
     {
-        let slot = index::known_slot(&self.index, tid.number);
+        let slot = self.index.known_place(tid);
         let row = row_at(&self.rows, slot);
         let now = Known {
             blocked: true,
@@ -157,7 +159,7 @@ impl Turns {
         requires { IsTrue (is_blocked_in self.old tid) }
         ensures { self.new ≡ after_unblock self.old tid }
     {
-        let slot = index::known_slot(&self.index, tid.number);
+        let slot = self.index.known_place(tid);
         let row = row_at(&self.rows, slot);
         let now = Known {
             blocked: false,
@@ -232,8 +234,8 @@ impl Turns {
         if from == to {
             self.requeue(from);
         } else {
-            let slot = index::known_slot(&self.index, from.number);
-            let other = index::known_slot(&self.index, to.number);
+            let slot = self.index.known_place(from);
+            let other = self.index.known_place(to);
             self.order.put_before(other, slot);
         }
     }
@@ -302,7 +304,7 @@ impl Turns {
         ensures ordered { IsOrdered self.now.threads self.now.order }
         ensures few { length self.now.threads ≤ self.now.places }
     {
-        index::count(&self.index)
+        self.index.len()
     }
 
     /// The greatest priority that a thread may be given.
@@ -339,7 +341,7 @@ impl Turns {
     fn row_of(&self, tid: Tid) -> Option<Known>
         ensures { result ≡ thread_of self.now tid }
     {
-        let slot = index::slot_of(&self.index, tid.number)?;
+        let slot = self.index.place_of(tid)?;
         Some(row_at(&self.rows, slot))
     }
 
@@ -353,7 +355,7 @@ impl Turns {
         ensures ordered { IsOrdered self.now.threads self.now.order }
         ensures bare { self.now.timers ≡ [] }
     {
-        let slot = index::known_slot(&self.index, tid.number);
+        let slot = self.index.known_place(tid);
         row_at(&self.rows, slot)
     }
 
@@ -379,7 +381,7 @@ impl Turns {
         requires out { is_eligible row ≡ false }
         ensures { self.new ≡ out_with self.old tid row }
     {
-        let slot = index::known_slot(&self.index, tid.number);
+        let slot = self.index.known_place(tid);
         put_row(&mut self.rows, slot, row);
         self.order.take(slot);
     }
@@ -389,7 +391,7 @@ impl Turns {
         requires { IsTrue (is_eligible_in self.old tid) }
         ensures { self.new ≡ after_requeue self.old tid }
     {
-        let slot = index::known_slot(&self.index, tid.number);
+        let slot = self.index.known_place(tid);
         let prio = row_at(&self.rows, slot).prio;
         self.order.put_last(slot, prio);
     }
@@ -403,7 +405,7 @@ impl Turns {
         requires in_order { is_eligible row ≡ true }
         ensures { self.new ≡ back_with self.old tid row }
     {
-        let slot = index::known_slot(&self.index, tid.number);
+        let slot = self.index.known_place(tid);
         let prio = row.prio;
         put_row(&mut self.rows, slot, row);
         self.order.put_last(slot, prio);

@@ -56,11 +56,16 @@ pub fn file_threads(entries: &VecDeque<Entry>, index: &mut Index)
     }
 }
 
-// How many cells there are to be for so many threads: twice as many where that can be, so that they are seldom made anew.
+// How many cells there are to be for so many threads: a power of two where that can be, and twice as many or more, so that they are
+// seldom made anew.
 fn width_for(n: usize) -> usize
     ensures { n ≤ result }
 {
-    n.saturating_mul(2)
+    let mut width = 2;
+    while width / 2 < n && width <= usize::MAX / 2 {
+        width = width + width;
+    }
+    width.max(n)
 }
 
 // An index with cells for so many threads at least.
