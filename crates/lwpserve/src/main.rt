@@ -2,8 +2,9 @@
 //! what sums it up.
 //!
 //! Where its one word is `--help` or `--version`, it says so much of itself, by the crate `about`. All else that it does is
-//! `lwp_serve::top`, on the standard streams; no contract can say what those hold. What is written is gathered,
-//! and goes out 64 KiB at a time, and on `run` also whenever the pod waits for a line. What went wrong is said on standard error, and the exit status is the session's.
+//! `lwp_serve::top`, on the standard streams; no contract can say what those hold. What is written is gathered, and goes out 64 KiB
+//! at a time, and on `run` also whenever the pod waits for a line. What went wrong is said on standard error, and the exit status is
+//! the session's.
 #![tactic(auto)]
 
 ghost use Rattle.std.specs.Prelude.{◌≡◌, ◌≢◌};
