@@ -255,8 +255,8 @@ impl Locks {
         if room <= self.room {
             return Ok(());
         }
-        // Twice as many and one more, so that they are seldom made anew.
-        let room = room + self.room;
+        // Twice as many, so that they are seldom made anew; and a power of two, so that an index uses all of its cells.
+        let room = room.max(self.room + self.room);
         self.slots.reserve(room + room - self.slots.len())?;
         self.links.reserve(room + room - self.links.len())?;
         let held = Index::with_cells(*self.slots.allocator(), room)?;
