@@ -2,11 +2,12 @@
 //!
 //! `read_whole` reads a source to its end, through one buffer, and gives the script that its bytes spell, or how the session ends
 //! without one (`IsRead` and `IsNotRead` in `specs/Said.antt`). `start` makes of a script a run before its first call. A
-//! `Session` is what is told of a run behind it: its end, with the exit status, the lines that were taken, and how many calls were
+//! `Session` is what is told of a run after it: its end, with the exit status, the lines that were taken, and how many calls were
 //! made; `fault_text` is what is said of an end on standard error.
 //!
 //! `specs/SoFar.antt` has what a script's session is, and `specs/Said.antt` what each end says of the source, whatever is said of
-//! the script. The crate stands on the reader of `script_text`, the program of `script_body` and the runs of `pod_runner`.
+//! the script. The source is read by the loop of `streams`. The crate stands on that, on the reader of `script_text`, the program of
+//! `script_body` and the runs of `pod_runner`.
 #![tactic(auto)]
 
 mod opening;

@@ -121,10 +121,7 @@ pub fn read_all<S: Source>(alloc: Global, source: &mut S) -> Result<Vec<u8>, Rea
         Rose (S.faults source.old) (S.faults source.new) }
     ensures memory { IsErrOf result ReadFailure.NoMemory → S.faults source.new ≡ S.faults source.old }
 {
+    // No vector has that many bytes, so memory is refused before the limit is reached.
     let text = read_up_to(alloc, usize::MAX, source)?;
-    // As many bytes as a vector could ever have: the source may have more.
-    if text.len() == usize::MAX {
-        return Err(ReadFailure::NoMemory);
-    }
     Ok(text)
 }
