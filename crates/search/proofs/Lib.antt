@@ -1,0 +1,9 @@
+pub mod Places
+pub mod PathLemmas
+pub mod Walks
+pub mod SeenLemmas
+pub mod Parents
+pub mod KnownLemmas
+pub mod Steps
+pub mod Order
+pub mod VerdictLemmas
