@@ -5,7 +5,7 @@
 //! input of a replay; `data/view_rows` is for `lwpview`, and `data/check_rows` for `lwpcheck`. Each row is run over streams in memory
 //! through what its program is made of: `lwp_serve::top`, `trace_page::view`, and `script_advice::check` or, with the word `--print`,
 //! `script_printer::copy`. One line is printed for it: `same`, or else the first line that differs, or the status where all lines are
-//! the same. `compare` of `stored_rows` is proved to say so. What the files hold no contract can say.
+//! the same. `compare` is proved to say so. What the files hold no contract can say.
 //!
 //! How the text is compared is said by the last part of its file's name:
 //!
@@ -26,10 +26,15 @@
 #![tactic(auto)]
 
 mod check;
+mod damage;
+mod difference;
 mod long;
 mod outcome;
+mod printing;
+mod row;
 mod serve;
 mod table;
+mod verdict;
 mod view;
 
 use check::{many_lines, too_large};

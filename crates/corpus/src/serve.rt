@@ -1,12 +1,13 @@
 // What `lwpserve` makes of its words and its input.
+use crate::damage::{Damage, damaged};
 use crate::long::repeated;
 use crate::outcome::{Outcome, Streams};
+use crate::row::Row;
 use lwp_serve::{fault_text, no_gates, top};
 use lwp_types::NoMemory;
 use std::alloc::Global;
 use std::sync::Wait;
 use std::thread::Threads;
-use stored_rows::{Damage, Row, damaged};
 
 /// What comes of a row's script, be it damaged, repeated or as it is.
 pub fn served<R: Threads + Wait + Sync>(

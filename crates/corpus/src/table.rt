@@ -2,14 +2,16 @@
 use crate::check::checked;
 use crate::long::lines_among;
 use crate::outcome::Outcome;
+use crate::printing::{io_error, print_verdict};
+use crate::row::{Row, row_of};
 use crate::serve::served;
+use crate::verdict::{Verdict, compare, ending};
 use crate::view::viewed;
 use lwp_types::NoMemory;
 use std::alloc::Global;
 use std::sync::Wait;
 use std::thread::Threads;
 use std::{fs, io};
-use stored_rows::{Row, Verdict, compare, ending, io_error, print_verdict, row_of};
 
 /// The program that the rows of a table are for.
 #[derive(Clone, Copy)]

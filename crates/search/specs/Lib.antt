@@ -6,3 +6,5 @@ pub mod Known
 pub mod Reach
 pub mod Verdicts
 pub mod Toy
+pub mod Codes
+pub mod CodeLaws

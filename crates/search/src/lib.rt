@@ -4,11 +4,15 @@
 //! (`specs/Moves.antt`): the first core, where the steps from each core lead, the bytes that stand for a core, and its kind. What was
 //! found is a list of rows, and `cores_of` says which cores these are (`specs/Found.antt`). Paths have an order, the shorter first
 //! and then by their steps (`specs/Paths.antt`), and the cores are found in the order of their first paths. The definitions speak of
-//! paths alone, and never of the search. The crate stands on nothing but std.
+//! paths alone, and never of the search.
+//!
+//! `keys` has bytes as keys for values: two values have the same bytes only if they are the same value. The crate stands on nothing
+//! but std.
 #![tactic(auto)]
 
 mod breadth;
 mod found;
+pub mod keys;
 mod laws;
 mod machine;
 mod memory;

@@ -1,6 +1,0 @@
-use Rattle.std.proofs.Common.{◌≡◌, ◌+◌, drop}
-use Rattle.stored_rows.specs.Lines.{line_end}
-use Rattle.stored_rows.proofs.difference.line_end.Given as goal
-
-abbrev pub invariant-loop-i : goal.invariant-loop-i
-invariant-loop-i l = l.i + line_end (drop l.i l.text) ≡ line_end l.text
