@@ -77,7 +77,7 @@ fn all_are_found(rt: HostRuntime) -> Result<(), Fail> {
         assert_eq!(rt; found.rows[9].kind, Some(3));
         assert_eq!(rt; found.rows[8].kind, None);
         let path = path_to(rt.alloc(), &found.rows, 9)?;
-        assert_eq!(rt; path.as_slice(), &[0, 0, 1, 1, 0]);
+        assert_eq!(rt; path.as_slice(), [0, 0, 1, 1, 0].as_slice());
         assert_eq!(rt; go(&toy, &path)?.place, 9);
         holds_of_all(&toy, &found);
     }
@@ -113,7 +113,7 @@ fn the_nearest_is_told(rt: HostRuntime) -> Result<(), Fail> {
             copies: 4,
         },
     )? {
-        Verdict::Fails(path) => assert_eq!(rt; path.as_slice(), &[0, 0, 1, 1, 0]),
+        Verdict::Fails(path) => assert_eq!(rt; path.as_slice(), [0, 0, 1, 1, 0].as_slice()),
         _ => assert!(rt; false),
     }
     let cut = matches!(
