@@ -10,7 +10,10 @@ fn the_bytes_of_each_kind(rt: HostRuntime) -> Result<(), Fail> {
     bytes.clear();
     put_byte(&mut bytes, 7)?;
     put_bytes(&mut bytes, b"ab")?;
-    assert_eq!(rt; bytes.as_slice(), [7, 2, 0, 0, 0, 0, 0, 0, 0, b'a', b'b'].as_slice());
+    assert_eq!(rt;
+        bytes.as_slice(),
+        [7, 2, 0, 0, 0, 0, 0, 0, 0, b'a', b'b'].as_slice()
+    );
     bytes.clear();
     put_words(&mut bytes, &[1, 255])?;
     assert_eq!(rt; bytes.len(), 24);
