@@ -1,3 +1,3 @@
-mod KnownLaws
-mod AnswerLaws
-mod RisingLaws
+pub mod KnownLaws
+pub mod AnswerLaws
+pub mod RisingLaws

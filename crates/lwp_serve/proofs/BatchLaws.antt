@@ -1,4 +1,4 @@
-mod PlannedLaws
-mod InputLaws
-mod EndLaws
-mod TextLaws
+pub mod PlannedLaws
+pub mod InputLaws
+pub mod EndLaws
+pub mod TextLaws

@@ -1,4 +1,4 @@
-mod HistoryLaws
-mod LineLaws
+pub mod HistoryLaws
+pub mod LineLaws
 pub mod PlanLaws
 pub mod MakeLaws

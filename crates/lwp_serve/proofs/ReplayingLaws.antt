@@ -1,3 +1,3 @@
-mod InputLaws
-mod EndLaws
-mod ToldLaws
+pub mod InputLaws
+pub mod EndLaws
+pub mod ToldLaws
