@@ -4,7 +4,7 @@ use Rattle.search.proofs.PathLemmas.{split_le}
 use Rattle.search.proofs.Places.{get_cases, get_last, get_left, get_within}
 use Rattle.search.proofs.SeenLemmas.{place_seen, seen_place, seen_push}
 use Rattle.search.proofs.Walks.{walk_push}
-use Rattle.search.specs.Found.{Has, HasKinds, HasParentsBelow, IsDistinct, IsSound, cores_of, led_to, path_of, with_row}
+use Rattle.search.specs.Found.{Has, HasParentsBelow, IsDistinct, IsSound, cores_of, led_to, path_of, with_row}
 use Rattle.search.specs.Known.{AreTried, ComesBefore, ComesUpTo, Grows, HasRowsInOrder, HasRowsUpTo, IsFound, IsKnown, IsTried, IsUpTo}
 use Rattle.search.specs.Moves.{IsReachable, KeysDiffer, Moves, walk}
 use Rattle.search.specs.Seen.{Adds, is_seen}
@@ -23,12 +23,18 @@ some_same e = cc
 module _ {C : Type 0} (moves : Moves C) where
   fold_length : (cores : List C) (rows : List Row) → length (fold (with_row moves) cores rows) ≡ length cores + length rows
   fold_length cores [] = omega arith
-  fold_length cores (row ∷ rows) = omega (arith, fold_length (with_row moves cores row) rows, length-append cores (unwrap_or (led_to moves cores row) moves.first ∷ []))
+  fold_length cores (row ∷ rows) = omega (
+    arith,
+    fold_length (with_row moves cores row) rows,
+    length-append cores (unwrap_or
+        (led_to moves cores row) moves.first ∷ []),
+  )
 
   pub as_many : (rows : List Row) → length (cores_of moves rows) ≡ length rows
   as_many rows = omega (arith, fold_length [] rows)
 
-  pub cores_push : (rows : List Row) (row : Row) (to : C) → led_to moves (cores_of moves rows) row ≡ Some to → cores_of moves (rows ++ row ∷ []) ≡ cores_of moves rows ++ to ∷ []
+  pub cores_push : (rows : List Row) (row : Row) (to : C) → led_to moves (cores_of moves rows) row ≡ Some to
+      → cores_of moves (rows ++ row ∷ []) ≡ cores_of moves rows ++ to ∷ []
   cores_push rows row to e = fold-append (with_row moves) [] rows (row ∷ []) ∙ ap (λ o. cores_of moves rows ++ unwrap_or o moves.first ∷ []) e
 
   -- where a row leads from its parent
@@ -40,7 +46,8 @@ module _ {C : Type 0} (moves : Moves C) where
   pub led_from : (cores : List C) (row : Row) (to : C) → led_to moves cores row ≡ Some to → Led cores row to
   led_from cores row to e = by (slice_get cores row.parent) refl e
     where
-      by : (o : Option C) → slice_get cores row.parent ≡ o → option_and_then (λ from. slice_get (moves.after from) row.step) o ≡ Some to → Led cores row to
+      by : (o : Option C) → slice_get cores row.parent ≡ o → option_and_then (λ from. slice_get (moves.after from) row.step) o ≡ Some to
+          → Led cores row to
       by None h e = absurd cc
       by (Some from) h e = record { from = from; parent = h; leads = e }
 
@@ -52,7 +59,8 @@ module _ {C : Type 0} (moves : Moves C) where
       led_is (cores ++ more) row to (record { from = led.from; parent = get_left cores more row.parent led.from led.parent; leads = led.leads })
 
   -- the steps before one, and that one
-  pub tried_one_more : (rows : List Row) (number step : ℕ) → AreTried moves rows number step → IsTried moves rows number step → AreTried moves rows number (step + 1)
+  pub tried_one_more : (rows : List Row) (number step : ℕ) → AreTried moves rows number step → IsTried moves rows number step
+      → AreTried moves rows number (step + 1)
   tried_one_more rows number step before this i s h = elim (split_le number i) [
     | inl k ↦ elim (split_le step s) [
       | inl m ↦ (let n = h.1 k in let same : i ≡ number = omega (arith, k, h.0) in let same' : s ≡ step = omega (arith, n, m) in
@@ -64,7 +72,8 @@ module _ {C : Type 0} (moves : Moves C) where
 
   module _ (rows : List Row) (seen : List (List ℕ)) (known : IsKnown moves rows seen) where
     -- ---- paths by parents
-    path_leads : (n at : ℕ) (core : C) → at ≤ n → slice_get (cores_of moves rows) at ≡ Some core → walk moves.after moves.first (path_of rows at) ≡ Some core
+    path_leads : (n at : ℕ) (core : C) → at ≤ n → slice_get (cores_of moves rows) at ≡ Some core
+        → walk moves.after moves.first (path_of rows at) ≡ Some core
     path_leads n zero core few there = sym known.begun ∙ there
     path_leads zero (suc at) core few there = absurd (omega (arith, few))
     path_leads (suc n) (suc at) core few there =
@@ -74,7 +83,8 @@ module _ {C : Type 0} (moves : Moves C) where
         let less : row.0.parent ≤ at = known.below at row.0 row.1 in
         let step = path_step rows known.below (suc at) row.0 (omega arith) row.1 in
         ap (walk moves.after moves.first) step.0
-        ∙ walk_push moves.after moves.first led.from core (path_of rows row.0.parent) row.0.step (path_leads n row.0.parent led.from (omega (arith, few, less)) led.parent) led.leads
+        ∙ walk_push moves.after moves.first led.from core (path_of rows row.0.parent) row.0.step (path_leads n row.0.parent led.from (omega
+        (arith, few, less)) led.parent) led.leads
 
     pub is_sound : IsSound moves rows
     is_sound at core there = path_leads at at core (omega arith) there
@@ -91,7 +101,8 @@ module _ {C : Type 0} (moves : Moves C) where
           (place.0, place.2 ∙ ap (λ c. Some c) (sym same))
 
     -- ---- what was found stays found
-    pub found_grows : (more : List Row) (number step : ℕ) (to : C) → Grows moves rows more → IsFound moves rows number step to → IsFound moves more number step to
+    pub found_grows : (more : List Row) (number step : ℕ) (to : C) → Grows moves rows more → IsFound moves rows number step to
+        → IsFound moves more number step to
     found_grows more number step to grows found =
         let row = get_within rows found.at (omega (arith, as_many rows, slice_get_within (cores_of moves rows) found.at to found.there)) in
         record {
@@ -101,14 +112,16 @@ module _ {C : Type 0} (moves : Moves C) where
               subst (λ r. ComesUpTo r.parent r.step number step) (sym same) (found.early k row.0 is row.1));
         }
 
-    pub tried_grows : (more : List Row) (number step : ℕ) → number < length rows → Grows moves rows more → IsTried moves rows number step → IsTried moves more number step
+    pub tried_grows : (more : List Row) (number step : ℕ) → number < length rows → Grows moves rows more → IsTried moves rows number step
+        → IsTried moves more number step
     tried_grows more number step within grows tried from to there leads =
         let core = get_within (cores_of moves rows) number (omega (arith, within, as_many rows)) in
         let same : Some core.0 ≡ Some from = sym (grows.cores number core.0 core.1) ∙ there in
         found_grows more number step to grows (tried from to (core.1 ∙ same) leads)
 
     -- ---- one row more
-    module _ (row : Row) (to : C) (seen' : List (List ℕ)) (latest : HasRowsUpTo rows row.parent row.step) (tried : AreTried moves rows row.parent row.step)
+    module _ (row : Row) (to : C) (seen' : List (List ℕ)) (latest : HasRowsUpTo rows row.parent row.step)
+        (tried : AreTried moves rows row.parent row.step)
         (led : led_to moves (cores_of moves rows) row ≡ Some to) (kind : row.kind ≡ moves.kind to)
         (outside : is_seen seen (moves.key to) ≡ false) (adds : Adds seen seen' (moves.key to)) where
       parent_within : row.parent < length rows
@@ -133,7 +146,8 @@ module _ {C : Type 0} (moves : Moves C) where
         ]
       ]
 
-      led_more : (at : ℕ) (r : Row) (core : C) → slice_get (rows ++ row ∷ []) (suc at) ≡ Some r → slice_get (cores_of moves rows ++ to ∷ []) (suc at) ≡ Some core
+      led_more : (at : ℕ) (r : Row) (core : C) → slice_get (rows ++ row ∷ []) (suc at) ≡ Some r
+          → slice_get (cores_of moves rows ++ to ∷ []) (suc at) ≡ Some core
           → led_to moves (cores_of moves rows ++ to ∷ []) r ≡ Some core
       led_more at r core there is = elim (get_cases rows row (suc at) r there) [
         | inl h ↦ elim (get_cases (cores_of moves rows) to (suc at) core is) [
@@ -142,7 +156,8 @@ module _ {C : Type 0} (moves : Moves C) where
         ]
         | inr h ↦ elim (get_cases (cores_of moves rows) to (suc at) core is) [
           | inl k ↦ absurd (omega (arith, as_many rows, h.0, slice_get_within (cores_of moves rows) (suc at) core k))
-          | inr k ↦ ap (led_to moves (cores_of moves rows ++ to ∷ [])) h.1 ∙ led_grows (cores_of moves rows) (to ∷ []) row to led ∙ ap (λ c. Some c) (sym k.1)
+          | inr k ↦ ap (led_to moves (cores_of moves rows ++ to ∷ [])) h.1 ∙ led_grows (cores_of moves rows) (to ∷ []) row to led
+              ∙ ap (λ c. Some c) (sym k.1)
         ]
       ]
 
@@ -158,7 +173,8 @@ module _ {C : Type 0} (moves : Moves C) where
         ]
       ]
 
-      kinds_more : (at : ℕ) (r : Row) (core : C) → slice_get (rows ++ row ∷ []) at ≡ Some r → slice_get (cores_of moves rows ++ to ∷ []) at ≡ Some core → r.kind ≡ moves.kind core
+      kinds_more : (at : ℕ) (r : Row) (core : C) → slice_get (rows ++ row ∷ []) at ≡ Some r
+          → slice_get (cores_of moves rows ++ to ∷ []) at ≡ Some core → r.kind ≡ moves.kind core
       kinds_more at r core there is = elim (get_cases rows row at r there) [
         | inl h ↦ elim (get_cases (cores_of moves rows) to at core is) [
           | inl k ↦ known.kinds at r core h k
@@ -189,7 +205,10 @@ module _ {C : Type 0} (moves : Moves C) where
       tried_of : (at : ℕ) (r : Row) → slice_get (rows ++ row ∷ []) (suc at) ≡ Some r → AreTried moves (rows ++ row ∷ []) r.parent r.step
       tried_of at r there = elim (get_cases rows row (suc at) r there) [
         | inl h ↦ (let less = latest at r h in tried_more r.parent r.step (less.0, (λ back. (let m = less.1 back in omega (arith, m)))))
-        | inr h ↦ subst (λ r. AreTried moves (rows ++ row ∷ []) r.parent r.step) (sym h.1) (tried_more row.parent row.step (omega arith, (λ _. omega arith)))
+        | inr h ↦ subst (λ r. AreTried moves (rows ++ row ∷ []) r.parent r.step) (sym h.1) (tried_more row.parent row.step (
+          omega arith,
+          (λ _. omega arith),
+        ))
       ]
 
       pub known_more : IsKnown moves (rows ++ row ∷ []) seen'
@@ -199,10 +218,13 @@ module _ {C : Type 0} (moves : Moves C) where
             begun = ap (λ cs. slice_get cs zero) cores ∙ get_left (cores_of moves rows) (to ∷ []) zero moves.first known.begun;
             below = parents_below;
             in_order = order_more;
-            led = λ at r core there is. subst (λ cs. led_to moves cs r ≡ Some core) (sym cores) (led_more at r core there (ap (λ cs. slice_get cs (suc at)) (sym cores) ∙ is));
+            led = λ at r core there is. subst (λ cs. led_to moves cs r ≡ Some core) (sym cores) (led_more at r core there (ap (λ cs. slice_get cs
+                (suc at)) (sym cores) ∙ is));
             apart = subst (λ cs. IsDistinct cs) (sym cores) apart_more;
             keys = λ key. adds key ∙ ap (λ b. bytes_eq key (moves.key to) || b) (known.keys key)
-                ∙ sym (ap (λ cs. is_seen (map moves.key cs) key) cores ∙ ap (λ ks. is_seen ks key) (map-append moves.key (cores_of moves rows) (to ∷ [])) ∙ seen_push key (moves.key to) (map moves.key (cores_of moves rows)));
+                ∙ sym (ap (λ cs. is_seen (map moves.key cs) key) cores
+                ∙ ap (λ ks. is_seen ks key) (map-append moves.key (cores_of moves rows) (to ∷ []))
+                ∙ seen_push key (moves.key to) (map moves.key (cores_of moves rows)));
             kinds = λ at r core there is. kinds_more at r core there (ap (λ cs. slice_get cs at) (sym cores) ∙ is);
             tried = tried_of;
           }
@@ -241,7 +263,8 @@ module _ {C : Type 0} (moves : Moves C) where
   -- ---- complete
 
   -- where each step from one of the cores leads to one of them, so does each walk
-  pub walks_stay : (cores : List C) → ((at step : ℕ) (from to : C) → slice_get cores at ≡ Some from → slice_get (moves.after from) step ≡ Some to → Has cores to)
+  pub walks_stay : (cores : List C) → ((at step : ℕ) (from to : C) → slice_get cores at ≡ Some from → slice_get (moves.after from) step ≡ Some to
+      → Has cores to)
       → (path : List ℕ) (from to : C) → Has cores from → walk moves.after from path ≡ Some to → Has cores to
   walks_stay cores closed [] from to there led = (there.0, there.1 ∙ led)
   walks_stay cores closed (s ∷ ss) from to there led = by (slice_get (moves.after from) s) refl led

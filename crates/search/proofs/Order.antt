@@ -1,19 +1,20 @@
 -- What the rows of a search say, whether it is at its end or not.
-use Rattle.search.proofs.KnownLemmas.{as_many, is_sound}
+use Rattle.search.proofs.KnownLemmas.{as_many}
 use Rattle.search.proofs.Parents.{path_step}
-use Rattle.search.proofs.PathLemmas.{UpTo, before_left, before_none, before_last, before_short, before_strip, by_step, longer, numbers_rise, numbers_up_to, rises, split_le, up_to_before, up_to_left, up_to_trans}
+use Rattle.search.proofs.PathLemmas.{UpTo, before_left, before_none, before_last, before_short, before_strip, longer, numbers_rise, numbers_up_to, rises, split_le, up_to_before, up_to_left, up_to_trans}
 use Rattle.search.proofs.Places.{get_within}
 use Rattle.search.specs.Found.{HasBefore, IsFirst, IsInOrder, IsShortest, cores_of, path_of}
 use Rattle.search.specs.Known.{ComesBefore, IsFound, IsKnown}
 use Rattle.search.specs.Moves.{IsPath, Moves, walk}
 use Rattle.search.specs.Paths.{IsBefore}
 use Rattle.search.specs.declared.found.Row.{Row}
-use Rattle.std.proofs.Common.{List, None, Option, Some, [], ap, append_assoc, arith, inl, inr, length, refl, subst, suc, sym, zero, ℕ, ◌++◌, ◌+◌, ◌<◌, ◌∙◌, ◌∷◌, ◌≡◌, ◌≤◌, ◌⊎◌}
+use Rattle.std.proofs.Common.{List, None, Option, Some, [], ap, append_assoc, arith, inl, inr, length, refl, subst, suc, sym, zero, ℕ, ◌++◌, ◌+◌, ◌<◌, ◌∙◌, ◌∷◌, ◌≡◌, ◌≤◌}
 use Rattle.std.proofs.lemmas.List.{append-nil, length-append}
 use Rattle.std.proofs.lemmas.Option.{slice_get_within}
 use Rattle.std.specs.Prelude.{option_and_then, slice_get}
 
-module _ {C : Type 0} (moves : Moves C) (rows : List Row) (seen : List (List ℕ)) (known : IsKnown moves rows seen) (path : ℕ → List ℕ) (none : path zero ≡ [])
+module _ {C : Type 0} (moves : Moves C) (rows : List Row) (seen : List (List ℕ)) (known : IsKnown moves rows seen) (path : ℕ
+    → List ℕ) (none : path zero ≡ [])
     (next : (at : ℕ) (row : Row) → slice_get rows (suc at) ≡ Some row → path (suc at) ≡ path row.parent ++ row.step ∷ []) where
   -- a core at this place, whose path does not come after this one
   record Near (to : C) (way : List ℕ) : Type 0 where
@@ -54,14 +55,19 @@ module _ {C : Type 0} (moves : Moves C) (rows : List Row) (seen : List (List ℕ
           }
 
   -- a step on the way along a path that comes before that of a row comes before the row's step
-  step_before : (m : ℕ) (row : Row) → slice_get rows (suc m) ≡ Some row → (i : ℕ) (way : List ℕ) (s : ℕ) (ss : List ℕ) → i < length rows → UpTo (path i) way
+  step_before : (m : ℕ) (row : Row) → slice_get rows (suc m) ≡ Some row → (i : ℕ) (way : List ℕ) (s : ℕ) (ss : List ℕ) → i < length rows
+      → UpTo (path i) way
       → IsBefore (way ++ s ∷ ss) (path (suc m)) → ComesBefore i s row.parent row.step
   step_before m row there i way s [] within early before =
       let before' : IsBefore (way ++ s ∷ []) (path row.parent ++ row.step ∷ []) = subst (λ p. IsBefore (way ++ s ∷ []) p) (next m row there) before in
       elim (before_strip way (path row.parent) s row.step before') [
-        | inl h ↦ (let less = numbers_rise rows known.below known.in_order path none next i row.parent within (up_to_before (path i) way (path row.parent) early h) in
+        | inl h ↦ (let less = numbers_rise rows known.below known.in_order path none next i row.parent within (up_to_before (path i) way
+            (path row.parent) early h) in
             (omega (arith, less), (λ back. absurd (omega (arith, less, back)))))
-        | inr h ↦ (numbers_up_to rows known.below known.in_order path none next i row.parent within (subst (λ p. UpTo (path i) p) h.0 early), (λ _. h.1))
+        | inr h ↦ (
+          numbers_up_to rows known.below known.in_order path none next i row.parent within (subst (λ p. UpTo (path i) p) h.0 early),
+          (λ _. h.1),
+        )
       ]
   step_before m row there i way s (t ∷ ss) within early before =
       let short : length way + suc (suc (length ss)) ≤ length (path row.parent) + 1 = omega (
@@ -71,10 +77,12 @@ module _ {C : Type 0} (moves : Moves C) (rows : List Row) (seen : List (List ℕ
         ap length (next m row there),
         longer (path row.parent) row.step,
       ) in
-      let less = numbers_rise rows known.below known.in_order path none next i row.parent within (up_to_before (path i) way (path row.parent) early (inl (omega (arith, short)))) in
+      let less = numbers_rise rows known.below known.in_order path none next i row.parent within (up_to_before (path i) way
+      (path row.parent) early (inl (omega (arith, short)))) in
       (omega (arith, less), (λ back. absurd (omega (arith, less, back))))
 
-  walks_near : (m : ℕ) (row : Row) → slice_get rows (suc m) ≡ Some row → (ss way : List ℕ) (i : ℕ) (from to : C) → slice_get (cores_of moves rows) i ≡ Some from
+  walks_near : (m : ℕ) (row : Row) → slice_get rows (suc m) ≡ Some row → (ss way : List ℕ) (i : ℕ) (from to : C)
+      → slice_get (cores_of moves rows) i ≡ Some from
       → UpTo (path i) way → IsBefore (way ++ ss) (path (suc m)) → walk moves.after from ss ≡ Some to → Near to (way ++ ss)
   walks_near m row there [] way i from to here early before led = record {
     at = i;
@@ -85,7 +93,8 @@ module _ {C : Type 0} (moves : Moves C) (rows : List Row) (seen : List (List ℕ
       (λ j c here' early' before' rest. walks_near m row there ss (way ++ s ∷ []) j c to here' early' before' rest)
     where
       by : (o : Option C) → slice_get (moves.after from) s ≡ o → option_and_then (λ c. walk moves.after c ss) o ≡ Some to
-          → ((j : ℕ) (c : C) → slice_get (cores_of moves rows) j ≡ Some c → UpTo (path j) (way ++ s ∷ []) → IsBefore ((way ++ s ∷ []) ++ ss) (path (suc m))
+          → ((j : ℕ) (c : C) → slice_get (cores_of moves rows) j ≡ Some c → UpTo (path j) (way ++ s ∷ [])
+          → IsBefore ((way ++ s ∷ []) ++ ss) (path (suc m))
           → walk moves.after c ss ≡ Some to → Near to ((way ++ s ∷ []) ++ ss))
           → Near to (way ++ s ∷ ss)
       by None e led go = absurd cc
@@ -97,13 +106,18 @@ module _ {C : Type 0} (moves : Moves C) (rows : List Row) (seen : List (List ℕ
           (go near.at c near.there (up_to_trans (path near.at) (path i ++ s ∷ []) (way ++ s ∷ []) near.early (up_to_left (path i) way s early))
           (subst (λ p. IsBefore p (path (suc m))) (sym (append_assoc way (s ∷ []) ss)) before) led)
 
-  first_found : (at : ℕ) (way : List ℕ) (core : C) → at < length rows → IsPath moves way core → IsBefore way (path at) → HasBefore at (cores_of moves rows) core
+  first_found : (at : ℕ) (way : List ℕ) (core : C) → at < length rows → IsPath moves way core → IsBefore way (path at)
+      → HasBefore at (cores_of moves rows) core
   first_found zero way core within led before = absurd (before_none way (subst (λ p. IsBefore way p) none before))
   first_found (suc m) way core within led before =
       let row = get_within rows (suc m) within in
       let near = walks_near m row.0 row.1 way [] zero moves.first core known.begun (inl none) before led in
-      let inside = within_rows near.at core near.there in
-      (near.at, numbers_rise rows known.below known.in_order path none next near.at (suc m) inside (up_to_before (path near.at) way (path (suc m)) near.early before), near.there)
+      let inside = within_rows near.at core near.there in (
+        near.at,
+        numbers_rise rows known.below known.in_order path none next near.at (suc m) inside (up_to_before (path near.at) way (path
+            (suc m)) near.early before),
+        near.there,
+      )
 
 module _ {C : Type 0} (moves : Moves C) (rows : List Row) (seen : List (List ℕ)) (known : IsKnown moves rows seen) where
   next_of : (at : ℕ) (row : Row) → slice_get rows (suc at) ≡ Some row → path_of rows (suc at) ≡ path_of rows row.parent ++ row.step ∷ []
@@ -125,5 +139,6 @@ module _ {C : Type 0} (moves : Moves C) (rows : List Row) (seen : List (List ℕ
   pub is_in_order : IsInOrder rows
   is_in_order i j before within = elim (split_le j i) [
     | inl k ↦ (let same : i ≡ j = omega (arith, k, before) in subst (λ n. length (path_of rows i) ≤ length (path_of rows n)) same (omega arith))
-    | inr k ↦ before_short (path_of rows i) (path_of rows j) (rises rows known.below known.in_order (path_of rows) refl next_of j i j (omega arith) k within)
+    | inr k ↦ before_short (path_of rows i) (path_of rows j) (rises rows known.below known.in_order (path_of rows) refl next_of j i j
+        (omega arith) k within)
   ]

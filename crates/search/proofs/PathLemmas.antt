@@ -124,7 +124,8 @@ module _ (rows : List Row) (below : HasParentsBelow rows) (in_order : HasRowsInO
       let rest : IsBefore (path a.0.parent ++ a.0.step ∷ []) (path b.0.parent ++ b.0.step ∷ []) = by_step a.0.parent b.0.parent a.0.step b.0.step
       (λ h. rises n a.0.parent b.0.parent (omega (arith, less, few)) h (omega (arith, less, within)))
       (in_order i j a.0 b.0 (omega (arith, before)) a.1 b.1) in
-      subst (λ p. IsBefore p (path (suc j))) (sym (next i a.0 a.1)) (subst (λ p. IsBefore (path a.0.parent ++ a.0.step ∷ []) p) (sym (next j b.0 b.1)) rest)
+      subst (λ p. IsBefore p (path (suc j))) (sym (next i a.0 a.1)) (subst (λ p. IsBefore (path a.0.parent ++ a.0.step ∷ []) p) (sym
+      (next j b.0 b.1)) rest)
 
   pub numbers_rise : (i j : ℕ) → i < length rows → IsBefore (path i) (path j) → i < j
   numbers_rise i j within h = elim (split_le j i) [

@@ -13,7 +13,8 @@ module _ {X : Type 0} where
   get_last (x ∷ xs) y = get_last xs y
 
   -- an element stood there before, or is the last one
-  pub get_cases : (xs : List X) (y : X) (i : ℕ) (x : X) → slice_get (xs ++ y ∷ []) i ≡ Some x → (slice_get xs i ≡ Some x) ⊎ ((i ≡ length xs) × (x ≡ y))
+  pub get_cases : (xs : List X) (y : X) (i : ℕ) (x : X) → slice_get (xs ++ y ∷ []) i ≡ Some x
+      → (slice_get xs i ≡ Some x) ⊎ ((i ≡ length xs) × (x ≡ y))
   get_cases [] y zero x e = inr (refl, cc)
   get_cases [] y (suc i) x e = absurd cc
   get_cases (z ∷ xs) y zero x e = inl e

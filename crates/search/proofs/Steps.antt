@@ -1,18 +1,17 @@
 -- What is known after a step, after the steps of a core, and at the end.
-use Rattle.search.proofs.KnownLemmas.{as_many, found_grows, grows_more, has_more, is_sound, known_more, led_is, not_seen, some_same, tried_one_more, up_to_more, walks_stay, was_seen}
+use Rattle.search.proofs.KnownLemmas.{as_many, grows_more, has_more, is_sound, known_more, led_is, not_seen, some_same, tried_one_more, up_to_more, walks_stay, was_seen}
 use Rattle.search.proofs.PathLemmas.{split_le}
 use Rattle.search.proofs.Places.{get_cases, get_within}
 use Rattle.search.proofs.Walks.{walk_push}
-use Rattle.search.specs.Found.{IsComplete, IsSound, LeadsOut, cores_of, led_to, path_of, steps_from}
-use Rattle.search.specs.Known.{AreOf, AreStanding, AreTried, Exploring, Grows, HasRowsUpTo, IsCut, IsFound, IsKnown, IsTried, IsUpTo, MayJoin, Stays}
+use Rattle.search.specs.Found.{IsComplete, IsSound, cores_of, led_to, path_of, steps_from}
+use Rattle.search.specs.Known.{AreOf, AreStanding, AreTried, Exploring, Grows, HasRowsUpTo, IsCut, IsKnown, IsUpTo, MayJoin, Stays}
 use Rattle.search.specs.Moves.{IsPath, IsReachable, KeysDiffer, Moves, walk}
 use Rattle.search.specs.Seen.{Adds, is_seen}
 use Rattle.search.specs.declared.found.Row.{Row}
-use Rattle.std.proofs.Common.{Bool, List, None, Option, Some, [], ap, arith, false, inl, inr, length, max, refl, subst, suc, sym, true, zero, ℕ, ◌++◌, ◌+◌, ◌-◌, ◌<◌, ◌^◌, ◌∙◌, ◌∷◌, ◌≡◌, ◌≤◌, ◌⊎◌}
+use Rattle.std.proofs.Common.{Bool, List, Some, [], ap, arith, false, inl, inr, length, max, refl, subst, suc, sym, true, zero, ℕ, ◌++◌, ◌+◌, ◌-◌, ◌<◌, ◌^◌, ◌∙◌, ◌∷◌, ◌≡◌, ◌≤◌}
 use Rattle.std.proofs.lemmas.Option.{slice_get_within}
 use Rattle.std.specs.Option.{option_map_or}
-use Rattle.std.specs.Prelude.{IsSome, is_some, min, option_and_then, slice_get, ◌||◌}
-use Rattle.std.specs.Str.{bytes_eq}
+use Rattle.std.specs.Prelude.{IsSome, is_some, min, option_and_then, slice_get}
 
 place_of_one : {X : Type 0} (x : X) (i : ℕ) (y : X) → slice_get (x ∷ []) i ≡ Some y → (i ≡ zero) × (y ≡ x)
 place_of_one x zero y e = (refl, cc)
@@ -35,7 +34,8 @@ module _ {C : Type 0} (moves : Moves C) where
   }
 
   -- a step of a copy is a step
-  pub moved : (from to copy : C) (made gone : Moves C) (step : ℕ) → made ≡ moves → copy ≡ from → gone ≡ made → slice_get (made.after copy) step ≡ Some to
+  pub moved : (from to copy : C) (made gone : Moves C) (step : ℕ) → made ≡ moves → copy ≡ from → gone ≡ made
+      → slice_get (made.after copy) step ≡ Some to
       → (slice_get (moves.after from) step ≡ Some to) × (gone ≡ moves)
   moved from to copy made gone step same there same' leads =
       (subst (λ c. slice_get (moves.after c) step ≡ Some to) there (subst (λ m. slice_get (m.after copy) step ≡ Some to) same leads), same' ∙ same)
@@ -47,7 +47,11 @@ module _ {C : Type 0} (moves : Moves C) where
     later number row there = let less = up_to.latest number row there in (less.0, (λ back. (let m = less.1 back in omega (arith, m))))
 
     reached : IsReachable moves to
-    reached = (path_of rows at ++ step ∷ [], walk_push moves.after moves.first from to (path_of rows at) step (is_sound moves rows seen up_to.known at from here) leads)
+    reached = (
+      path_of rows at ++ step ∷ [],
+      walk_push moves.after moves.first from to (path_of rows at) step
+          (is_sound moves rows seen up_to.known at from here) leads,
+    )
 
     -- it leads to a core that was found already
     pub step_seen : KeysDiffer moves → is_seen seen (moves.key to) ≡ true → IsUpTo moves rows seen at (step + 1)
@@ -70,7 +74,8 @@ module _ {C : Type 0} (moves : Moves C) where
     }
 
     -- it leads to a further core, which is added
-    module _ (further : is_seen seen (moves.key to) ≡ false) (row : Row) (parent_is : row.parent ≡ at) (step_is : row.step ≡ step) (kind : row.kind ≡ moves.kind to)
+    module _ (further : is_seen seen (moves.key to) ≡ false) (row : Row) (parent_is : row.parent ≡ at) (step_is : row.step ≡ step)
+        (kind : row.kind ≡ moves.kind to)
         (rows' : List Row) (seen' : List (List ℕ)) (more : rows' ≡ rows ++ row ∷ []) (adds : Adds seen seen' (moves.key to)) where
       latest' : HasRowsUpTo rows row.parent row.step
       latest' = subst (λ n. HasRowsUpTo rows n row.step) (sym parent_is) (subst (λ n. HasRowsUpTo rows at n) (sym step_is) up_to.latest)
@@ -86,20 +91,25 @@ module _ {C : Type 0} (moves : Moves C) where
       })
 
       pub step_known : IsKnown moves rows' seen'
-      step_known = subst (λ rs. IsKnown moves rs seen') (sym more) (known_more moves rows seen up_to.known row to seen' latest' tried' led' kind further adds)
+      step_known = subst (λ rs. IsKnown moves rs seen') (sym more)
+          (known_more moves rows seen up_to.known row to seen' latest' tried' led' kind further adds)
 
       pub step_grows : Grows moves rows rows'
-      step_grows = subst (λ rs. Grows moves rows rs) (sym more) (grows_more moves rows seen up_to.known row to seen' latest' tried' led' kind further adds)
+      step_grows = subst (λ rs. Grows moves rows rs) (sym more)
+          (grows_more moves rows seen up_to.known row to seen' latest' tried' led' kind further adds)
 
       pub step_up_to : IsUpTo moves rows' seen' at (step + 1)
       step_up_to = subst (λ n. IsUpTo moves rows' seen' n (step + 1)) parent_is (subst (λ n. IsUpTo moves rows' seen' row.parent (n + 1)) step_is
-          (subst (λ rs. IsUpTo moves rs seen' row.parent (row.step + 1)) (sym more) (up_to_more moves rows seen up_to.known row to seen' latest' tried' led' kind further adds)))
+          (subst (λ rs. IsUpTo moves rs seen' row.parent (row.step + 1)) (sym more)
+          (up_to_more moves rows seen up_to.known row to seen' latest' tried' led' kind further adds)))
 
       pub step_has : slice_get (cores_of moves rows') (length rows) ≡ Some to
-      step_has = ap (λ rs. slice_get (cores_of moves rs) (length rows)) more ∙ has_more moves rows seen up_to.known row to seen' latest' tried' led' kind further adds
+      step_has = ap (λ rs. slice_get (cores_of moves rs) (length rows)) more
+          ∙ has_more moves rows seen up_to.known row to seen' latest' tried' led' kind further adds
 
   -- ---- the steps of one core
-  pub all_tried : (rows : List Row) (seen : List (List ℕ)) (at step count : ℕ) (here : C) → IsUpTo moves rows seen at step → slice_get (cores_of moves rows) at ≡ Some here
+  pub all_tried : (rows : List Row) (seen : List (List ℕ)) (at step count : ℕ) (here : C) → IsUpTo moves rows seen at step
+      → slice_get (cores_of moves rows) at ≡ Some here
       → count ≡ length (moves.after here) → count ≤ step → IsUpTo moves rows seen (at + 1) zero
   all_tried rows seen at step count here up_to there counted all = record {
     known = up_to.known;
@@ -128,7 +138,8 @@ module _ {C : Type 0} (moves : Moves C) where
       let same : slice_get cores n ≡ slice_get more n = core.1 ∙ sym (stays n core.0 core.1) in
       λ i. steps_grow cores more stays n (omega (arith, few)) i + option_map_or (λ core. length (moves.after core)) (same i) 0
 
-  module _ (now : Moves C) (same : now ≡ moves) (rows rows' : List Row) (seen seen' : List (List ℕ)) (at limit : ℕ) (whole whole' : Bool) (tried tried' count : ℕ) (here : C)
+  module _ (now : Moves C) (same : now ≡ moves) (rows rows' : List Row) (seen seen' : List (List ℕ)) (at limit : ℕ) (whole whole' : Bool)
+      (tried tried' count : ℕ) (here : C)
       (before : Exploring moves rows seen at limit whole tried) (within : at < length rows) (there : slice_get (cores_of moves rows) at ≡ Some here)
       (counted : count ≡ length (now.after here)) (tried_is : tried' ≡ min (tried + count) (2 ^ 64 - 1))
       (known : IsKnown now rows' seen') (grows : Grows now rows rows') (up_to : whole' ≡ true → IsUpTo now rows' seen' (at + 1) zero)
@@ -147,8 +158,10 @@ module _ {C : Type 0} (moves : Moves C) where
         ap (λ o. option_map_or (λ core. length (moves.after core)) o 0) (grows_now.cores at here there) in
         let count_is : count ≡ length (moves.after here) = counted ∙ ap (λ m. length (m.after here)) same in
         let after : suc at ≡ at + 1 = omega arith in
-        subst (λ n. tried' ≡ min (steps_from moves (cores_of moves rows') n) (2 ^ 64 - 1)) after (by_min tried count (steps_from moves (cores_of moves rows) at) (steps_from moves (cores_of moves rows') at)
-        (option_map_or (λ core. length (moves.after core)) (slice_get (cores_of moves rows') at) 0) (length (moves.after here)) tried' before.counted old next count_is tried_is)
+        subst (λ n. tried' ≡ min (steps_from moves (cores_of moves rows') n) (2 ^ 64 - 1)) after (by_min tried count (steps_from moves
+        (cores_of moves rows) at) (steps_from moves (cores_of moves rows') at)
+        (option_map_or (λ core. length (moves.after core)) (slice_get (cores_of moves rows') at) 0) (length
+        (moves.after here)) tried' before.counted old next count_is tried_is)
 
     pub exploring_more : Exploring moves rows' seen' (at + 1) limit whole' tried'
     exploring_more = record {
@@ -161,7 +174,8 @@ module _ {C : Type 0} (moves : Moves C) where
     }
 
   -- what is known of the machine is known of one that means the same
-  module _ (now : Moves C) (same : now ≡ moves) (rows : List Row) (seen : List (List ℕ)) (at limit : ℕ) (whole : Bool) (tried : ℕ) (before : Exploring moves rows seen at limit whole tried) where
+  module _ (now : Moves C) (same : now ≡ moves) (rows : List Row) (seen : List (List ℕ)) (at limit : ℕ) (whole : Bool) (tried : ℕ)
+      (before : Exploring moves rows seen at limit whole tried) where
     pub known_now : IsKnown now rows seen
     known_now = subst (λ m. IsKnown m rows seen) (sym same) before.known
 
@@ -172,24 +186,29 @@ module _ {C : Type 0} (moves : Moves C) where
     cut_now h = subst (λ m. IsCut m rows limit) (sym same) (before.cut h)
 
   -- ---- the end
-  pub complete_at_end : (rows : List Row) (seen : List (List ℕ)) (at : ℕ) → IsUpTo moves rows seen at zero → length rows ≤ at → IsComplete moves (cores_of moves rows)
+  pub complete_at_end : (rows : List Row) (seen : List (List ℕ)) (at : ℕ) → IsUpTo moves rows seen at zero → length rows ≤ at
+      → IsComplete moves (cores_of moves rows)
   complete_at_end rows seen at up_to all core reached =
       walks_stay moves (cores_of moves rows)
       (λ i step from to there leads. (
       let less : i < at = omega (arith, all, as_many moves rows, slice_get_within (cores_of moves rows) i from there) in
-      let found = up_to.tried i step (omega (arith, less), (λ back. absurd (omega (arith, less, back)))) from to there leads in (found.at, found.there)))
+      let found = up_to.tried i step (omega (arith, less), (λ back. absurd (omega (arith, less, back)))) from to there leads in
+      (found.at, found.there)))
       reached.0 moves.first core (zero, up_to.known.begun) reached.1
 
   -- ---- the machines that wait
   module _ {W : Type 0} (moves_of : W → Moves C) (core_of : W → C) where
-    pub standing_grows : (rows more : List Row) (waiting : List (ℕ × W)) → Grows moves rows more → AreStanding moves moves_of core_of rows waiting → AreStanding moves moves_of core_of more waiting
+    pub standing_grows : (rows more : List Row) (waiting : List (ℕ × W)) → Grows moves rows more
+        → AreStanding moves moves_of core_of rows waiting → AreStanding moves moves_of core_of more waiting
     standing_grows rows more waiting grows before at number w there = let is = before at number w there in (is.0, grows.cores number (core_of w) is.1)
 
-    pub standing_rest : (rows : List Row) (waiting rest : List (ℕ × W)) → AreOf waiting rest → AreStanding moves moves_of core_of rows waiting → AreStanding moves moves_of core_of rows rest
+    pub standing_rest : (rows : List Row) (waiting rest : List (ℕ × W)) → AreOf waiting rest → AreStanding moves moves_of core_of rows waiting
+        → AreStanding moves moves_of core_of rows rest
     standing_rest rows waiting rest are_of before at number w there = let old = are_of at (number, w) there in before old.0 number w old.1
 
     pub standing_more : (rows : List Row) (waiting more : List (ℕ × W)) (n : ℕ) (x : W) → MayJoin waiting more (n, x) → moves_of x ≡ moves
-        → slice_get (cores_of moves rows) n ≡ Some (core_of x) → AreStanding moves moves_of core_of rows waiting → AreStanding moves moves_of core_of rows more
+        → slice_get (cores_of moves rows) n ≡ Some (core_of x) → AreStanding moves moves_of core_of rows waiting
+        → AreStanding moves moves_of core_of rows more
     standing_more rows waiting more n x joins means stands before at number w there = elim joins [
       | inl h ↦ before at number w (ap (λ l. slice_get l at) (sym h) ∙ there)
       | inr h ↦ elim (get_cases waiting (n, x) at (number, w) (ap (λ l. slice_get l at) (sym h) ∙ there)) [
@@ -202,12 +221,14 @@ module _ {C : Type 0} (moves : Moves C) where
     ]
 
   -- ---- the way to a core
-  pub may_go : (rows : List Row) (at : ℕ) (path : List ℕ) → IsSound moves rows → at < length rows → path ≡ path_of rows at → IsSome (walk moves.after moves.first path)
+  pub may_go : (rows : List Row) (at : ℕ) (path : List ℕ) → IsSound moves rows → at < length rows → path ≡ path_of rows at
+      → IsSome (walk moves.after moves.first path)
   may_go rows at path sound within path_is =
       let core = get_within (cores_of moves rows) at (omega (arith, within, as_many moves rows)) in
       ap is_some (ap (walk moves.after moves.first) path_is ∙ sound at core.0 core.1)
 
-  pub comes_there : (rows : List Row) (at : ℕ) (path : List ℕ) (here : C) → IsSound moves rows → at < length rows → path ≡ path_of rows at → IsPath moves path here
+  pub comes_there : (rows : List Row) (at : ℕ) (path : List ℕ) (here : C) → IsSound moves rows → at < length rows → path ≡ path_of rows at
+      → IsPath moves path here
       → slice_get (cores_of moves rows) at ≡ Some here
   comes_there rows at path here sound within path_is led =
       let core = get_within (cores_of moves rows) at (omega (arith, within, as_many moves rows)) in

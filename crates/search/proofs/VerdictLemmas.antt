@@ -6,7 +6,7 @@ use Rattle.search.specs.Moves.{IsPath, Moves}
 use Rattle.search.specs.Paths.{IsBefore}
 use Rattle.search.specs.Verdicts.{HasNoKind, Holds, IsFailure, IsFirstOfKind, IsTooMuch}
 use Rattle.search.specs.declared.found.Row.{Row}
-use Rattle.std.proofs.Common.{List, None, Option, Some, ap, arith, length, subst, sym, ℕ, ◌<◌, ◌∙◌, ◌≡◌, ◌≤◌}
+use Rattle.std.proofs.Common.{List, None, Option, Some, arith, length, subst, sym, ℕ, ◌<◌, ◌∙◌, ◌≡◌, ◌≤◌}
 use Rattle.std.proofs.lemmas.Option.{slice_get_within}
 use Rattle.std.specs.Prelude.{IsSome, slice_get}
 
@@ -25,7 +25,8 @@ module _ {C : Type 0} (moves : Moves C) (rows : List Row) (kinds : HasKinds move
       let found = complete core reached in
       no_kind (length rows) found.0 core none (omega (arith, as_many moves rows, slice_get_within (cores_of moves rows) found.0 core found.1)) found.1
 
-  pub failure : IsSound moves rows → IsFirst moves rows → (number : ℕ) → IsFirstOfKind rows number → (path : List ℕ) → path ≡ path_of rows number → IsFailure moves path
+  pub failure : IsSound moves rows → IsFirst moves rows → (number : ℕ) → IsFirstOfKind rows number → (path : List ℕ) → path ≡ path_of rows number
+      → IsFailure moves path
   failure sound first number found path path_is =
       let inside : number < length rows = slice_get_within rows number found.row found.there in
       let core = get_within (cores_of moves rows) number (omega (arith, inside, as_many moves rows)) in
@@ -44,6 +45,11 @@ module _ {C : Type 0} (moves : Moves C) (rows : List Row) (kinds : HasKinds move
     distinct = distinct;
     many = omega (arith, many, as_many moves rows);
     reached = λ core has. (path_of rows has.0, sound has.0 core has.1);
-    pass = λ core has. no_kind (length rows) has.0 core none (omega (arith, as_many moves rows, slice_get_within (cores_of moves rows) has.0 core has.1)) has.1;
+    pass = λ core has. no_kind (length rows) has.0 core none (omega (
+      arith,
+      as_many moves rows,
+      slice_get_within
+          (cores_of moves rows) has.0 core has.1,
+    )) has.1;
     further = further;
   }

@@ -58,7 +58,8 @@ module _ {A : Type 0} (is_value : A → Type 0) (code : A → List ℕ) (is_code
       let both = is_code x y more others hx hy (ap (drop 1) e) in
       (ap (λ v. Some v) both.0, both.1)
 
-module _ {A B : Type 0} (is_a : A → Type 0) (is_b : B → Type 0) (code_a : A → List ℕ) (code_b : B → List ℕ) (a_code : IsCode is_a code_a) (b_code : IsCode is_b code_b) where
+module _ {A B : Type 0} (is_a : A → Type 0) (is_b : B → Type 0) (code_a : A → List ℕ) (code_b : B
+    → List ℕ) (a_code : IsCode is_a code_a) (b_code : IsCode is_b code_b) where
   pub pair_is_code : IsCode (ArePaired is_a is_b) (pair_bytes code_a code_b)
   pair_is_code p q more others hp hq e =
       let first = a_code p.0 q.0 (code_b p.1 ++ more) (code_b q.1 ++ others) hp.0 hq.0
@@ -67,7 +68,8 @@ module _ {A B : Type 0} (is_a : A → Type 0) (is_b : B → Type 0) (code_a : A 
       ((λ i. (first.0 i, second.0 i)), second.1)
 
 -- values that are told apart by their parts, as records are by their fields
-pub made_is_code : {A B : Type 0} (is_value : A → Type 0) (code : A → List ℕ) → IsCode is_value code → (parts : B → A) → ((x y : B) → parts x ≡ parts y → x ≡ y)
+pub made_is_code : {A B : Type 0} (is_value : A → Type 0) (code : A → List ℕ) → IsCode is_value code → (parts : B → A) → ((x y : B)
+    → parts x ≡ parts y → x ≡ y)
     → IsCode (λ x. is_value (parts x)) (λ x. code (parts x))
 made_is_code is_value code is_code parts apart x y more others hx hy e =
     let both = is_code (parts x) (parts y) more others hx hy e in

@@ -72,7 +72,8 @@ module _ {C : Type 0} where
 
   -- each row has the kind of its core
   abbrev pub HasKinds : Moves C → List Row → Type 0
-  HasKinds moves rows = (at : ℕ) (row : Row) (core : C) → slice_get rows at ≡ Some row → slice_get (cores_of moves rows) at ≡ Some core → row.kind ≡ moves.kind core
+  HasKinds moves rows = (at : ℕ) (row : Row) (core : C) → slice_get rows at ≡ Some row → slice_get (cores_of moves rows) at ≡ Some core
+      → row.kind ≡ moves.kind core
 
   -- no core is there twice
   abbrev pub IsDistinct : List C → Type 0

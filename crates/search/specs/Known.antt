@@ -22,7 +22,8 @@ HasRowsUpTo rows number step = (at : ℕ) (row : Row) → slice_get rows (suc at
 
 -- a later row is of a later step
 abbrev pub HasRowsInOrder : List Row → Type 0
-HasRowsInOrder rows = (i j : ℕ) (a b : Row) → i < j → slice_get rows (suc i) ≡ Some a → slice_get rows (suc j) ≡ Some b → ComesBefore a.parent a.step b.parent b.step
+HasRowsInOrder rows = (i j : ℕ) (a b : Row) → i < j → slice_get rows (suc i) ≡ Some a → slice_get rows (suc j) ≡ Some b
+    → ComesBefore a.parent a.step b.parent b.step
 
 -- what stands in a list stays where it is, and more may follow
 abbrev pub Stays : {X : Type 0} → List X → List X → Type 0
@@ -37,7 +38,8 @@ module _ {C : Type 0} (moves : Moves C) where
 
   -- the core to which this step leads from the core of this number was found
   abbrev pub IsTried : List Row → ℕ → ℕ → Type 0
-  IsTried rows number step = (from to : C) → slice_get (cores_of moves rows) number ≡ Some from → slice_get (moves.after from) step ≡ Some to → IsFound rows number step to
+  IsTried rows number step = (from to : C) → slice_get (cores_of moves rows) number ≡ Some from → slice_get (moves.after from) step ≡ Some to
+      → IsFound rows number step to
 
   -- so were those of all steps before this one
   abbrev pub AreTried : List Row → ℕ → ℕ → Type 0

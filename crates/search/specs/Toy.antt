@@ -1,6 +1,6 @@
 -- The machine of the crate's tests: a number up to 9, to which one is added or which is doubled.
 use Rattle.search.specs.Moves.{KeysDiffer, Moves}
-use Rattle.std.specs.Prelude.{◌≢◌, None, Option, Some, [], if◌then◌else◌, nat_lt, slice_get, ℕ, ◌+◌, ◌<◌, ◌==◌, ◌∷◌, ◌≡◌}
+use Rattle.std.specs.Prelude.{◌≢◌, None, Some, [], if◌then◌else◌, nat_lt, slice_get, ℕ, ◌+◌, ◌<◌, ◌==◌, ◌∷◌, ◌≡◌}
 use Rattle.std.proofs.Common.{arith, suc, zero, refl}
 
 -- one more, and after 9 comes 0
