@@ -30,6 +30,6 @@ mod writing;
 
 pub use count::CountSink;
 pub use reading::{Feed, ReadFailure, feed_up_to, read_all, read_up_to};
-pub use std_streams::{GATHERED, GatheringSink, StdSink, StdSource};
+pub use std_streams::{GATHERED, GatheringSink, ReaderSource, StdSink, StdSource};
 pub use until_fault::UntilFault;
 pub use writing::write_all;

@@ -1,6 +1,6 @@
 // Standard input and standard output.
 ghost use Rattle.std.specs.Prelude.{◌≡◌, ◌<◌, ◌≤◌, [], false, true, IfOk, IsErr, IsTrue, OnErr, OnOk, length};
-ghost use Rattle.std.specs.Io.KnownBytes.{ReadConsumes};
+ghost use Rattle.std.specs.Io.KnownBytes.{Keeps, ReadConsumes, WriteAppends};
 
 use crate::until_fault::UntilFault;
 use lwp_types::{Failed, Sink, Source};
@@ -11,12 +11,15 @@ use std::io::{BufWriter, ErrorKind, Read, Stdin, Stdout, Write};
 /// So many bytes are gathered before they are written, where nobody waits for them.
 pub const GATHERED: usize = 65_536;
 
-/// Standard input. It tells nothing of its bytes, and counts the reads that failed.
+/// A source that reads from a reader as it is asked to. It tells nothing of its bytes, and counts the reads that failed.
 #[derive(Drop)]
-pub struct StdSource {
-    stdin: Stdin,
+pub struct ReaderSource<R: Read + Drop> {
+    reader: R,
     faults: u64,
 }
+
+/// Standard input, as a source.
+pub type StdSource = ReaderSource<Stdin>;
 
 /// A writer to which bytes are written as many at a time as are gathered; `finish` writes the rest. It tells nothing of its bytes, and
 /// counts the writes that failed. After the first of these it writes no more: not the rest, and also not when it is dropped.
@@ -29,20 +32,21 @@ pub struct GatheringSink<W: Write + Drop> {
 /// Standard output, as a sink.
 pub type StdSink = GatheringSink<Stdout>;
 
-impl StdSource {
-    ghost use Rattle.streams.specs.StdStreams.{read_faults};
+impl<R: Read + Drop> ReaderSource<R> {
+    ghost use Rattle.streams.specs.StdStreams.{read_faults, source_remaining};
 
     /// No read has failed yet.
-    pub fn new(stdin: Stdin) -> StdSource
-        ensures { read_faults result ≡ 0 }
+    pub fn new(reader: R) -> ReaderSource<R>
+        ensures faults { read_faults result ≡ 0 }
+        ensures bytes { source_remaining R.remaining result ≡ R.remaining reader }
     {
-        StdSource { stdin, faults: 0 }
+        ReaderSource { reader, faults: 0 }
     }
 }
 
 impl<W: Write + Drop> GatheringSink<W> {
     ghost use Rattle.lwp_types.specs.Streams.{HasCause};
-    ghost use Rattle.streams.specs.StdStreams.{IsLeft, gathered_bytes, is_closed, write_faults};
+    ghost use Rattle.streams.specs.StdStreams.{IsLeft, gathered_bytes, is_closed, sink_contents, write_faults};
 
     /// Takes the memory for all that it will ever gather, which is `most`. Where that is 0, each write goes out at once.
     pub fn new(alloc: Global, out: W, most: usize) -> io::Result<GatheringSink<W>>
@@ -58,6 +62,8 @@ impl<W: Write + Drop> GatheringSink<W> {
     pub fn finish(&mut self) -> Result<(), Failed>
         ensures cause { HasCause (write_faults self.old) (write_faults self.new) result }
         ensures rest { OnOk result (gathered_bytes self.new ≡ []) }
+        ensures bytes { Keeps (sink_contents W.contents self.old)
+            (sink_contents W.contents self.new) }
         ensures closed { IsTrue (is_closed self.old) → IsErr result × IsLeft self.old self.new }
     {
         if self.out.get_ref().is_closed() {
@@ -74,6 +80,8 @@ impl<W: Write + Drop> GatheringSink<W> {
         ensures failed { IsErr result }
         ensures cause { HasCause (write_faults self.old) (write_faults self.new) result }
         ensures closed { IsTrue (is_closed self.new) }
+        ensures bytes { Keeps (sink_contents W.contents self.old)
+            (sink_contents W.contents self.new) }
         ensures left { IsTrue (is_closed self.old) → IsLeft self.old self.new }
     {
         self.faults = self.faults.saturating_add(1);
@@ -96,15 +104,22 @@ fn read_past_signals<R: Read>(reader: &mut R, buf: &mut [u8]) -> io::Result<usiz
     Err(ErrorKind::Interrupted.into())
 }
 
-impl Source for StdSource {
+impl<R: Read + Drop> Source for ReaderSource<R> {
     ghost use Rattle.std.specs.Prelude.{None};
+    ghost use Rattle.lwp_types.specs.Streams.{HasCause};
+    ghost use Rattle.streams.specs.StdStreams.{read_faults, source_remaining};
 
     ghost left = { λ s. None };
 
     ghost faults = { λ s. s.faults };
 
-    fn read(&mut self, buf: &mut [u8]) -> Result<usize, Failed> {
-        let Ok(n) = read_past_signals(&mut self.stdin, buf) else {
+    fn read(&mut self, buf: &mut [u8]) -> Result<usize, Failed>
+        ensures bound { IfOk result (λ n. n ≤ length buf.new) }
+        ensures cause { HasCause (read_faults self.old) (read_faults self.new) result }
+        ensures bytes { ReadConsumes (source_remaining R.remaining self.old)
+            (source_remaining R.remaining self.new) result buf.new }
+    {
+        let Ok(n) = read_past_signals(&mut self.reader, buf) else {
             self.faults = self.faults.saturating_add(1);
             return Err(Failed);
         };
@@ -115,7 +130,7 @@ impl Source for StdSource {
 impl<W: Write + Drop> Sink for GatheringSink<W> {
     ghost use Rattle.std.specs.Prelude.{None};
     ghost use Rattle.lwp_types.specs.Streams.{HasCause};
-    ghost use Rattle.streams.specs.StdStreams.{IsLeft, gathered_bytes, is_closed, write_faults};
+    ghost use Rattle.streams.specs.StdStreams.{IsLeft, gathered_bytes, is_closed, sink_contents, write_faults};
 
     ghost written = { λ s. None };
 
@@ -126,6 +141,8 @@ impl<W: Write + Drop> Sink for GatheringSink<W> {
         ensures some { IfOk result (λ n. 0 < length bytes.now → 0 < n) }
         ensures cause { HasCause (write_faults self.old) (write_faults self.new) result }
         ensures fails { OnErr result (IsTrue (is_closed self.new)) }
+        ensures bytes { WriteAppends (sink_contents W.contents self.old)
+            (sink_contents W.contents self.new) result bytes.now }
         ensures closed { IsTrue (is_closed self.old) → IsErr result × IsLeft self.old self.new }
     {
         if self.out.get_ref().is_closed() {
@@ -141,6 +158,8 @@ impl<W: Write + Drop> Sink for GatheringSink<W> {
     fn hand_on(&mut self)
         ensures cause { write_faults self.new ≡ write_faults self.old }
         ensures handed { is_closed self.new ≡ false → gathered_bytes self.new ≡ [] }
+        ensures bytes { Keeps (sink_contents W.contents self.old)
+            (sink_contents W.contents self.new) }
         ensures closed { IsTrue (is_closed self.old) → IsLeft self.old self.new }
     {
         if self.out.get_ref().is_closed() {
@@ -281,6 +300,45 @@ mod tests {
         let is_gathered = sink.write(b"sixth\n").is_ok();
         sink.hand_on();
         Ok(is_gathered && sink.write(b"").is_ok())
+    }
+
+    // Takes all that it is given, and counts how often it was flushed.
+    #[derive(Drop)]
+    struct CountsFlushes {
+        flushes: u32,
+    }
+
+    impl Write for CountsFlushes {
+        fn write(&mut self, buf: &[u8]) -> io::Result<usize> {
+            Ok(buf.len())
+        }
+
+        fn flush(&mut self) -> io::Result<()> {
+            self.flushes = self.flushes.saturating_add(1);
+            Ok(())
+        }
+    }
+
+    #[test]
+    fn the_writer_below_is_flushed(rt: HostRuntime) -> Result<(), Fail> {
+        let mut out = CountsFlushes { flushes: 0 };
+        let mut sink = GatheringSink::new(rt.alloc(), &mut out, 8)?;
+        sink.hand_on();
+        assert_eq!(rt; sink.finish(), Ok(()));
+        drop(sink);
+        assert_eq!(rt; out.flushes, 2);
+        Ok(())
+    }
+
+    #[test]
+    fn a_reader_is_read_to_its_end(rt: HostRuntime) -> Result<(), Fail> {
+        let mut source = ReaderSource::new(b"sixth\n".as_slice());
+        let mut buf = [0u8; 4];
+        assert_eq!(rt; source.read(&mut buf), Ok(4));
+        assert_eq!(rt; buf, *b"sixt");
+        assert_eq!(rt; source.read(&mut buf), Ok(2));
+        assert_eq!(rt; source.read(&mut buf), Ok(0));
+        Ok(())
     }
 
     #[test]
