@@ -11,9 +11,11 @@
 //! A `CountSink` counts bytes and keeps none. What it was given is remembered in proofs alone. So a function that is proved for every
 //! sink, and says what it writes, says it of this one too, and the count is then the length of that.
 //!
-//! `StdSource` reads from standard input, and `StdSink` gathers what it is given and writes it to standard output. Both keep the
-//! rules that `lwp_types` has for every source and sink. They tell no bytes, since no contract can say what a stream of the process
-//! gives or takes; so a function that is proved for every source and sink says of these two how often they failed. A signal that
+//! A `ReaderSource` reads from any reader, and a `GatheringSink` gathers what it is given and writes it to any writer; `StdSource` and
+//! `StdSink` are those over standard input and standard output. Both keep the rules that `lwp_types` has for every source and sink.
+//! As sources and sinks they tell no bytes, so a function that is proved for every source and sink says of them how often they
+//! failed. Of a reader or a writer that tells its bytes, their own clauses say which bytes are taken and which reach it, in order
+//! (`bytes`; `specs/StdStreams.antt`); what the streams of the process themselves give and take, no contract says. A signal that
 //! comes in between is no failure. `GatheringSink::finish` writes what is gathered still, and leaves nothing where it answers Ok;
 //! `hand_on` does so in the midst of a run, and leaves it to the next write to tell of a failure. A write that failed is the last:
 //! the sink then refuses every other, and hands no byte on any more (`UntilFault`).
