@@ -7,8 +7,8 @@ ghost use Rattle.agents.specs.Roster.{IsInBirthOrder, after_create, after_destro
 
 use crate::board::{Board, Tally, one_if};
 use crate::index::Index;
-use crate::rows::{number_of, numbers, row_of, set_holding, take_out};
-use lwp_types::{AgentRow, IdList, NoMemory, Tid};
+use crate::rows::{copied, number_of, numbers, row_of, set_holding, take_out};
+use lwp_types::{AgentRow, IdList, NoMemory, Sequence, Tid};
 use std::alloc::Global;
 use std::marker::Model;
 
@@ -199,5 +199,12 @@ impl Agents {
         ensures in_birth_order { IsInBirthOrder self.now.agents }
     {
         numbers(*self.rows.allocator(), &self.rows)
+    }
+
+    /// A copy of all that is kept of the agents, in birth order.
+    pub fn rows(&self) -> Result<Sequence<AgentRow>, NoMemory>
+        ensures { IfOk result (λ rows. rows ≡ self.now.agents) }
+    {
+        copied(*self.rows.allocator(), &self.rows)
     }
 }

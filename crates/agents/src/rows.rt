@@ -5,7 +5,7 @@ ghost use Rattle.lwp_types.specs.Messages.{with_holding};
 ghost use Rattle.lwp_types.specs.State.{agent_numbers, agent_of, rises};
 ghost use Rattle.agents.specs.Kept.{IsAgentAt};
 
-use lwp_types::{AgentRow, IdList, NoMemory, Tid, likely_place};
+use lwp_types::{AgentRow, IdList, NoMemory, Sequence, Tid, likely_place};
 use std::alloc::Global;
 
 // The number of a thread or an agent.
@@ -100,4 +100,15 @@ pub fn numbers(alloc: Global, rows: &[AgentRow]) -> Result<IdList, NoMemory>
         ids.push(row.number.number)?;
     }
     Ok(ids)
+}
+
+// The same rows once more.
+pub fn copied(alloc: Global, rows: &[AgentRow]) -> Result<Sequence<AgentRow>, NoMemory>
+    ensures { IfOk result (λ copies. copies ≡ rows.now) }
+{
+    let mut copies = Sequence::new(alloc);
+    for row in rows {
+        copies.push(*row)?;
+    }
+    Ok(copies)
 }
