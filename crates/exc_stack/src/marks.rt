@@ -1,9 +1,10 @@
 // Searches in the marks of a stack, and the ways in which marks go.
-ghost use Rattle.std.specs.Prelude.{◌≡◌, ◌++◌, ◌≤◌, ◌<◌, length, take, drop};
+ghost use Rattle.std.specs.Prelude.{◌≡◌, ◌++◌, ◌≤◌, ◌<◌, IfOk, length, take, drop};
 ghost use Rattle.lwp_types.specs.Exceptions.{exit_of, first_frames, first_handlers, frames, handler_in, is_frame, matches};
 ghost use Rattle.exc_stack.specs.Stack.{TakesTop, below_last_exit, is_handler, last_exit};
 
-use lwp_types::{ExitMark, Found, Mark, Pattern};
+use lwp_types::{ExitMark, Found, Mark, NoMemory, Pattern, Sequence};
+use std::alloc::Global;
 
 // Whether a procedure begins here.
 pub fn is_frame(mark: &Mark) -> bool
@@ -137,4 +138,15 @@ pub fn settle(marks: &mut Vec<Mark>, base: usize, number: u32)
         kept += 1;
     }
     marks.truncate(kept);
+}
+
+// The same marks once more.
+pub fn copied<'s>(alloc: Global, marks: &[Mark<'s>]) -> Result<Sequence<Mark<'s>>, NoMemory>
+    ensures { IfOk result (λ copies. copies ≡ marks.now) }
+{
+    let mut copies = Sequence::new(alloc);
+    for mark in marks {
+        copies.push(mark.again())?;
+    }
+    Ok(copies)
 }
