@@ -8,20 +8,23 @@
 //! - `TextList`: texts in one piece of memory, seen as the list of their bytes (`specs/Texts.antt`).
 //! - Event marks: a word with a bit for each of 64 events; the first marked event below 32 is found at one look
 //!   (`specs/EventMarks.antt`).
+//! - `living`: a copy of what places have, of which some are empty (`specs/Living.antt`).
 //!
-//! The contract of each call is one equation on these lists. Memory is taken by `new`, `reserve`, `with_cells`, and by the pushes of
-//! a `TextList`, and by nothing else. The crate stands on `lwp_types`.
+//! The contract of each call is one equation on these lists. Memory is taken by `new`, `reserve`, `with_cells`, by the pushes of
+//! a `TextList`, and by what gives a copy, and by nothing else. The crate stands on `lwp_types`.
 #![tactic(auto)]
 
 mod chain_links;
 mod chains;
 mod event_marks;
+mod places;
 mod text_list;
 mod thread_index;
 mod waiting_list;
 
 pub use chains::Chains;
 pub use event_marks::{first_marked, is_marked, no_marks, with_mark};
+pub use places::living;
 pub use text_list::{Span, TextList};
 pub use thread_index::Index;
 pub use waiting_list::{Waiting, WaitingList};

@@ -8,9 +8,9 @@ use crate::waiting_list::Waiting;
 use crate::waiting_list::filing::{dismiss, file_next, next_arrival, prioritize, widen};
 use crate::waiting_list::keys::Key;
 use crate::waiting_list::rows::{
-    Entry, best_place, entry_of, first_place, place_of_thread, tids_for, waiting_of,
+    Entry, best_place, copied, entry_of, first_place, place_of_thread, tids_for, waiting_of,
 };
-use lwp_types::{IdList, NoMemory, Tid};
+use lwp_types::{IdList, NoMemory, Sequence, Tid};
 use std::alloc::Global;
 use std::collections::VecDeque;
 use std::marker::Model;
@@ -188,5 +188,12 @@ impl WaitingList {
             &self.arrived,
             what,
         )
+    }
+
+    /// A copy of all that wait, in the order of their arrival.
+    pub fn rows(&self) -> Result<Sequence<Waiting>, NoMemory>
+        ensures { IfOk result (λ rows. rows ≡ self.now.waiting) }
+    {
+        copied(*self.entries.allocator(), &self.entries)
     }
 }

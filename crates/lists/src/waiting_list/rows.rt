@@ -6,7 +6,7 @@ ghost use Rattle.lists.specs.WaitingList.Entries.{AreAlike, AreRising, IsAt, IsB
 
 use crate::Index;
 use crate::waiting_list::keys::{self, Key};
-use lwp_types::{IdList, NoMemory, Tid};
+use lwp_types::{IdList, NoMemory, Sequence, Tid};
 use std::alloc::Global;
 use std::collections::VecDeque;
 
@@ -294,4 +294,15 @@ pub fn tids_for(
         Some(_) => tids_among(alloc, entries, what),
         None => Ok(IdList::new(alloc)),
     }
+}
+
+// All of them, without their arrivals.
+pub fn copied(alloc: Global, entries: &VecDeque<Entry>) -> Result<Sequence<Waiting>, NoMemory>
+    ensures { IfOk result (λ rows. rows ≡ map waiting_of entries.now.items) }
+{
+    let mut rows = Sequence::new(alloc);
+    for i in 0..entries.len() {
+        rows.push(waiting_of(&entries[i]))?;
+    }
+    Ok(rows)
 }
