@@ -2,13 +2,13 @@
 ghost use Rattle.std.specs.Prelude.{◌≡◌, ◌<◌, ◌≤◌, false, length, map, IsTrue, IsOk, IfOk, OnOk, OnErr};
 ghost use Rattle.lwp_types.specs.First.{FindsBest};
 ghost use Rattle.lwp_types.specs.Conditions.{condition_numbers};
-ghost use Rattle.conditions.specs.ConditionTable.{after_create, after_destroy, after_destroy_of, after_forget, after_requeue, after_reserve, after_wait, after_wake, empty_table, first_wait, has_waits, is_live, is_waited_in, is_waiting, monitor_of, newborn, next_notified, wait_of, waits_on};
+ghost use Rattle.conditions.specs.ConditionTable.{after_create, after_destroy, after_destroy_of, after_forget, after_requeue, after_reserve, after_wait, after_wake, empty_table, first_wait, has_waits, is_live, is_waited_in, is_waiting, machine_row, monitor_of, newborn, next_notified, wait_of, waits_on};
 
 use crate::WaitRec;
-use crate::rows::{list, row_of, take_out, take_out_of};
-use crate::waits::{is_waited, rec_of};
+use crate::rows::{copied, list, row_of, take_out, take_out_of};
+use crate::waits::{is_waited, machine_rows, rec_of};
 use lists::{Waiting, WaitingList};
-use lwp_types::{Cid, CondRow, IdList, Mid, NoMemory, Tid};
+use lwp_types::{Cid, CondRow, IdList, Mid, NoMemory, Sequence, Tid, WaitRow};
 use std::alloc::Global;
 use std::marker::Model;
 
@@ -207,5 +207,27 @@ impl Conds {
         ensures { IfOk result (λ ids. ids ≡ condition_numbers self.now.conditions) }
     {
         list(self.alloc, &self.rows)
+    }
+
+    /// A copy of the live conditions with their monitors, in birth order.
+    pub fn conditions(&self) -> Result<Sequence<CondRow>, NoMemory>
+        ensures { IfOk result (λ rows. rows ≡ self.now.conditions) }
+    {
+        copied(self.alloc, &self.rows)
+    }
+
+    /// A copy of all waits, in the order of their arrival.
+    pub fn waits(&self) -> Result<Sequence<WaitRow>, NoMemory>
+        ensures { IfOk result (λ rows. rows ≡ map machine_row self.now.waits) }
+    {
+        let line = self.waits.rows()?;
+        machine_rows(self.alloc, line.as_slice())
+    }
+
+    /// How many conditions were ever born.
+    pub fn births(&self) -> u64
+        ensures { result ≡ self.now.births }
+    {
+        self.births
     }
 }

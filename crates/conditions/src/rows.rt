@@ -4,7 +4,7 @@ ghost use Rattle.conditions.specs.Kept.{AreRising, IsAt};
 ghost use Rattle.lwp_types.specs.Monitors.{without_conditions_of};
 ghost use Rattle.lwp_types.specs.Conditions.{condition_numbers, condition_of, is_condition, without_condition};
 
-use lwp_types::{Cid, CondRow, IdList, Mid, NoMemory};
+use lwp_types::{Cid, CondRow, IdList, Mid, NoMemory, Sequence};
 use std::alloc::Global;
 
 // Where the condition stands. Numbers are given in birth order, so they rise.
@@ -69,4 +69,15 @@ pub fn list(alloc: Global, rows: &[CondRow]) -> Result<IdList, NoMemory>
         ids.push(row.number.number)?;
     }
     Ok(ids)
+}
+
+// The same rows once more.
+pub fn copied(alloc: Global, rows: &[CondRow]) -> Result<Sequence<CondRow>, NoMemory>
+    ensures { IfOk result (λ copies. copies ≡ rows.now) }
+{
+    let mut copies = Sequence::new(alloc);
+    for row in rows {
+        copies.push(*row)?;
+    }
+    Ok(copies)
 }
