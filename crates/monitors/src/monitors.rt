@@ -3,12 +3,13 @@ ghost use Rattle.std.specs.Prelude.{◌≡◌, ◌<◌, ◌≤◌, false, length
 ghost use Rattle.lwp_types.specs.First.{FindsBest};
 ghost use Rattle.lwp_types.specs.Monitors.{depth_in, is_owned_by_other, is_owner};
 ghost use Rattle.lwp_types.specs.MonitorRelease.{last_lock, lock_of, locks_on};
-ghost use Rattle.monitors.specs.MonitorTable.{after_create, after_destroy, after_enter, after_exit, after_forget, after_give_up, after_grant, after_release, after_release_last, after_request, after_requeue, after_reserve, empty_table, has_request, is_free, is_live, is_unwanted, may_enter, newborn, next_owner, next_request, owner_after, owner_of, released_last, requests_of};
+ghost use Rattle.monitors.specs.MonitorTable.{after_create, after_destroy, after_enter, after_exit, after_forget, after_give_up, after_grant, after_release, after_release_last, after_request, after_requeue, after_reserve, empty_table, has_request, is_free, is_live, is_unwanted, machine_row, may_enter, newborn, next_owner, next_request, owner_after, owner_of, released_last, requests_of};
 
 use crate::live::{has, list, take_out};
 use crate::locks::Locks;
-use lists::{Waiting, WaitingList};
-use lwp_types::{IdList, Lock, Mid, NoMemory, Tid};
+use crate::requests::machine_rows;
+use lists::{Waiting, WaitingList, living};
+use lwp_types::{IdList, Lock, Mid, NoMemory, Request, Sequence, Tid};
 use std::alloc::Global;
 use std::marker::Model;
 
@@ -284,5 +285,27 @@ impl Monitors {
         ensures { IfOk result (λ ids. ids ≡ self.now.monitors) }
     {
         list(self.alloc, &self.live)
+    }
+
+    /// A copy of the locks of the held monitors, in the order in which they were acquired.
+    pub fn locks(&self) -> Result<Sequence<Lock>, NoMemory>
+        ensures { IfOk result (λ locks. locks ≡ self.now.locks) }
+    {
+        living(self.alloc, &self.locks.slots)
+    }
+
+    /// A copy of all requests, in the order of their arrival.
+    pub fn requests(&self) -> Result<Sequence<Request>, NoMemory>
+        ensures { IfOk result (λ rows. rows ≡ map machine_row self.now.requests) }
+    {
+        let line = self.requests.rows()?;
+        machine_rows(self.alloc, line.as_slice())
+    }
+
+    /// How many monitors were ever born.
+    pub fn births(&self) -> u64
+        ensures { result ≡ self.now.births }
+    {
+        self.births
     }
 }
