@@ -9,7 +9,7 @@ ghost use Rattle.lists.specs.Living.{living};
 
 use crate::directory::Directory;
 use crate::slots;
-use lwp_types::{IdList, Letter, NoMemory, Tid};
+use lwp_types::{IdList, Letter, NoMemory, Sequence, Tid};
 use std::alloc::Global;
 
 // Where the letter lies that the thread receives next.
@@ -153,4 +153,20 @@ pub fn senders_to(
         next = directory.held.behind(list, key);
     }
     Ok(ids)
+}
+
+// The same letters once more.
+pub fn copied<'s>(
+    alloc: Global,
+    slots: &[Option<Letter<'s>>],
+) -> Result<Sequence<Letter<'s>>, NoMemory>
+    ensures { IfOk result (λ letters. letters ≡ living slots.now) }
+{
+    let mut letters = Sequence::new(alloc);
+    for slot in slots {
+        if let Some(letter) = slot {
+            letters.push(letter.again())?;
+        }
+    }
+    Ok(letters)
 }

@@ -6,9 +6,9 @@ ghost use Rattle.lwp_types.specs.Messages.{as_received, is_open, is_to, next_let
 ghost use Rattle.rendezvous.specs.MessageTable.{IsOnePerSender, after_forget, after_pop, after_post, after_reserve, after_take, first_to, has_letter_of, no_messages, refusal};
 
 use crate::directory::Directory;
-use crate::letters::{next_unread, post, receive, remove, senders_to, widen};
+use crate::letters::{copied, next_unread, post, receive, remove, senders_to, widen};
 use crate::slots::{check, sender_at};
-use lwp_types::{IdList, Letter, LwpErr, NoMemory, Tid};
+use lwp_types::{IdList, Letter, LwpErr, NoMemory, Sequence, Tid};
 use std::alloc::Global;
 use std::marker::Model;
 
@@ -147,5 +147,12 @@ impl<'s> Mail<'s> {
         ensures one_each { IsOnePerSender self.now.letters }
     {
         senders_to(*self.slots.allocator(), &self.slots, &self.directory, to)
+    }
+
+    /// A copy of all letters, in the order of their sending.
+    pub fn letters(&self) -> Result<Sequence<Letter<'s>>, NoMemory>
+        ensures { IfOk result (λ letters. letters ≡ self.now.letters) }
+    {
+        copied(*self.slots.allocator(), &self.slots)
     }
 }
