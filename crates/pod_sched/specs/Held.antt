@@ -6,7 +6,7 @@ use Rattle.pod_sched.specs.Schedule.{IsOrdered, Schedule, is_of}
 use Rattle.pod_sched.specs.Slots.{AreSlots, IsReady, row_at}
 use Rattle.pod_sched.specs.declared.rows.Known.{Known}
 use Rattle.std.specs.List.{AllByRecursion}
-use Rattle.std.specs.Prelude.{List, Option, [], if◌then◌else◌, length, map, ℕ, ◌+◌, ◌≡◌, ◌≤◌}
+use Rattle.std.specs.Prelude.{List, Option, [], if◌then◌else◌, length, map, ℕ, ◌+◌, ◌<◌, ◌≡◌, ◌≤◌}
 
 -- the id of the thread at a slot
 abbrev pub tid_at : List Known → ℕ → ℕ
@@ -22,6 +22,12 @@ schedule_of slots order rows maxpri places = record {
   maxpri = maxpri;
   places = places;
 }
+
+-- the number is a slot that has a row, and a key of the order
+pub record HasRow (rows : List Known) (order : Order) (s : ℕ) : Type 0 where
+  pub is_slot : 256 ≤ s
+  pub in_rows : s < 256 + length rows
+  pub in_keys : s < order.levels + length order.prios
 
 -- there are priorities from 1 to the greatest, and it is one of them
 pub record IsPriority (maxpri prio : ℕ) : Type 0 where

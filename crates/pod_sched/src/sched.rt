@@ -1,13 +1,14 @@
 // The scheduler.
 ghost use Rattle.std.specs.Prelude.{◌≡◌, ◌+◌, ◌<◌, ◌≤◌, Some, false, length, option_map, IsTrue, IsOk, IfOk, OnOk, OnErr};
+ghost use Rattle.std.specs.List.{find};
 ghost use Rattle.lwp_types.specs.First.{FindsBest};
-ghost use Rattle.pod_sched.specs.Schedule.{IsOrdered, after_admit, after_block, after_leave, after_pop, after_resched, after_reserve, after_resume, after_set_priority, after_set_timer, after_suspend, after_tick, after_unblock, after_yield, choice, empty_schedule, first_due, first_of, has_timer, is_blocked_in, is_eligible_in, knows, prio_in, priority_in, with_maxpri};
+ghost use Rattle.pod_sched.specs.Schedule.{IsOrdered, after_admit, after_block, after_leave, after_pop, after_resched, after_reserve, after_resume, after_set_priority, after_set_timer, after_suspend, after_tick, after_unblock, after_yield, choice, empty_schedule, first_due, first_of, has_timer, is_blocked_in, is_eligible_in, is_of, knows, prio_in, priority_in, with_maxpri};
 
-use crate::Bucket;
 use crate::buckets::Steps;
 use crate::timers::Timers;
 use crate::turns::Turns;
-use lwp_types::{NoMemory, Tid};
+use crate::{Bucket, Known};
+use lwp_types::{IdList, NoMemory, Sequence, Tid, TimerRow};
 use std::alloc::Global;
 use std::marker::Model;
 use std::sync::ledger::Ledger;
@@ -261,5 +262,26 @@ impl Sched {
         ensures { result ≡ is_blocked_in self.now tid }
     {
         self.turns.blocked(tid)
+    }
+
+    /// Those that may run, in the order in which they would: a copy.
+    pub fn order(&self) -> Result<IdList, NoMemory>
+        ensures { IfOk result (λ ids. ids ≡ self.now.order) }
+    {
+        self.turns.order()
+    }
+
+    /// A copy of the timers, in the order in which they were set.
+    pub fn timers(&self) -> Result<Sequence<TimerRow>, NoMemory>
+        ensures { IfOk result (λ rows. rows ≡ self.now.timers) }
+    {
+        self.timers.rows()
+    }
+
+    /// What is known of the thread, found at one look; None where it is unknown.
+    pub fn known_of(&self, tid: Tid) -> Option<Known>
+        ensures { result ≡ find (is_of tid) self.now.threads }
+    {
+        self.turns.row_of(tid)
     }
 }

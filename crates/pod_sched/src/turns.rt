@@ -6,9 +6,9 @@ ghost use Rattle.pod_sched.specs.Schedule.{IsOrdered, after_admit, after_block, 
 use crate::Known;
 use crate::bucket::{self, Bucket};
 use crate::buckets::{Buckets, Looks, Steps, first_of_last};
-use crate::rows::{LEVELS, extend_rows, free_slots, may_run, put_row, row_at};
+use crate::rows::{LEVELS, extend_rows, free_slots, may_run, put_row, row_at, tids};
 use lists::{Chains, Index};
-use lwp_types::{NoMemory, Tid};
+use lwp_types::{IdList, NoMemory, Tid};
 use std::alloc::Global;
 use std::marker::{Brand, Model};
 use std::sync::ledger::{Blank, Ledger};
@@ -337,8 +337,15 @@ impl Turns {
         self.row_of(tid).is_some_and(|row| row.blocked)
     }
 
-    // The thread's row, if it is known.
-    fn row_of(&self, tid: Tid) -> Option<Known>
+    /// Those that may run, in the order in which they would.
+    pub fn order(&self) -> Result<IdList, NoMemory>
+        ensures { IfOk result (λ ids. ids ≡ self.now.order) }
+    {
+        tids(*self.rows.allocator(), &self.order, &self.rows)
+    }
+
+    /// What is known of the thread, if it is known.
+    pub fn row_of(&self, tid: Tid) -> Option<Known>
         ensures { result ≡ thread_of self.now tid }
     {
         let slot = self.index.place_of(tid)?;

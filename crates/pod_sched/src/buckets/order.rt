@@ -1,5 +1,5 @@
 // The order.
-ghost use Rattle.std.specs.Prelude.{◌≡◌, ◌≢◌, ◌++◌, ◌+◌, ◌-◌, ◌<◌, ◌≤◌, length, replicate, slice_index_or, IsOk, IfOk, OnOk, OnErr};
+ghost use Rattle.std.specs.Prelude.{List, ℕ, ◌∷◌, ◌≡◌, ◌≢◌, ◌++◌, ◌+◌, ◌-◌, ◌<◌, ◌≤◌, length, replicate, slice_get, slice_index_or, IsOk, IfOk, OnOk, OnErr};
 ghost use Rattle.pod_sched.specs.Buckets.Order.{after_put_before, after_put_last, after_reassign, after_take, empty_order, first_of, prio_of, with_keys};
 
 use crate::buckets::looks::{Looks, Steps};
@@ -186,6 +186,22 @@ impl Buckets {
         ensures { result ≡ first_of self.now prio }
     {
         self.ready.first(prio)
+    }
+
+    /// The first key of all, whatever its priority.
+    pub fn first_key(&self) -> Option<usize>
+        ensures { result ≡ slice_get self.now.order 0 }
+    {
+        self.order.first(0)
+    }
+
+    /// The key after this one in the order, whatever their priorities.
+    pub fn key_after(&self, key: usize) -> Option<usize>
+        requires in_limit { key < self.now.levels + length self.now.prios }
+        ensures { (before after : List ℕ) → self.now.order ≡ before ++ key ∷ after →
+            result ≡ slice_get after 0 }
+    {
+        self.order.behind(0, key)
     }
 }
 

@@ -1,9 +1,9 @@
 // The clock, and the threads that wait for it.
-ghost use Rattle.std.specs.Prelude.{◌≡◌, ◌<◌, ◌≤◌, false, length, option_map, IsOk, OnOk, OnErr};
+ghost use Rattle.std.specs.Prelude.{◌≡◌, ◌<◌, ◌≤◌, false, length, option_map, IfOk, IsOk, OnOk, OnErr};
 ghost use Rattle.pod_sched.specs.Timers.Clock.{after_drop, after_pop, after_reserve, after_set, after_tick, first_clock, first_due, has_timer};
 
 use crate::timers::shelf::Shelf;
-use lwp_types::{NoMemory, Tid};
+use lwp_types::{NoMemory, Sequence, Tid, TimerRow};
 use std::alloc::Global;
 use std::marker::Model;
 
@@ -118,5 +118,12 @@ impl Timers {
         let leaf = self.shelf.first_due(self.now)?;
         let row = self.shelf.take(leaf)?;
         Some(row.tid)
+    }
+
+    /// A copy of the timers, in the order in which they were set.
+    pub fn rows(&self) -> Result<Sequence<TimerRow>, NoMemory>
+        ensures { IfOk result (λ rows. rows ≡ self.entry.now.timers) }
+    {
+        self.shelf.rows()
     }
 }

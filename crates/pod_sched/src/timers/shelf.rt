@@ -1,5 +1,5 @@
 // The timers as leaves, each behind those that were set before it.
-ghost use Rattle.std.specs.Prelude.{[], ◌∷◌, ◌++◌, Some, ◌≡◌, ◌+◌, ◌<◌, ◌≤◌, ◌^◌, OnOk, OnErr, None, is_some, false, length, replicate, slice_set, vec_capacity};
+ghost use Rattle.std.specs.Prelude.{[], ◌∷◌, ◌++◌, Some, ◌≡◌, ◌+◌, ◌<◌, ◌≤◌, ◌^◌, IfOk, OnOk, OnErr, None, is_some, false, length, replicate, slice_set, vec_capacity};
 ghost use Rattle.std.specs.List.{filter, list_any};
 ghost use Rattle.lwp_types.specs.Time.{is_due};
 ghost use Rattle.lwp_types.specs.Unblock.{is_timer_of};
@@ -9,8 +9,8 @@ ghost use Rattle.pod_sched.specs.Timers.Leaves.{IsOnce, after_pack, after_take, 
 ghost use Rattle.lists.specs.Living.{living};
 
 use crate::timers::minima::{Minima, NEVER};
-use lists::Index;
-use lwp_types::{NoMemory, Tid, TimerRow};
+use lists::{self, Index};
+use lwp_types::{NoMemory, Sequence, Tid, TimerRow};
 use std::alloc::Global;
 use std::marker::Model;
 
@@ -133,6 +133,13 @@ impl Shelf {
         ensures { result ≡ first_of (is_timer_of tid) self.now.leaves }
     {
         self.index.place_of(tid)
+    }
+
+    /// A copy of the timers, in the order in which they were set.
+    pub fn rows(&self) -> Result<Sequence<TimerRow>, NoMemory>
+        ensures { IfOk result (λ rows. rows ≡ living self.now.leaves) }
+    {
+        lists::living(*self.leaves.allocator(), &self.leaves)
     }
 
     /// The leaf is empty from now on; the answer is what it had.
