@@ -28,3 +28,4 @@ pub mod Exiting
 pub mod Leaving
 pub mod Example
 pub mod Orders
+pub mod CopiedRows

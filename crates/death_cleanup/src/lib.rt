@@ -14,14 +14,18 @@
 //! | `end_agent`, `release` | `end_agent`, `release` |
 //! | `wake_done`, `wake_lettered`, `wake_replied` | `unblock`, with the answer of that kind |
 //!
+//! `copy_of` gives the state as a plain value, and changes nothing.
+//!
 //! Whoever waits for another by name is noted in `Named`, in the order of those that are waited for, and a death goes over
 //! those alone that wait for it. Room for that is made with each thread, and there is always enough.
 //!
-//! But for `Named::new` and `Named::reserve` nothing here takes memory or is refused by want of it. A dying thread has left the scheduler: `Parts` keep who that is,
-//! and the priority that it had. It stands on the crates of the single parts, and on `pod_laws`.
+//! But for `copy_of`, `Named::new` and `Named::reserve` nothing here takes memory, and so nothing else runs out of it. A dying thread
+//! has left the scheduler: `Parts` keep who that is, and the priority that it had. It stands on the crates of the single parts, on
+//! `pod_laws`, and on `snapshots`.
 #![tactic(auto)]
 
 mod condition_wakes;
+mod copies;
 mod death;
 mod exits;
 mod frames;
@@ -32,6 +36,7 @@ mod rows;
 mod waiters;
 
 pub use condition_wakes::{broadcast, cond_send, is_last, notify};
+pub use copies::copy_of;
 pub use death::die;
 pub use exits::{exit_call, reply, resume, set_exit};
 pub use frames::leave_frames;

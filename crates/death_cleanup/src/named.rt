@@ -227,6 +227,11 @@ impl Named {
         })
     }
 
+    /// Where the memory for the waits comes from.
+    pub fn allocator(&self) -> Global {
+        *self.waits.allocator()
+    }
+
     /// Makes room for the waits of so many threads, and for as many that go on no longer.
     pub fn reserve(&mut self, threads: usize) -> Result<(), NoMemory>
         ensures ok { OnOk result (self.new ≡ after_reserve self.old threads) }
