@@ -1,5 +1,5 @@
 // A machine of threads that knows no events of its own.
-ghost use Rattle.std.specs.Prelude.{◌≡◌, ◌≤◌, ◌++◌, [], ◌<◌, length, None, IfNone, IfSome, OnOk, OnErr, IsErr, IsSome, IsTrue};
+ghost use Rattle.std.specs.Prelude.{◌≡◌, ◌≤◌, ◌++◌, [], ◌<◌, length, None, IfNone, IfOk, IfSome, OnOk, OnErr, IsErr, IsSome, IsTrue};
 ghost use Rattle.std.specs.Slice.Scan.{HoldsNowhere, IsFirstPlace};
 ghost use Rattle.lwp_types.specs.Agents.{deliver, is_event_armed};
 ghost use Rattle.lwp_types.specs.Choice.{is_eligible_in};
@@ -11,8 +11,10 @@ ghost use Rattle.pod_events.specs.Events.{has_agent};
 ghost use Rattle.pod_events.specs.Machine.{asks_memory, call_effects, current_of, ending_of};
 ghost use Rattle.pod_events.specs.Rites.{flags_of};
 ghost use Rattle.pod_events.specs.Traps.{trap_of};
+ghost use Rattle.snapshots.specs.Copies.{state_in};
 
 use lwp_types::{Call, Effects, Flags, NoMemory, PodEnd, Text, Tid};
+use snapshots::StateCopy;
 
 /// The threads of a pod, seen as the machine's state, which is lawful at every moment.
 pub trait Machine: Drop {
@@ -81,4 +83,11 @@ pub trait Driven<'s>: Machine {
         ensures effects { effects.new ≡ (deliver (Self.state self.old) event text.entry).effects }
         ensures most { 1 ≤ event → length effects.new ≤ most_of_a_delivery }
         ensures lawful { Lawful (Self.state self.new) None };
+}
+
+/// A machine whose state can be had as a plain value.
+pub trait Copied<'s>: Machine {
+    /// The state. NoMemory where there is none for it.
+    fn copy(&self) -> Result<StateCopy<'s>, NoMemory>
+        ensures { IfOk result (λ copy. state_in copy ≡ Self.state self.now) };
 }

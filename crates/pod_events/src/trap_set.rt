@@ -47,6 +47,13 @@ impl TrapSet {
         event < 32 && self.flags[event as usize]
     }
 
+    /// Of each event, whether it is trapped.
+    pub(crate) fn flags(&self) -> [bool; EVENTS]
+        ensures { result ≡ self.now }
+    {
+        self.flags
+    }
+
     /// Whether no event is trapped.
     pub(crate) fn is_empty(&self) -> bool
         ensures { IsTrue result → HoldsNowhere (is_trapped self.now) 0 32 }
