@@ -1,7 +1,8 @@
 // A pod as a machine, around which events of the pod's own may lie.
 use crate::Pod;
 use lwp_types::{Call, Effects, Flags, NoMemory, PodEnd, Text, Tid};
-use pod_events::{Driven, Machine};
+use pod_events::{Copied, Driven, Machine};
+use snapshots::StateCopy;
 
 impl<'s> Machine for Pod<'s> {
     ghost use Rattle.lwp_types.specs.State.{State};
@@ -50,5 +51,11 @@ impl<'s> Driven<'s> for Pod<'s> {
     #[inline(always)]
     fn deliver(&mut self, event: u8, text: Text<'s>, effects: &mut Effects<'s>) {
         Pod::deliver(self, event, text, effects)
+    }
+}
+
+impl<'s> Copied<'s> for Pod<'s> {
+    fn copy(&self) -> Result<StateCopy<'s>, NoMemory> {
+        Pod::copy(self)
     }
 }

@@ -16,6 +16,7 @@ ghost use Rattle.lwp_types.specs.Step.{case_of, step, end_effects, ends};
 ghost use Rattle.pod_events.specs.Events.{has_agent};
 ghost use Rattle.pod_events.specs.Machine.{asks_memory, call_effects, current_of, ending_of};
 ghost use Rattle.pod_events.specs.Rites.{flags_of};
+ghost use Rattle.snapshots.specs.Copies.{state_in};
 ghost use Rattle.lwp_calls.specs.Comes.{IsAsBefore, Told};
 ghost use Rattle.lwp_calls.specs.Opening.{no_thread};
 ghost use Rattle.lwp_calls.specs.Pod.{ForgetsTheDead, RunsExitsOnce, is_refusal};
@@ -29,7 +30,7 @@ use crate::{
 };
 use agents::Agents;
 use conditions::Conds;
-use death_cleanup::{Kind, Named, Parts, ThreadRec, is_id};
+use death_cleanup::{Kind, Named, Parts, ThreadRec, copy_of, is_id};
 use exc_stack::ExcStack;
 use lwp_types::{
     Block, Call, Effect, Effects, Family, Flags, NoMemory, PodEnd, PodParams, Text, Tid,
@@ -37,6 +38,7 @@ use lwp_types::{
 use monitors::Monitors;
 use pod_sched::Sched;
 use rendezvous::Mail;
+use snapshots::StateCopy;
 use stale_ids::Registry;
 use std::alloc::Global;
 use std::marker::Model;
@@ -249,6 +251,13 @@ impl<'s> Pod<'s> {
         ensures most { result ≤ 1024 }
     {
         thread_count(&self.parts)
+    }
+
+    /// The state as a plain value. NoMemory where there is none for it.
+    pub fn copy(&self) -> Result<StateCopy<'s>, NoMemory>
+        ensures { IfOk result (λ copy. state_in copy ≡ self.now) }
+    {
+        copy_of(&self.parts)
     }
 
     /// The first event from `from` on that can be delivered, if there is one below 32.
