@@ -1,6 +1,7 @@
 ghost use Rattle.std.specs.Prelude.{◌≡◌};
 ghost use Rattle.agents.specs.Roster.{no_agents};
 
+use crate::copies::is_copy;
 use crate::id_lists::holds;
 use agents::Agents;
 use lwp_types::Tid;
@@ -33,6 +34,8 @@ fn are_armed(agents: &Agents, want: [bool; 3]) -> bool {
     [agents.armed(9), agents.armed(32), agents.armed(6)] == want
 }
 
+const ROWS: [[u64; 4]; 4] = [[2, 9, 0, 0], [4, 32, 1, 1], [7, 6, 0, 0], [9, 9, 1, 1]];
+
 // An agent holds a message until the reply, and its event can't be delivered meanwhile; agents end one by one, or with their
 // owner.
 fn does_all(agents: &mut Agents) -> bool
@@ -47,7 +50,9 @@ fn does_all(agents: &mut Agents) -> bool
     agents.create(D, 9, OTHER);
     agents.hold(B);
     agents.hold(D);
-    let held = are_armed(agents, [false, false, true]) && agents.next_armed(7).is_none();
+    let held = are_armed(agents, [false, false, true])
+        && agents.next_armed(7).is_none()
+        && is_copy(agents.rows(), &ROWS);
     agents.release(B);
     agents.release(D);
     let known = are_known(agents) && are_armed(agents, [true; 3]);

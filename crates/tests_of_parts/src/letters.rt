@@ -1,6 +1,7 @@
 ghost use Rattle.std.specs.Prelude.{◌≡◌, false};
 ghost use Rattle.rendezvous.specs.MessageTable.{no_messages};
 
+use crate::copies::is_copy;
 use crate::id_lists::holds;
 use lwp_types::{Letter, LwpErr, Text, Tid};
 use rendezvous::Mail;
@@ -35,10 +36,13 @@ fn takes(messages: &mut Mail, from: Option<Tid>, wanted: Tid) -> bool {
     letter.from == wanted && letter.received && letter.text.equals(b"hello")
 }
 
+const LETTERS: [[u64; 4]; 3] = [[2, 3, 4, 1], [0, 3, 4, 1], [1, 3, 4, 0]];
+
 fn is_received(messages: &mut Mail) -> bool {
     holds(messages.senders(D), &[2, 0, 1])
         && takes(messages, Some(A), A)
         && takes(messages, None, C)
+        && is_copy(messages.letters(), &LETTERS)
         && messages.take_letter(D, Some(D)).is_none()
 }
 

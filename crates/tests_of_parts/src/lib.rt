@@ -7,6 +7,8 @@
 #[cfg(test)]
 mod births;
 #[cfg(test)]
+mod copies;
+#[cfg(test)]
 mod event_agents;
 #[cfg(test)]
 mod id_lists;

@@ -1,6 +1,7 @@
 ghost use Rattle.std.specs.Prelude.{◌≡◌};
 ghost use Rattle.monitors.specs.MonitorTable.{empty_table};
 
+use crate::copies::is_copy;
 use crate::id_lists::holds;
 use lwp_types::{Mid, Tid};
 use monitors::Monitors;
@@ -16,6 +17,12 @@ const FIRST: Mid = Mid { number: 0 };
 
 const SECOND: Mid = Mid { number: 1 };
 
+fn is_copied(mons: &Monitors) -> bool {
+    is_copy(mons.locks(), &[[0, 1, 1, 0]])
+        && is_copy(mons.requests(), &[[0, 2, 1, 0], [0, 3, 3, 0]])
+        && mons.births() == 1
+}
+
 // The greatest priority enters next, and at the depth that it asks for.
 fn enters(mons: &mut Monitors) -> bool
     requires { mons.old ≡ empty_table 10 }
@@ -30,7 +37,7 @@ fn enters(mons: &mut Monitors) -> bool
     mons.request(mon, B, 1, 1);
     mons.request(mon, C, 1, 3);
     mons.requeue(C, 2);
-    let waiting = holds(mons.waiters(mon), &[2, 3]);
+    let waiting = holds(mons.waiters(mon), &[2, 3]) && is_copied(mons);
     let next = mons.exit(mon, A);
     let depth = mons.depth(mon);
     let owner = mons.owner(mon);

@@ -1,6 +1,8 @@
 ghost use Rattle.std.specs.Prelude.{◌≡◌, ◌+◌, ◌<◌, ◌≤◌};
-ghost use Rattle.pod_sched.specs.Schedule.{choice};
+ghost use Rattle.pod_sched.specs.Schedule.{choice, empty_schedule};
 
+use crate::copies::is_copy;
+use crate::id_lists::holds;
 use lwp_types::Tid;
 use pod_sched::{Sched, Steps};
 use std::alloc::Global;
@@ -144,6 +146,37 @@ fn is_done(alloc: Global) -> bool {
 #[test]
 fn the_first_of_the_greatest_priority_runs(rt: HostRuntime) {
     assert!(rt; is_done(rt.alloc()));
+}
+
+// Of three threads one sleeps, and the others are in the order.
+fn is_copied(sched: &mut Sched) -> bool
+    requires { sched.old ≡ empty_schedule 5 }
+{
+    let Ok(()) = sched.reserve(3) else {
+        return false;
+    };
+    sched.admit(B, 3, false);
+    sched.admit(A, 4, false);
+    sched.admit(FAR, 5, false);
+    sched.block(FAR);
+    sched.set_timer(FAR, 7);
+    let row = sched.known_of(FAR);
+    holds(sched.order(), &[1, 0])
+        && is_copy(sched.timers(), &[[4096, 7, 0, 0]])
+        && row.is_some_and(|row| row.blocked && row.prio == 5)
+        && sched.known_of(Tid { number: 9 }).is_none()
+}
+
+fn is_copied_anew(alloc: Global) -> bool {
+    let Ok(mut sched) = Sched::new(alloc, 5) else {
+        return false;
+    };
+    is_copied(&mut sched)
+}
+
+#[test]
+fn a_copy_has_the_order_and_the_timers(rt: HostRuntime) {
+    assert!(rt; is_copied_anew(rt.alloc()));
 }
 
 // The choice, with a count of its looks: of one priority it takes one, of two at most two, and of any at most five.

@@ -1,3 +1,4 @@
+use crate::copies::is_copy;
 use exc_stack::ExcStack;
 use lwp_types::{ExitCall, ExitMark, Func, LwpErr, Mark, Pattern};
 use std::alloc::Global;
@@ -81,6 +82,8 @@ fn settles(stack: &mut ExcStack, exception: u32) -> bool {
     true
 }
 
+const ROWS: [[u64; 4]; 5] = [[0; 4], [2, 0, 0, 0], [0; 4], [1, 5, 0, 0], [2, 4, 0, 0]];
+
 fn unwinds(stack: &mut ExcStack) -> bool {
     if stack.frames() == 0 {
         return false;
@@ -101,6 +104,7 @@ fn does_all(stack: &mut ExcStack) -> bool {
         && settles(stack, 7)
         && found(stack, 7) == (2, 0, 5)
         && (stack.frames(), stack.marks()) == (2, 5)
+        && is_copy(stack.copy(), &ROWS)
         && unwinds(stack)
 }
 

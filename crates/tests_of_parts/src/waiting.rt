@@ -1,6 +1,7 @@
 ghost use Rattle.std.specs.Prelude.{◌≡◌};
 ghost use Rattle.lists.specs.WaitingList.Line.{empty_line};
 
+use crate::copies::is_copy;
 use crate::id_lists::holds;
 use lists::{Waiting, WaitingList};
 use lwp_types::Tid;
@@ -36,11 +37,14 @@ fn number(next: Option<Waiting>) -> u64 {
     }
 }
 
+const ROWS: [[u64; 4]; 4] = [[7, 1, 3, 1], [8, 2, 9, 1], [7, 3, 5, 1], [7, 4, 5, 1]];
+
 fn knows(line: &WaitingList) -> bool {
     holds(line.tids(7), &[1, 3, 4])
         && line.has(8)
         && line.found(7, D).is_some()
         && line.found(8, D).is_none()
+        && is_copy(line.rows(), &ROWS)
 }
 
 // The first of the greatest priority is best.

@@ -1,6 +1,7 @@
 ghost use Rattle.std.specs.Prelude.{◌≡◌};
 ghost use Rattle.conditions.specs.ConditionTable.{empty_table};
 
+use crate::copies::is_copy;
 use crate::id_lists::holds;
 use conditions::{Conds, WaitRec};
 use lwp_types::{Cid, Mid, Tid};
@@ -30,6 +31,14 @@ fn wait_on(cond: Cid, tid: Tid) -> WaitRec
 
 fn is_of(wait: Option<WaitRec>, tid: Tid) -> bool {
     matches!(wait, Some(wait) if wait.tid == tid)
+}
+
+const WAITS: [[u64; 4]; 3] = [[0, 1, 2, 0], [0, 2, 2, 0], [0, 3, 2, 0]];
+
+fn is_copied(conds: &Conds) -> bool {
+    is_copy(conds.conditions(), &[[0, 7, 0, 0], [1, 7, 0, 0]])
+        && is_copy(conds.waits(), &WAITS)
+        && conds.births() == 2
 }
 
 fn knows(conds: &Conds) -> bool {
@@ -78,7 +87,7 @@ fn does_all(conds: &mut Conds) -> bool
     conds.wait(wait_on(FIRST, B));
     conds.wait(wait_on(FIRST, C));
     conds.requeue(B, 3);
-    second == SECOND && knows(conds) && wakes(conds) && ends(conds)
+    second == SECOND && knows(conds) && is_copied(conds) && wakes(conds) && ends(conds)
 }
 
 #[test]
