@@ -4,8 +4,9 @@
 //! The contract of each call is one equation between lists: the known threads, and the order of those that may run
 //! (`specs/Schedule.antt`). It says for a scheduler by itself what the machine of `lwp_types` does to a pod's threads and
 //! order; what both speak of, the choice among them, is cited from there, and `laws` says so of the machine's state. Only
-//! `new` and `reserve` take memory, and no call goes over the threads, the order or the timers: the module `buckets` keeps
-//! the order, with a list of each priority, and `timers` the clock. The crate stands on `lists` and on `lwp_types`.
+//! `new`, `reserve` and what copies the order or the timers take memory, and no other call goes over the threads, the order or
+//! the timers: the module `buckets` keeps the order, with a list of each priority, and `timers` the clock. The crate stands
+//! on `lists` and on `lwp_types`.
 #![tactic(auto)]
 
 mod bucket;
