@@ -1,6 +1,7 @@
 pub mod Results
 pub mod Rising
 pub mod RowLemmas
+pub mod RowCalls
 pub mod TakeLemmas
 pub mod Appends
 pub mod Plays

@@ -50,7 +50,7 @@ unfolding call_move
 moved next bodies live t row call after effects mid rows names h there polls a e r =
     let found : row_of t live.rows ≡ Some row = row_of-place t live.rows ∙ there in
     let reply = next row.body (names_for_poll t live.names) row.answer in
-    let left : mid ≡ after_poll t reply.1 live.rows = polls.leaves ∙ sym (with_row-place t _ live.rows row there) in
+    let left : mid ≡ after_poll t reply.1 reply.0 live.rows = polls.leaves ∙ sym (with_row-place t _ live.rows row there) in
     move_some next bodies live t row h found ∙ rw (r, e, a, left, polls.names, polls.gives) refl
 
 -- the same, by the place of the row, with its lines

@@ -38,7 +38,7 @@ with_row-written t change rows i seen row within here there h so_far =
     ap (λ r. set rows i (change r)) there ∙ with_row-at t change rows i row within named so_far
 
 -- nobody's row is opened where there is no such procedure
-pub row_opened_past : {B : Type 0} (rows : List (Row B)) (bodies : List B) (t number : ℕ) → length bodies ≤ number → rows ≡ rows ++ rows_of_new t (slice_get bodies number)
+pub row_opened_past : {B : Type 0} (rows : List (Row B)) (bodies : List B) (t number : ℕ) → length bodies ≤ number → rows ≡ rows ++ rows_of_new t number (slice_get bodies number)
 row_opened_past rows bodies t number past = rw slice_get_past (sym (append-nil rows))
 
 -- a thread's row is the one at its place

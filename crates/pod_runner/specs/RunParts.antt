@@ -9,11 +9,11 @@ use Rattle.std.specs.Prelude.{List, Option, ℕ, ◌≡◌}
 
 -- how the session stands that these are
 abbrev pub live_of : {B : Type 0} → RunParts B → Live B
-live_of parts = record { pod = parts.pod; rows = parts.rows; names = parts.env }
+live_of parts = record { pod = parts.pod; rows = parts.rows.rows; names = parts.env }
 
 -- the effects of the last step
 abbrev pub last_step_effects : {B : Type 0} → RunParts B → List Effect
-last_step_effects parts = with_call_by parts.caller parts.call parts.effects
+last_step_effects parts = with_call_by parts.caller parts.rows.call parts.effects
 
 -- a step was made, in which this line was taken, if any, and these are its lines; the procedures are named so
 pub record Moves {B : Type 0} (procs : List (List ℕ)) (line : Option Line) (move : Move B)

@@ -12,7 +12,7 @@ use Rattle.lwp_types.specs.declared.call.Effect.{Effect}
 use Rattle.lwp_types.specs.declared.call.PodParams.{PodParams}
 use Rattle.pod_runner.specs.declared.session.Row.{Row}
 use Rattle.pod_runner.specs.declared.session.Took.{Took}
-use Rattle.std.specs.Prelude.{List, None, Option, Some, [], if◌then◌else◌, slice_get, ℕ, ◌++◌, ◌==◌, ◌∷◌}
+use Rattle.std.specs.Prelude.{List, None, Option, Some, [], false, if◌then◌else◌, slice_get, true, ℕ, ◌++◌, ◌==◌, ◌∷◌}
 use Rattle.lwp_types.specs.declared.call.Answer.TheVariants as answer
 use Rattle.lwp_types.specs.declared.call.Call.TheVariants as call
 use Rattle.lwp_types.specs.declared.call.Effect.TheVariants as effect
@@ -27,8 +27,7 @@ pub record Setting (B : Type 0) : Type 0 where
   -- the names at the start
   pub names : Names
 
--- how a session stands: the pod with its own events, each live thread's body and what it was answered last, and the
--- names
+-- how a session stands: the pod with its own events, the row of each live thread, and the names
 pub record Live (B : Type 0) : Type 0 where
   pub pod : EventState
   pub rows : List (Row B)
@@ -70,14 +69,21 @@ without_row t (row ∷ rows) = if row.tid == t then rows else row ∷ without_ro
 abbrev pub after_answer : {B : Type 0} → ℕ → Answer → List (Row B) → List (Row B)
 after_answer t a rows = with_row t (λ row. record row { answer = a }) rows
 
--- a thread's body stands so; what it was answered last is its answer still
-abbrev pub after_poll : {B : Type 0} → ℕ → B → List (Row B) → List (Row B)
-after_poll t body rows = with_row t (λ row. record row { body = body }) rows
+-- a thread's body stands so, and gave this call; what it was answered last is its answer still
+abbrev pub after_poll : {B : Type 0} → ℕ → B → Call → List (Row B) → List (Row B)
+after_poll t body c rows = with_row t (λ row. record row { body = body; called = true; call = c }) rows
 
--- the row of a new thread, if there is such a procedure
-abbrev pub rows_of_new : {B : Type 0} → ℕ → Option B → List (Row B)
-rows_of_new t None = []
-rows_of_new t (Some body) = record { tid = t; body = body; answer = zero_answer } ∷ []
+-- the row of a new thread, which begins in this procedure as this body, if there is such a procedure
+abbrev pub rows_of_new : {B : Type 0} → ℕ → ℕ → Option B → List (Row B)
+rows_of_new t number None = []
+rows_of_new t number (Some body) = record {
+  tid = t;
+  proc = number;
+  body = body;
+  answer = zero_answer;
+  called = false;
+  call = call.Return;
+} ∷ []
 
 -- the procedure of a Create
 abbrev pub proc_of : Call → Option ℕ
@@ -91,7 +97,7 @@ thread_in _ = None
 
 -- the row of the thread that was created, if the call creates one of this procedure, and it was answered so
 abbrev pub rows_born : {B : Type 0} → List B → Option ℕ → Option ℕ → List (Row B)
-rows_born bodies (Some number) (Some t) = rows_of_new t (slice_get bodies number)
+rows_born bodies (Some number) (Some t) = rows_of_new t number (slice_get bodies number)
 rows_born bodies None t = []
 rows_born bodies (Some number) None = []
 
@@ -117,7 +123,7 @@ unfoldable pub call_move : {B : Type 0} → List B → Live B → ℕ → Polled
 call_move bodies live t reply = let out = event_step live.pod reply.0 in record {
   live = record {
     pod = out.after;
-    rows = after_settle bodies (proc_of reply.0) out.effects (after_poll t reply.1 live.rows);
+    rows = after_settle bodies (proc_of reply.0) out.effects (after_poll t reply.1 reply.0 live.rows);
     names = reply.2;
   };
   effects = out.effects;
@@ -152,7 +158,7 @@ abbrev pub opening_session : {B : Type 0} → Setting B → Session B
 opening_session setting = record {
   live = record {
     pod = quiet_events (opening setting.params);
-    rows = rows_of_new 0 (slice_get setting.bodies 0);
+    rows = rows_of_new 0 0 (slice_get setting.bodies 0);
     names = setting.names;
   };
   steps = [];

@@ -81,9 +81,7 @@ pub(crate) struct RunParts<'s, B> {
     pub(crate) rows: RowList<'s, B>,
     pub(crate) env: Env,
     pub(crate) effects: Effects<'s>,
-    // The call of the last step. The next one is set where it lies.
-    pub(crate) call: Call<'s>,
-    // Who made it, where the effects of the last step begin with it. They don't have it then.
+    // Who made the call of the last step, where the effects of that step begin with it. They don't have it then: the rows have it.
     pub(crate) caller: Option<Tid>,
 }
 
@@ -95,7 +93,6 @@ impl<'s, B: Drop> Drop for RunParts<'s, B> {
             rows: _,
             env: _,
             effects: _,
-            call: _,
             caller: _,
         } = self;
     }
@@ -121,7 +118,7 @@ impl<'s, B: Polled<'s>> RunParts<'s, B> {
             live_of parts
             ≡ record {
               pod = quiet_events (opening params);
-              rows = rows_of_new 0
+              rows = rows_of_new 0 0
                   (slice_get (P.bodies program.now) 0);
               names = env;
             }) }
@@ -136,7 +133,6 @@ impl<'s, B: Polled<'s>> RunParts<'s, B> {
             rows,
             env,
             effects,
-            call: Call::Return,
             caller: None,
         })
     }
@@ -162,7 +158,7 @@ impl<'s, B: Polled<'s>> RunParts<'s, B> {
     pub(crate) fn made(&self) -> Option<Made<'s>>
         ensures { result ≡ call_of_effects (last_step_effects self.now) }
     {
-        made_among(self.caller, &self.call, &self.effects)
+        made_among(self.caller, self.rows.call(), &self.effects)
     }
 
     /// Whether a line of the event can be taken.
@@ -239,24 +235,18 @@ impl<'s, B: Polled<'s>> RunParts<'s, B> {
         out: &mut StepLines,
     ) -> Result<(), NoMemory>
         requires current { current_of self.old.pod.state ≡ Some tid }
-        requires place { i ≡ place_of tid self.old.rows }
-        requires within { i < length self.old.rows }
+        requires place { i ≡ place_of tid self.old.rows.rows }
+        requires within { i < length self.old.rows.rows }
         ensures { OnOk result
             (Moves names.now None (move B.next (P.bodies program.now) (live_of self.old))
             (live_of self.new) (last_step_effects self.new) out.new) }
     {
         self.env.set_me(tid);
-        self.rows.poll_at(i, &mut self.env, &mut self.call)?;
-        let caller = carry_out(
-            tid,
-            &mut self.pod,
-            &self.call,
-            &mut self.effects,
-            names,
-            out,
-        )?;
+        self.rows.poll_at(i, &mut self.env)?;
+        let call = self.rows.call_at(i);
+        let caller = carry_out(tid, &mut self.pod, call, &mut self.effects, names, out)?;
         self.caller = caller;
-        let born = proc_of(&self.call);
+        let born = proc_of(call);
         settle(&mut self.rows, program, born, &self.effects)
     }
 }

@@ -1,9 +1,12 @@
 // The bodies of the live threads, each found by its thread's number.
-ghost use Rattle.std.specs.Prelude.{◌≡◌, ◌++◌, ◌<◌, [], length, nat_lt, slice_get, Some, OnOk, IfOk, IsTrue};
+ghost use Rattle.std.specs.Prelude.{◌≡◌, ◌++◌, ◌<◌, if◌then◌else◌, [], length, nat_lt, slice_get, slice_set, true, Some, OnOk, IfOk, IsTrue};
 ghost use Rattle.pod_runner.specs.Session.{after_answer, without_row, rows_of_new};
-ghost use Rattle.pod_runner.specs.Polls.{AreRising, ComesLast, Polls, place_of};
+ghost use Rattle.pod_runner.specs.Polls.{AreRising, ComesLast, IsLeft, Polls, call_at, place_of, polled_row};
 ghost use Rattle.lwp_types.specs.declared.call.Answer.TheVariants as answer;
+ghost use Rattle.lwp_types.specs.declared.call.Call.TheVariants as call;
 ghost use Rattle.pod_runner.specs.declared.session.Row.{Row};
+ghost use Rattle.lwp_types.specs.declared.call.Call.{Call};
+ghost use Rattle.std.specs.List.{remove};
 
 use crate::Row;
 use lwp_types::{
@@ -11,25 +14,27 @@ use lwp_types::{
 };
 use std::alloc::Global;
 use std::marker::Model;
+use std::mem::replace;
 
-/// The rows of the live threads, seen as their list.
+/// The rows of the live threads, seen as their list, and the call of the row that was polled last.
 #[derive(Drop)]
 pub struct RowList<'s, B> {
     rows: Vec<Row<'s, B>>,
     // Whether the numbers rise from row to row, as a pod gives them. Then a row is found without going over the others.
     rising: bool,
-    // Where a body was polled last.
+    // The place of the row that was polled last, or past all places if it has gone.
     last: usize,
+    // The call of the row that was polled last, if it has gone.
+    gone: Call<'s>,
 }
 
 impl<'s, B> Model for RowList<'s, B> {
-    ghost use Rattle.std.specs.Prelude.{List, IsTrue};
-    ghost use Rattle.pod_runner.specs.declared.session.Row.{Row};
-    ghost use Rattle.pod_runner.specs.Polls.{AreRising};
+    ghost use Rattle.std.specs.Prelude.{IsTrue};
+    ghost use Rattle.pod_runner.specs.Polls.{AreRising, Rows, call_at};
 
-    ghost Value = { List (Row B) };
+    ghost Value = { Rows B };
 
-    ghost view = { λ l. l.rows.items };
+    ghost view = { λ l. record { rows = l.rows.items; call = call_at l.gone l.rows.items l.last } };
 
     ghost invariant = { λ l. IsTrue l.rising → AreRising l.rows.items };
 }
@@ -108,18 +113,15 @@ fn set_answer<'s, B>(
     Ok(())
 }
 
-// Polls the body of a row, which keeps its answer.
-fn poll_row<'s, B: Polled<'s>>(
-    row: &mut Row<'s, B>,
-    env: &mut Env,
-    call: &mut Call<'s>,
-) -> Result<(), NoMemory>
+// Polls the body of a row, whose call lies in the row then.
+fn poll_row<'s, B: Polled<'s>>(row: &mut Row<'s, B>, env: &mut Env) -> Result<(), NoMemory>
     ensures polls { OnOk result
-        ((B.next row.old.body env.old row.old.answer ≡ (call.new, row.new.body, env.new))
-        × (row.new.answer ≡ row.old.answer)) }
+        ((row.new ≡ polled_row (B.next row.old.body env.old row.old.answer) row.old)
+        × (env.new ≡ (B.next row.old.body env.old row.old.answer).2)) }
     ensures same { row.new.tid ≡ row.old.tid }
 {
-    row.body.poll(env, &row.answer, call)
+    row.called = true;
+    row.body.poll(env, &row.answer, &mut row.call)
 }
 
 // The place of a thread's row, or how many rows there are.
@@ -199,10 +201,73 @@ fn put_answer<'s, B>(
     requires within { i < length rows.old.items }
     ensures after { OnOk result (rows.new.items ≡ after_answer tid answer.now rows.old.items) }
     ensures rising { AreRising rows.old.items → AreRising rows.new.items }
+    ensures as_many { length rows.new.items ≡ length rows.old.items }
 {
     let alloc = *rows.allocator();
     let row = &mut rows[i];
     set_answer(row, alloc, answer)
+}
+
+// A place among so many rows, or past all of them.
+fn place_or_past(here: bool, place: usize, count: usize) -> usize
+    ensures { result ≡ if here then place else count }
+{
+    if here { place } else { count }
+}
+
+// One row more, the last. If the row that was polled last has gone, its place stays past all others.
+fn add_row<'s, B: Drop>(
+    rows: &mut Vec<Row<'s, B>>,
+    last: &mut usize,
+    tid: Tid,
+    proc: u32,
+    body: B,
+) -> Result<(), NoMemory>
+    ensures after { OnOk result
+        ((rows.new.items ≡ rows.old.items ++ rows_of_new tid proc (Some body))
+        × ((other : Call) →
+        call_at other rows.new.items last.new ≡ call_at other rows.old.items last.old)) }
+    ensures rising { AreRising rows.old.items → ComesLast tid rows.old.items →
+        AreRising rows.new.items }
+{
+    let before = rows.len();
+    rows.push(Row {
+        tid,
+        proc,
+        body,
+        answer: Answer::Value(0),
+        called: false,
+        call: Call::Return,
+    })?;
+    let after = rows.len();
+    let kept = place_or_past(*last < before, *last, after);
+    *last = kept;
+    Ok(())
+}
+
+// The call in the row at a place, which goes next.
+fn take_call<'s, B>(rows: &mut Vec<Row<'s, B>>, i: usize) -> Call<'s>
+    requires { i < length rows.old.items }
+    ensures { (row : Row B) → slice_get rows.old.items i ≡ Some row →
+        (result ≡ row.call)
+        × (rows.new.items ≡ slice_set rows.old.items i (record row { call = call.Return })) }
+{
+    replace(&mut rows[i].call, Call::Return)
+}
+
+// The row at a place goes next: where the row that was polled last is then, and its call, if it is this one.
+fn part_from<'s, B>(rows: &mut Vec<Row<'s, B>>, i: usize, last: &mut usize, gone: &mut Call<'s>)
+    requires { i < length rows.old.items }
+    ensures call { call_at gone.new (remove rows.old.items i) last.new
+        ≡ call_at gone.old rows.old.items last.old }
+    ensures rows { IsLeft rows.old.items rows.new.items i }
+{
+    if i == *last {
+        *gone = take_call(rows, i);
+        *last = rows.len();
+    } else if i < *last {
+        *last -= 1;
+    }
 }
 
 // Forgets a thread, whose row is at a place.
@@ -210,6 +275,7 @@ fn take_out<'s, B: Drop>(rows: &mut Vec<Row<'s, B>>, i: usize, tid: Tid)
     requires at { i ≡ place_of tid rows.old.items }
     requires within { i < length rows.old.items }
     ensures after { rows.new.items ≡ without_row tid rows.old.items }
+    ensures rest { rows.new.items ≡ remove rows.old.items i }
     ensures rising { AreRising rows.old.items → AreRising rows.new.items }
 {
     let _ = tid;
@@ -226,40 +292,43 @@ fn poll_in<'s, B: Polled<'s>>(
     rows: &mut Vec<Row<'s, B>>,
     i: usize,
     env: &mut Env,
-    call: &mut Call<'s>,
 ) -> Result<(), NoMemory>
     requires { i < length rows.old.items }
     ensures polls { OnOk result
         ((row : Row B) → slice_get rows.old.items i ≡ Some row →
-        Polls B.next row env.old call.new i rows.old.items rows.new.items env.new) }
+        (rows.new.items
+        ≡ slice_set rows.old.items i (polled_row (B.next row.body env.old row.answer) row))
+        × (env.new ≡ (B.next row.body env.old row.answer).2)) }
     ensures rising { AreRising rows.old.items → AreRising rows.new.items }
+    ensures as_many { length rows.new.items ≡ length rows.old.items }
 {
     let row = &mut rows[i];
-    poll_row(row, env, call)
+    poll_row(row, env)
 }
 
 impl<'s, B> RowList<'s, B> {
     /// No rows.
     pub fn new(alloc: Global) -> RowList<'s, B>
-        ensures { result ≡ [] }
+        ensures { result ≡ record { rows = []; call = call.Return } }
     {
         RowList {
             rows: Vec::new(alloc),
             rising: true,
             last: 0,
+            gone: Call::Return,
         }
     }
 
     /// How many rows there are.
     pub fn len(&self) -> usize
-        ensures { result ≡ length self.now }
+        ensures { result ≡ length self.now.rows }
     {
         self.rows.len()
     }
 
     /// The place of a thread's row, or how many rows there are.
     pub fn place(&self, tid: Tid) -> usize
-        ensures { result ≡ place_of tid self.now }
+        ensures { result ≡ place_of tid self.now.rows }
     {
         if self.rising && is_at(&self.rows, tid, self.last) {
             return self.last;
@@ -271,7 +340,7 @@ impl<'s, B> RowList<'s, B> {
     // to save for a search.
     #[inline(never)]
     fn other_place(&self, tid: Tid) -> usize
-        ensures { result ≡ place_of tid self.now }
+        ensures { result ≡ place_of tid self.now.rows }
     {
         if !self.rising {
             return scanned(&self.rows, tid);
@@ -284,24 +353,21 @@ impl<'s, B> RowList<'s, B> {
     }
 
     // One row more, the last.
-    fn push(&mut self, tid: Tid, body: B) -> Result<(), NoMemory>
+    fn push(&mut self, tid: Tid, proc: u32, body: B) -> Result<(), NoMemory>
     where
         B: Drop,
-        ensures { OnOk result (self.new ≡ self.old ++ rows_of_new tid (Some body)) }
+        ensures { OnOk result
+            (self.new ≡ record self.old { rows = self.old.rows ++ rows_of_new tid proc (Some body) }) }
     {
         self.rising = self.rising && are_older(&self.rows, tid);
-        self.rows.push(Row {
-            tid,
-            body,
-            answer: Answer::Value(0),
-        })?;
-        Ok(())
+        add_row(&mut self.rows, &mut self.last, tid, proc, body)
     }
 
     /// Sets what a thread is polled with next.
     #[inline(always)]
     pub fn answer(&mut self, tid: Tid, answer: &Answer<'s>) -> Result<(), NoMemory>
-        ensures { OnOk result (self.new ≡ after_answer tid answer.now self.old) }
+        ensures { OnOk result
+            (self.new ≡ record self.old { rows = after_answer tid answer.now self.old.rows }) }
     {
         let i = self.place(tid);
         if i < self.rows.len() {
@@ -314,25 +380,48 @@ impl<'s, B> RowList<'s, B> {
     pub fn forget(&mut self, tid: Tid)
     where
         B: Drop,
-        ensures { self.new ≡ without_row tid self.old }
+        ensures { self.new ≡ record self.old { rows = without_row tid self.old.rows } }
     {
         let i = self.place(tid);
         if i < self.rows.len() {
+            part_from(&mut self.rows, i, &mut self.last, &mut self.gone);
             take_out(&mut self.rows, i, tid);
         }
     }
 
     /// Polls the body of the row at a place.
-    pub fn poll_at(&mut self, i: usize, env: &mut Env, call: &mut Call<'s>) -> Result<(), NoMemory>
+    pub fn poll_at(&mut self, i: usize, env: &mut Env) -> Result<(), NoMemory>
     where
         B: Polled<'s>,
-        requires { i < length self.old }
-        ensures { OnOk result
-            ((row : Row B) → slice_get self.old i ≡ Some row →
-            Polls B.next row env.old call.new i self.old self.new env.new) }
+        requires { i < length self.old.rows }
+        ensures as_many { length self.new.rows ≡ length self.old.rows }
+        ensures call { (other : Call) → call_at other self.new.rows i ≡ self.new.call }
+        ensures polls { OnOk result
+            ((row : Row B) → slice_get self.old.rows i ≡ Some row →
+            Polls B.next row env.old self.new.call i self.old.rows self.new.rows env.new) }
     {
         self.last = i;
-        poll_in(&mut self.rows, i, env, call)
+        poll_in(&mut self.rows, i, env)
+    }
+
+    /// The call in the row at a place.
+    #[inline(always)]
+    pub fn call_at(&self, i: usize) -> &Call<'s>
+        requires { i < length self.now.rows }
+        ensures { (other : Call) → result.now ≡ call_at other self.now.rows i }
+    {
+        &self.rows[i].call
+    }
+
+    /// The call of the row that was polled last.
+    pub fn call(&self) -> &Call<'s>
+        ensures { result.now ≡ self.now.call }
+    {
+        if self.last < self.rows.len() {
+            &self.rows[self.last].call
+        } else {
+            &self.gone
+        }
     }
 
     /// The row of a new thread, if there is such a procedure. It stands apart from the steps that bear nobody.
@@ -341,11 +430,15 @@ impl<'s, B> RowList<'s, B> {
     where
         B: Body,
         ensures { OnOk result
-            (self.new ≡ self.old ++ rows_of_new tid (slice_get (P.bodies program.now) proc)) }
+            (self.new
+            ≡ record self.old {
+              rows = self.old.rows
+                  ++ rows_of_new tid proc (slice_get (P.bodies program.now) proc);
+            }) }
     {
         if proc < program.procs() {
             let body = program.body_of(proc)?;
-            self.push(tid, body)?;
+            self.push(tid, proc, body)?;
         }
         Ok(())
     }

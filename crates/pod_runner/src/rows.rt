@@ -33,7 +33,11 @@ fn bear<'s, B: Polled<'s>, P: Program<B>>(
     born: Option<u32>,
     named: Option<Tid>,
 ) -> Result<(), NoMemory>
-    ensures { OnOk result (rows.new ≡ rows.old ++ rows_born (P.bodies program.now) born named) }
+    ensures { OnOk result
+        (rows.new
+        ≡ record rows.old {
+          rows = rows.old.rows ++ rows_born (P.bodies program.now) born named;
+        }) }
 {
     match (born, named) {
         (Some(proc), Some(tid)) => rows.open(program, proc, tid),
@@ -49,7 +53,10 @@ fn settle_one<'s, B: Polled<'s>, P: Program<B>>(
     effect: &Effect<'s>,
 ) -> Result<(), NoMemory>
     ensures { OnOk result
-        (rows.new ≡ after_settle_by (P.bodies program.now) born effect.now rows.old) }
+        (rows.new
+        ≡ record rows.old {
+          rows = after_settle_by (P.bodies program.now) born effect.now rows.old.rows;
+        }) }
 {
     match effect {
         Effect::Answered { tid, answer } => {
@@ -72,7 +79,11 @@ pub fn settle<'s, B: Polled<'s>, P: Program<B>>(
     born: Option<u32>,
     effects: &Effects<'s>,
 ) -> Result<(), NoMemory>
-    ensures { OnOk result (rows.new ≡ after_settle (P.bodies program.now) born effects.now rows.old) }
+    ensures { OnOk result
+        (rows.new
+        ≡ record rows.old {
+          rows = after_settle (P.bodies program.now) born effects.now rows.old.rows;
+        }) }
 {
     for i in 0..effects.len() {
         settle_one(rows, program, born, effects.get(i))?;

@@ -5,4 +5,5 @@ use Rattle.pod_runner.proofs.rows.settle.Given as goal
 abbrev pub invariant-loop-i : goal.invariant-loop-i
 invariant-loop-i g l =
     let bodies = g.P.Program.bodies l.program in
-    after_settle bodies l.born (drop l.i l.effects) l.rows ≡ after_settle bodies l.born l.effects l.initial.rows
+    record l.rows { rows = after_settle bodies l.born (drop l.i l.effects) l.rows.rows }
+    ≡ record l.initial.rows { rows = after_settle bodies l.born l.effects l.initial.rows.rows }
