@@ -1,4 +1,5 @@
 -- A thread that a Create bears, as a step of a session tells of it.
+use Rattle.answer_laws.specs.Served.{IsPolledWith, polled_with}
 use Rattle.answer_laws.proofs.Others.{deliveries_leave_it}
 use Rattle.answer_laws.proofs.Openings.{lawful_called}
 use Rattle.answer_laws.proofs.OwnSteps.{alive_seen, event_is}
@@ -9,7 +10,7 @@ use Rattle.answer_laws.proofs.Servings.{alive_then, rests_untimed}
 use Rattle.answer_laws.proofs.StoreSteps.{Checked, Checked.Free, Checked.Struck, checked}
 use Rattle.answer_laws.proofs.TalkSteps.{attends_seen, either_of, unborn_absent, unsome}
 use Rattle.answer_laws.proofs.TalkTexts.{unborn_silent}
-use Rattle.answer_laws.proofs.ThreadRows.{row_settled}
+use Rattle.answer_laws.proofs.ThreadRows.{settled_with}
 use Rattle.answer_laws.specs.Births.{born_in, is_named}
 use Rattle.answer_laws.specs.Sights.{IsDelivered, IsLeft, IsWoken, Sight, sight, sight_by}
 use Rattle.answer_laws.specs.Stands.{last_heard}
@@ -41,7 +42,7 @@ use Rattle.session_laws.proofs.Pods.{call_moved}
 use Rattle.std.proofs.Common.{Bool, List, None, Option, Some, [], ap, append-nil, arith, cond, count_by, drop, eqb, false, inl, inr, refl, subst, sym, true, ℕ, ◌++◌, ◌∙◌, ◌∷◌, ◌≡◌, ◌≤◌, ◌⊎◌}
 use Rattle.std.proofs.lemmas.Bool.{eq-eqb, eqb-true}
 use Rattle.std.specs.List.{list_all}
-use Rattle.std.specs.Prelude.{is_some, map, nat_le, slice_get}
+use Rattle.std.specs.Prelude.{is_some, map, nat_le, slice_get, option_map}
 use Rattle.lwp_types.specs.declared.call.Answer.TheVariants as answer
 use Rattle.lwp_types.specs.declared.call.Call.TheVariants as call
 use Rattle.lwp_types.specs.declared.call.Effect.TheVariants as effect
@@ -90,15 +91,15 @@ module _ {B : Type 0} (u : ℕ) where
   none_append [] ys none = refl
   none_append (r ∷ rs) ys none = let parts = none_head r rs none in ap (λ b. cond b (Some r) (row_of u (rs ++ ys))) parts.0 ∙ none_append rs ys parts.1
 
-  pub none_opened : (v : ℕ) (o : Option B) → eqb v u ≡ false → row_of u (rows_of_new v o) ≡ None
-  none_opened v None e = refl
-  none_opened v (Some body) e = ap (λ b. cond b (Some (record { tid = v; body = body; answer = zero_answer })) None) e
+  pub none_opened : (v number : ℕ) (o : Option B) → eqb v u ≡ false → row_of u (rows_of_new v number o) ≡ None
+  none_opened v number None e = refl
+  none_opened v number (Some body) e = ap (λ b. cond b (Some (record { tid = v; proc = number; body = body; answer = zero_answer; called = false; call = call.Return })) None) e
 
   none_born : (bodies : List B) (born : Option ℕ) (o : Option ℕ) → passes (λ b. eqb b u) o ≡ false → row_of u (rows_born bodies born o) ≡ None
   none_born bodies None None e = refl
   none_born bodies None (Some v) e = refl
   none_born bodies (Some number) None e = refl
-  none_born bodies (Some number) (Some v) e = none_opened v (slice_get bodies number) e
+  none_born bodies (Some number) (Some v) e = none_opened v number (slice_get bodies number) e
 
   -- who isn't named gets no row
   pub none_settled : (bodies : List B) (born : Option ℕ) (es : List Effect) (rows : List (Row B)) → row_of u rows ≡ None → is_named u es ≡ false → row_of u (after_settle bodies born es rows) ≡ None
@@ -120,9 +121,10 @@ module _ {B : Type 0} (u : ℕ) where
   settled_append bodies born [] ys rows = refl
   settled_append bodies born (x ∷ xs) ys rows = settled_append bodies born xs ys (after_settle_by bodies born x rows)
 
-  row_opens : (rows : List (Row B)) (body : B) → row_of u rows ≡ None → (o : Option B) → o ≡ Some body → row_of u (rows ++ rows_of_new u o) ≡ Some (record { tid = u; body = body; answer = zero_answer })
-  row_opens rows body none None e = absurd (cc)
-  row_opens rows body none (Some other) e = none_append rows (rows_of_new u (Some other)) none ∙ ap (λ b. cond b (Some (record { tid = u; body = other; answer = zero_answer })) None) (eq-eqb u u refl) ∙ ap (λ x. Some (record { tid = u; body = x; answer = zero_answer })) (same e)
+  row_opens : (rows : List (Row B)) (number : ℕ) (body : B) → row_of u rows ≡ None → (o : Option B) → o ≡ Some body → IsPolledWith u (rows ++ rows_of_new u number o) body zero_answer
+  row_opens rows number body none None e = absurd (cc)
+  row_opens rows number body none (Some other) e = ap (option_map polled_with) (none_append rows (rows_of_new u number (Some other)) none ∙ ap (λ b. cond b (Some (record { tid = u; proc = number; body = other; answer = zero_answer; called = false; call = call.Return })) None) (eq-eqb u u refl))
+      ∙ ap (λ x. Some (x, zero_answer)) (same e)
     where
       same : Some other ≡ Some body → other ≡ body
       same e = cc e
@@ -134,7 +136,7 @@ pub record Bore {B : Type 0} (bodies : List B) (c : Call) (u p : ℕ) (st after 
   pub number : st.births ≡ u
   pub proc : proc_of c ≡ Some p
   pub seen : sight after u ≡ resting
-  pub rows : (rows : List (Row B)) → row_of u rows ≡ None → (body : B) → slice_get bodies p ≡ Some body → row_of u (after_settle bodies (proc_of c) es rows) ≡ Some (record { tid = u; body = body; answer = zero_answer })
+  pub rows : (rows : List (Row B)) → row_of u rows ≡ None → (body : B) → slice_get bodies p ≡ Some body → IsPolledWith u (after_settle bodies (proc_of c) es rows) body zero_answer
 
 -- what is tame tells of no birth
 tame_bears : (u : ℕ) (xs ys : List Effect) → list_all is_tame xs ≡ true → born_in u ys ≡ None → born_in u (xs ++ ys) ≡ None
@@ -267,15 +269,15 @@ module _ {B : Type 0} (bodies : List B) (u p : ℕ) (st : State) (was : Lawful s
           found low = find_push_new (is_number u) st.threads (new_thread st.births prio flags) e (none_found (thread_of st u) (either_of (is_thread st u) (is_agent st u) (unborn_absent st was u low)).0)
 
           rows_are : st.births ≡ u → (rows : List (Row B)) → row_of u rows ≡ None → (body : B) → slice_get bodies p ≡ Some body → (o : Option ℕ) → o ≡ Some p → (d : Bool)
-              → row_of u (after_settle bodies o (effect.Called t c ∷ effect.Answered t (answer.Thread st.births) ∷ cond d (effect.Ended made.after.status ∷ []) []) rows) ≡ Some (record { tid = u; body = body; answer = zero_answer })
+              → IsPolledWith u (after_settle bodies o (effect.Called t c ∷ effect.Answered t (answer.Thread st.births) ∷ cond d (effect.Ended made.after.status ∷ []) []) rows) body zero_answer
           rows_are same rows none body is_body None bad d = absurd (cc)
           rows_are same rows none body is_body (Some q) so d = by_end d
             where
-              opened : row_of u (rows_answered t (answer.Thread st.births) rows ++ rows_of_new st.births (slice_get bodies q)) ≡ Some (record { tid = u; body = body; answer = zero_answer })
-              opened = subst (λ n. row_of u (rows_answered t (answer.Thread st.births) rows ++ rows_of_new n (slice_get bodies q)) ≡ Some (record { tid = u; body = body; answer = zero_answer })) (sym same)
-                  (row_opens u (rows_answered t (answer.Thread st.births) rows) body (none_with u t (λ row. record row { answer = answer.Thread st.births }) (λ r. refl) rows none) (slice_get bodies q) (ap (slice_get bodies) (unsome so) ∙ is_body))
+              opened : IsPolledWith u (rows_answered t (answer.Thread st.births) rows ++ rows_of_new st.births q (slice_get bodies q)) body zero_answer
+              opened = subst (λ n. IsPolledWith u (rows_answered t (answer.Thread st.births) rows ++ rows_of_new n q (slice_get bodies q)) body zero_answer) (sym same)
+                  (row_opens u (rows_answered t (answer.Thread st.births) rows) q body (none_with u t (λ row. record row { answer = answer.Thread st.births }) (λ r. refl) rows none) (slice_get bodies q) (ap (slice_get bodies) (unsome so) ∙ is_body))
 
-              by_end : (d : Bool) → row_of u (after_settle bodies (Some q) (cond d (effect.Ended made.after.status ∷ []) []) (rows_answered t (answer.Thread st.births) rows ++ rows_of_new st.births (slice_get bodies q))) ≡ Some (record { tid = u; body = body; answer = zero_answer })
+              by_end : (d : Bool) → IsPolledWith u (after_settle bodies (Some q) (cond d (effect.Ended made.after.status ∷ []) []) (rows_answered t (answer.Thread st.births) rows ++ rows_of_new st.births q (slice_get bodies q))) body zero_answer
               by_end true = opened
               by_end false = opened
 
@@ -385,9 +387,9 @@ module _ {B : Type 0} (bodies : List B) (u p : ℕ) (st : State) (was : Lawful s
                 number = b.number;
                 proc = b.proc;
                 seen = seen;
-                rows = λ rows empty body is_body. ap (row_of u) (settled_append u bodies (proc_of c) es (map (as_rites dead) sent) rows)
-                    ∙ row_settled u bodies (proc_of c) (map (as_rites dead) sent) (after_settle bodies (proc_of c) es rows) (record { tid = u; body = body; answer = zero_answer }) (b.rows rows empty body is_body) (omega (arith, none, count-append (is_died u) es (map (as_rites dead) sent)))
-                    ∙ ap (λ xs. Some (record { tid = u; body = body; answer = last_heard zero_answer xs })) (rites_same u dead sent ∙ left.quiet);
+                rows = λ rows empty body is_body. ap (λ (rs : List (Row B)). option_map polled_with (row_of u rs)) (settled_append u bodies (proc_of c) es (map (as_rites dead) sent) rows)
+                    ∙ settled_with u bodies (proc_of c) (map (as_rites dead) sent) (after_settle bodies (proc_of c) es rows) body zero_answer (b.rows rows empty body is_body) (omega (arith, none, count-append (is_died u) es (map (as_rites dead) sent)))
+                    ∙ ap (λ xs. Some (body, last_heard zero_answer xs)) (rites_same u dead sent ∙ left.quiet);
               }
             where
               still : Bore bodies c u p st after es → IsLeft u after (deliver after rites_event (report_text dead)) ⊎ IsWoken u (IsDelivered (report_text dead)) after (deliver after rites_event (report_text dead)) → IsLeft u after (deliver after rites_event (report_text dead))

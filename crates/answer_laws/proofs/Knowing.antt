@@ -158,12 +158,12 @@ module _ {B : Type 0} (n : ℕ) where
       by_test true rest = all.1
       by_test false rest = (all.0, rest)
 
-  rows_opened : (t : ℕ) (o : Option B) → RowsNamed (rows_of_new t o)
-  rows_opened t None = tt
-  rows_opened t (Some body) = (tt, tt)
+  rows_opened : (t number : ℕ) (o : Option B) → RowsNamed (rows_of_new t number o)
+  rows_opened t number None = tt
+  rows_opened t number (Some body) = (tt, tt)
 
   rows_come : (bodies : List B) (born t : Option ℕ) → RowsNamed (rows_born bodies born t)
-  rows_come bodies (Some number) (Some t) = rows_opened t (slice_get bodies number)
+  rows_come bodies (Some number) (Some t) = rows_opened t number (slice_get bodies number)
   rows_come bodies None t = tt
   rows_come bodies (Some number) None = tt
 
@@ -260,8 +260,8 @@ module _ (setting : Setting ThreadBody) (scripts : setting.next ≡ body_next) w
       → Tells (call_move setting.bodies live t reply).live
   unfolding call_move
   tells_called live was t reply more rows names = record {
-    rows = rows_settled _ setting.bodies (proc_of reply.0) (event_step live.pod reply.0).effects (after_poll t reply.1 live.rows) (event_named live.pod was reply.0)
-        (rows_with _ t (λ row. record row { body = reply.1 }) (λ row below. below) live.rows (rows_later live.pod.state.births _ more live.rows rows));
+    rows = rows_settled _ setting.bodies (proc_of reply.0) (event_step live.pod reply.0).effects (after_poll t reply.1 reply.0 live.rows) (event_named live.pod was reply.0)
+        (rows_with _ t (λ row. record row { body = reply.1; called = true; call = reply.0 }) (λ row below. below) live.rows (rows_later live.pod.state.births _ more live.rows rows));
     names = λ place. known_later live.pod.state.births _ (id_at reply.2.threads place) more (names place);
   }
 
@@ -298,7 +298,7 @@ module _ (setting : Setting ThreadBody) (scripts : setting.next ≡ body_next) w
 
 -- whoever has known names at the opening
 pub tells_opening : (bodies : List ThreadBody) (params : PodParams) (names : Names) → KnowsItsNames (opening_session (script_setting bodies params names)) → Tells (opening_session (script_setting bodies params names)).live
-tells_opening bodies params names known = record { rows = rows_opened (opening_session (script_setting bodies params names)).live.pod.state.births 0 (slice_get bodies 0); names = known }
+tells_opening bodies params names known = record { rows = rows_opened (opening_session (script_setting bodies params names)).live.pod.state.births 0 0 (slice_get bodies 0); names = known }
 
 pub names_are_of_the_born : NamesAreOfTheBorn
 names_are_of_the_born bodies params names least most known takes n defined =

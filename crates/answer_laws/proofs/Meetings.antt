@@ -1,13 +1,14 @@
 -- Where a store and a client's session begin.
+use Rattle.std.specs.Prelude.{option_map}
 use Rattle.answer_laws.proofs.Alone.{AloneAt, alone_other, alone_own, alone_taken}
 use Rattle.answer_laws.proofs.OwnSteps.{alive_seen}
 use Rattle.answer_laws.proofs.Phases.{Phase.Starting, TellsAt, born_below, phase_first, resting}
 use Rattle.answer_laws.proofs.Servings.{K_of, S_of, Stood, alive_then, chosen_lives, gone_fades, gone_stood, moved_fades, moved_lawful, rests_untimed, there_before}
 use Rattle.answer_laws.proofs.TalkLaws.{Inv.Goes, Phase.Idle}
 use Rattle.answer_laws.proofs.TalkSteps.{either_of, unborn_absent, unsome}
-use Rattle.answer_laws.proofs.ThreadRows.{row_polled_other, row_polled_own, row_settled}
+use Rattle.answer_laws.proofs.ThreadRows.{polled_other, polled_own, settled_with}
 use Rattle.answer_laws.specs.Clients.{IsAnsweredInTurn}
-use Rattle.answer_laws.specs.Served.{Begins, CanGoOn, ClientsAreAnsweredInTurn, LaterClientsAreAnsweredInTurn, LineServer, Serves, TextsAreShort, after_move, after_moves, is_move_due, session_from, steps_of}
+use Rattle.answer_laws.specs.Served.{Begins, CanGoOn, ClientsAreAnsweredInTurn, LaterClientsAreAnsweredInTurn, LineServer, Serves, TextsAreShort, after_move, after_moves, is_move_due, session_from, steps_of, polled_with}
 use Rattle.answer_laws.specs.Sights.{Sight, answers_to, sight}
 use Rattle.answer_laws.specs.Stands.{AgentIs.Unmade, block_of, last_heard}
 use Rattle.answer_laws.specs.Talks.{Mail.Nothing, Stand.Hears}
@@ -106,7 +107,7 @@ module _ {B : Type 0} (setting : Setting B) (server : LineServer setting.next) (
     other_alone t turn t_k reply = λ lives free. record {
       body = h.body;
       answer = last_heard h.answer (answers_to k (event_step live.pod reply.0).effects);
-      row = row_settled k setting.bodies (proc_of reply.0) (event_step live.pod reply.0).effects (after_poll t reply.1 live.rows) (record { tid = k; body = server.storing h.body; answer = h.answer }) (row_polled_other k t t_k reply.1 live.rows ∙ h.row)
+      row = settled_with k setting.bodies (proc_of reply.0) (event_step live.pod reply.0).effects (after_poll t reply.1 reply.0 live.rows) (server.storing h.body) h.answer (polled_other k t t_k reply.1 reply.0 live.rows ∙ h.row)
           (alive_then live.pod.state (event_step live.pod reply.0).after.state (event_step live.pod reply.0).effects (call_moved live.pod was reply.0) k lives);
       alone = alone_other s k live.pod was h.body h.answer h.alone t turn t_k (not_chosen t turn) reply.0 lives free;
     }
@@ -116,8 +117,8 @@ module _ {B : Type 0} (setting : Setting B) (server : LineServer setting.next) (
     own_alone turn names = λ lives free. record {
       body = (store_next h.body names h.answer).1;
       answer = last_heard h.answer (answers_to k (event_step live.pod (store_next h.body names h.answer).0).effects);
-      row = row_settled k setting.bodies (proc_of (store_next h.body names h.answer).0) (event_step live.pod (store_next h.body names h.answer).0).effects (after_poll k (server.storing (store_next h.body names h.answer).1) live.rows)
-          (record { tid = k; body = server.storing (store_next h.body names h.answer).1; answer = h.answer }) (row_polled_own k (server.storing (store_next h.body names h.answer).1) live.rows (record { tid = k; body = server.storing h.body; answer = h.answer }) h.row)
+      row = settled_with k setting.bodies (proc_of (store_next h.body names h.answer).0) (event_step live.pod (store_next h.body names h.answer).0).effects (after_poll k (server.storing (store_next h.body names h.answer).1) (store_next h.body names h.answer).0 live.rows)
+          (server.storing (store_next h.body names h.answer).1) h.answer (polled_own k (server.storing (store_next h.body names h.answer).1) (store_next h.body names h.answer).0 live.rows (server.storing h.body) h.answer h.row)
           (alive_then live.pod.state (event_step live.pod (store_next h.body names h.answer).0).after.state (event_step live.pod (store_next h.body names h.answer).0).effects (call_moved live.pod was (store_next h.body names h.answer).0) k lives);
       alone = alone_own s k live.pod was h.body h.answer h.alone turn low names lives free;
     }
@@ -126,9 +127,9 @@ module _ {B : Type 0} (setting : Setting B) (server : LineServer setting.next) (
     called_alone t turn row found names false is = other_alone t turn is (setting.next row.body names row.answer)
     called_alone t turn row found names true is =
         let same = eqb-true t k is in
-        let one = unsome (sym (ap (λ n. row_of n live.rows) (sym same) ∙ found) ∙ h.row) in
+        let one = unsome (ap (option_map polled_with) (sym (ap (λ n. row_of n live.rows) (sym same) ∙ found)) ∙ h.row) in
         subst (λ n. Then (call_move setting.bodies live n (setting.next row.body names row.answer)).live) (sym same)
-        (subst (λ (r : Polled B). Then (call_move setting.bodies live k r).live) (sym ((λ i. setting.next (one i).body names (one i).answer) ∙ server.stores h.body names h.answer)) (own_alone (turn ∙ ap Some same) names))
+        (subst (λ (r : Polled B). Then (call_move setting.bodies live k r).live) (sym ((λ i. setting.next (one i).0 names (one i).1) ∙ server.stores h.body names h.answer)) (own_alone (turn ∙ ap Some same) names))
 
     row_alone : (t : ℕ) → choice live.pod.state ≡ Some t → (o : Option (Row B)) → row_of t live.rows ≡ o → Then (move_row setting.next setting.bodies live t o).live
     row_alone t turn None found = λ lives free. h
@@ -147,7 +148,7 @@ module _ {B : Type 0} (setting : Setting B) (server : LineServer setting.next) (
     take_alone took may = λ lives free. record {
       body = h.body;
       answer = last_heard h.answer (answers_to k (take_event live.pod took.event took.line.text).effects);
-      row = row_settled k setting.bodies None (take_event live.pod took.event took.line.text).effects live.rows (record { tid = k; body = server.storing h.body; answer = h.answer }) h.row
+      row = settled_with k setting.bodies None (take_event live.pod took.event took.line.text).effects live.rows (server.storing h.body) h.answer h.row
           (alive_then live.pod.state (take_event live.pod took.event took.line.text).after.state (take_event live.pod took.event took.line.text).effects (take_moved live.pod was took.event took.line.text may) k lives);
       alone = alone_taken s k live.pod was h.body h.answer h.alone (either_of (is_thread live.pod.state s) (is_agent live.pod.state s) unborn).1 took.event took.line.text;
     }

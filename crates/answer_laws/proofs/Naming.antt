@@ -85,7 +85,7 @@ module _ {B : Type 0} (setting : Setting B) where
 
   called_none : (u t : ℕ) (live : Live B) (reply : Polled B) → row_of u live.rows ≡ None → is_named u (call_move setting.bodies live t reply).effects ≡ false → row_of u (call_move setting.bodies live t reply).live.rows ≡ None
   unfolding call_move
-  called_none u t live reply none unnamed = none_settled u setting.bodies (proc_of reply.0) (call_move setting.bodies live t reply).effects (after_poll t reply.1 live.rows) (none_with u t (λ row. record row { body = reply.1 }) (λ r. refl) live.rows none) unnamed
+  called_none u t live reply none unnamed = none_settled u setting.bodies (proc_of reply.0) (call_move setting.bodies live t reply).effects (after_poll t reply.1 reply.0 live.rows) (none_with u t (λ row. record row { body = reply.1; called = true; call = reply.0 }) (λ r. refl) live.rows none) unnamed
 
   row_none : (u t : ℕ) (live : Live B) (o : Option (Row B)) → row_of u live.rows ≡ None → is_named u (move_row setting.next setting.bodies live t o).effects ≡ false → row_of u (move_row setting.next setting.bodies live t o).live.rows ≡ None
   row_none u t live None none unnamed = none
@@ -120,7 +120,7 @@ module _ {B : Type 0} (setting : Setting B) where
       let b = call_bears setting.bodies u p live.pod was t turn reply.0 bears in
       record {
         number = b.number;
-        begins = λ none body is. record { row = b.rows (after_poll t reply.1 live.rows) (none_with u t (λ row. record row { body = reply.1 }) (λ r. refl) live.rows none) body is; thread = b.seen };
+        begins = λ none body is. record { row = b.rows (after_poll t reply.1 reply.0 live.rows) (none_with u t (λ row. record row { body = reply.1; called = true; call = reply.0 }) (λ r. refl) live.rows none) body is; thread = b.seen };
       }
 
   call_bears_it : (u p : ℕ) (live : Live B) → Lawful live.pod.state None → born_in u (move setting.next setting.bodies live).effects ≡ Some p → Birth u p live (move setting.next setting.bodies live).live
@@ -142,7 +142,7 @@ module _ {B : Type 0} (setting : Setting B) where
 
   -- from the opening on
   opening_none : (u : ℕ) → u ≢ 0 → row_of u (opening_session setting).live.rows ≡ None
-  opening_none u other = none_opened u 0 (slice_get setting.bodies 0) (ne_eqb 0 u (λ e. other (sym e)))
+  opening_none u other = none_opened u 0 0 (slice_get setting.bodies 0) (ne_eqb 0 u (λ e. other (sym e)))
 
 -- ---- s sends nothing
 

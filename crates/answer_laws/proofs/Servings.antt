@@ -9,11 +9,11 @@ use Rattle.answer_laws.proofs.PodSteps.{living_calls_are_events, takes_are_event
 use Rattle.answer_laws.proofs.TalkShort.{store_short}
 use Rattle.answer_laws.proofs.TalkSteps.{attends_seen, unsome}
 use Rattle.answer_laws.proofs.StoreSteps.{sends_at}
-use Rattle.answer_laws.proofs.ThreadRows.{row_polled_other, row_polled_own, row_settled}
+use Rattle.answer_laws.proofs.ThreadRows.{polled_other, polled_own, settled_with}
 use Rattle.answer_laws.specs.Clients.{Step, all_sends_to, texts_delivered, names_only, replies_of_step, replies_accepted, sends_nothing, sends_only, text_to}
 use Rattle.answer_laws.specs.Events.{machine_of}
 use Rattle.answer_laws.specs.Lengths.{is_short}
-use Rattle.answer_laws.specs.Served.{CanGoOn, LineServer, after_move, after_moves, is_move_due, step_of, steps_of}
+use Rattle.answer_laws.specs.Served.{CanGoOn, LineServer, after_move, after_moves, is_move_due, step_of, steps_of, IsPolledWith, polled_with}
 use Rattle.answer_laws.specs.Sights.{IsLeft, IsWoken, Sight, answers_to, sight}
 use Rattle.answer_laws.specs.Stands.{Becomes, HeardAs, Leaves, Stands, is_posted, is_short_to, last_heard, texts_in}
 use Rattle.answer_laws.specs.Talks.{Mail.Received, Talk}
@@ -147,10 +147,10 @@ got_more steps m a = sym (ap (texts_delivered a) (map-append step_of steps (m �
 
 module _ {B : Type 0} (setting : Setting B) (server : LineServer setting.next) (s k : ℕ) (s_k : eqb s k ≡ false) where
   abbrev pub S_of : List (Row B) → SessionBody → Answer → Type 0
-  S_of rows b z = row_of s rows ≡ Some (record { tid = s; body = server.serving b; answer = z })
+  S_of rows b z = IsPolledWith s rows (server.serving b) z
 
   abbrev pub K_of : List (Row B) → StoreBody → Answer → Type 0
-  K_of rows b z = row_of k rows ≡ Some (record { tid = k; body = server.storing b; answer = z })
+  K_of rows b z = IsPolledWith k rows (server.storing b) z
 
   abbrev pub got_in : List Made → ℕ → Texts
   got_in steps a = texts_delivered a (steps_of steps)
@@ -196,13 +196,13 @@ module _ {B : Type 0} (setting : Setting B) (server : LineServer setting.next) (
       out = machine_of (event_step live.pod reply.0)
 
       abbrev rows2 : List (Row B)
-      rows2 = after_settle setting.bodies (proc_of reply.0) (event_step live.pod reply.0).effects (after_poll t reply.1 live.rows)
+      rows2 = after_settle setting.bodies (proc_of reply.0) (event_step live.pod reply.0).effects (after_poll t reply.1 reply.0 live.rows)
 
       moved : Moved live.pod.state (event_step live.pod reply.0).after.state (event_step live.pod reply.0).effects
       moved = call_moved live.pod was reply.0
 
       s_on : is_thread out.after s ≡ true → (b : SessionBody) (z : Answer) → S_of live.rows b z → S_of rows2 b (last_heard z (answers_to s out.effects))
-      s_on lives b z row = row_settled s setting.bodies (proc_of reply.0) out.effects (after_poll t reply.1 live.rows) (record { tid = s; body = server.serving b; answer = z }) (row_polled_other s t t_s reply.1 live.rows ∙ row) (alive_then live.pod.state out.after out.effects moved s lives)
+      s_on lives b z row = settled_with s setting.bodies (proc_of reply.0) out.effects (after_poll t reply.1 reply.0 live.rows) (server.serving b) z (polled_other s t t_s reply.1 reply.0 live.rows ∙ row) (alive_then live.pod.state out.after out.effects moved s lives)
 
       left_so : sight live.pod.state s ≡ resting → is_thread out.after s ≡ true → IsLeft s live.pod.state out
       left_so seen lives = never_woken seen (living_is_left live.pod was t s turn t_s (attends_seen live.pod.state s block.Not (ap (λ (v : Sight). v.waits) seen) refl) (rests_untimed live.pod.state was s seen) (λ v. ap (λ (x : Sight). count_by (is_to v) x.letters) seen) reply.0 lives)
@@ -211,7 +211,7 @@ module _ {B : Type 0} (setting : Setting B) (server : LineServer setting.next) (
       other_call : eqb t k ≡ false → is_thread out.after k ≡ true → Phase s k out.after (S_of rows2) (K_of rows2) (λ b. got_in steps b ++ texts_in b None out.effects) (λ b. said_in steps b ++ replies_of_step s b out.effects)
       other_call t_k lives = phase_other s k live.pod.state was (S_of live.rows) (S_of rows2) (K_of live.rows) (K_of rows2) (got_in steps) (said_in steps) (λ b. texts_in b None out.effects) out (λ n. event_fades n live.pod reply.0)
           (λ b. (others_reply_nothing s b live.pod).0 t turn t_s reply.0) (λ b z. b) s_on
-          (λ b z row. row_settled k setting.bodies (proc_of reply.0) out.effects (after_poll t reply.1 live.rows) (record { tid = k; body = server.storing b; answer = z }) (row_polled_other k t t_k reply.1 live.rows ∙ row) (alive_then live.pod.state out.after out.effects moved k lives))
+          (λ b z row. settled_with k setting.bodies (proc_of reply.0) out.effects (after_poll t reply.1 reply.0 live.rows) (server.storing b) z (polled_other k t t_k reply.1 reply.0 live.rows ∙ row) (alive_then live.pod.state out.after out.effects moved k lives))
           goes left_so stood
         where
           goes : (a : ℕ) (sb : SessionBody) (sz : Answer) (kb : StoreBody) (kz : Answer) → K_of live.rows kb kz → (x : TellsAt s k a live.pod.state sb sz kb kz (got_in steps a) (said_in steps a)) → eqb null_id a ≡ false → (x.talk.agent_lives ≡ true) ⊎ (sb.place ≡ at.Agent) → (sb.place ≡ at.Start → out.after.births ≤ a) → is_thread out.after s ≡ true
@@ -229,19 +229,19 @@ module _ {B : Type 0} (setting : Setting B) (server : LineServer setting.next) (
 
       -- where it is a store, it does what that does
       reply_is : (b : StoreBody) (z : Answer) → K_of live.rows b z → reply_k ≡ ((store_next b names z).0, server.storing (store_next b names z).1, (store_next b names z).2)
-      reply_is b z is = let same = unsome (sym found ∙ is) in (λ i. setting.next (same i).body names (same i).answer) ∙ server.stores b names z
+      reply_is b z is = let same = unsome (ap (option_map polled_with) (sym found) ∙ is) in (λ i. setting.next (same i).0 names (same i).1) ∙ server.stores b names z
 
       abbrev out_k : Outcome
       out_k = machine_of (event_step live.pod reply_k.0)
 
       abbrev rows_k : List (Row B)
-      rows_k = after_settle setting.bodies (proc_of reply_k.0) (event_step live.pod reply_k.0).effects (after_poll k reply_k.1 live.rows)
+      rows_k = after_settle setting.bodies (proc_of reply_k.0) (event_step live.pod reply_k.0).effects (after_poll k reply_k.1 reply_k.0 live.rows)
 
       store_call : ((b : ℕ) → list_all is_short (got_in steps b) ≡ true) → is_thread out_k.after k ≡ true → Phase s k out_k.after (S_of rows_k) (K_of rows_k) (λ b. got_in steps b ++ texts_in b None out_k.effects) (λ b. said_in steps b ++ replies_of_step s b out_k.effects)
       store_call short lives = phase_other s k live.pod.state was (S_of live.rows) (S_of rows_k) (K_of live.rows) (K_of rows_k) (got_in steps) (said_in steps) (λ b. texts_in b None out_k.effects) out_k (λ n. event_fades n live.pod reply_k.0)
           (λ b. (others_reply_nothing s b live.pod).0 k turn k_s reply_k.0) (λ b z. (store_next b names z).1) (s_on k turn k_s reply_k)
-          (λ b z is. row_settled k setting.bodies (proc_of reply_k.0) out_k.effects (after_poll k reply_k.1 live.rows) (record { tid = k; body = server.storing (store_next b names z).1; answer = z })
-          (row_polled_own k reply_k.1 live.rows (record { tid = k; body = server.storing b; answer = z }) is ∙ ap (λ (r : Polled B). Some (record { tid = k; body = r.1; answer = z })) (reply_is b z is))
+          (λ b z is. settled_with k setting.bodies (proc_of reply_k.0) out_k.effects (after_poll k reply_k.1 reply_k.0 live.rows) (server.storing (store_next b names z).1) z
+          (polled_own k reply_k.1 reply_k.0 live.rows (server.storing b) z is ∙ ap (λ (r : Polled B). Some (r.1, z)) (reply_is b z is))
           (alive_then live.pod.state out_k.after out_k.effects (call_moved live.pod was reply_k.0) k lives))
           goes (left_so k turn k_s reply_k) stood
         where
@@ -281,24 +281,24 @@ module _ {B : Type 0} (setting : Setting B) (server : LineServer setting.next) (
       next_s = session_next its.body names its.answer
 
       reply_s : setting.next row.body names row.answer ≡ (next_s.0, server.serving next_s.1, next_s.2)
-      reply_s = let same = unsome (sym found ∙ its.row) in (λ i. setting.next (same i).body names (same i).answer) ∙ server.serves its.body names its.answer
+      reply_s = let same = unsome (ap (option_map polled_with) (sym found) ∙ its.row) in (λ i. setting.next (same i).0 names (same i).1) ∙ server.serves its.body names its.answer
 
       abbrev out_s : Outcome
       out_s = machine_of (event_step live.pod next_s.0)
 
       abbrev rows_s : List (Row B)
-      rows_s = after_settle setting.bodies (proc_of next_s.0) (event_step live.pod next_s.0).effects (after_poll s (server.serving next_s.1) live.rows)
+      rows_s = after_settle setting.bodies (proc_of next_s.0) (event_step live.pod next_s.0).effects (after_poll s (server.serving next_s.1) next_s.0 live.rows)
 
       same_row : (b : SessionBody) (z : Answer) → S_of live.rows b z → (b ≡ its.body) × (z ≡ its.answer)
-      same_row b z is = let same = unsome (sym is ∙ its.row) in (server.one_session b its.body (ap (λ (r : Row B). r.body) same), ap (λ (r : Row B). r.answer) same)
+      same_row b z is = let same = unsome (sym is ∙ its.row) in (server.one_session b its.body (ap (λ (p : B × Answer). p.0) same), ap (λ (p : B × Answer). p.1) same)
 
       session_call : ((b : ℕ) → list_all is_short (got_in steps b) ≡ true) → eqb null_id live.pod.state.births ≡ false → is_thread out_s.after k ≡ true → list_all (sends_only s k) out_s.effects ≡ true
           → Phase s k out_s.after (S_of rows_s) (K_of rows_s) (λ b. got_in steps b ++ texts_in b None out_s.effects) (λ b. said_in steps b ++ replies_of_step s b out_s.effects)
       session_call short low lives sends = phase_own s k live.pod was turn (S_of live.rows) (S_of rows_s) (K_of live.rows) (K_of rows_s) (got_in steps) (said_in steps) its.body its.answer names same_row
-          (λ lives_s. row_settled s setting.bodies (proc_of next_s.0) out_s.effects (after_poll s (server.serving next_s.1) live.rows) (record { tid = s; body = server.serving next_s.1; answer = its.answer })
-          (row_polled_own s (server.serving next_s.1) live.rows (record { tid = s; body = server.serving its.body; answer = its.answer }) its.row) (alive_then live.pod.state out_s.after out_s.effects (call_moved live.pod was next_s.0) s lives_s))
-          (λ b z is. row_settled k setting.bodies (proc_of next_s.0) out_s.effects (after_poll s (server.serving next_s.1) live.rows) (record { tid = k; body = server.storing b; answer = z })
-          (row_polled_other k s s_k (server.serving next_s.1) live.rows ∙ is) (alive_then live.pod.state out_s.after out_s.effects (call_moved live.pod was next_s.0) k lives))
+          (λ lives_s. settled_with s setting.bodies (proc_of next_s.0) out_s.effects (after_poll s (server.serving next_s.1) next_s.0 live.rows) (server.serving next_s.1) its.answer
+          (polled_own s (server.serving next_s.1) next_s.0 live.rows (server.serving its.body) its.answer its.row) (alive_then live.pod.state out_s.after out_s.effects (call_moved live.pod was next_s.0) s lives_s))
+          (λ b z is. settled_with k setting.bodies (proc_of next_s.0) out_s.effects (after_poll s (server.serving next_s.1) next_s.0 live.rows) (server.storing b) z
+          (polled_other k s s_k (server.serving next_s.1) next_s.0 live.rows ∙ is) (alive_then live.pod.state out_s.after out_s.effects (call_moved live.pod was next_s.0) k lives))
           short (λ free. sends_so s k next_s.0 (eqb s k) s_k (sends_named s k live.pod turn next_s.0 free sends)) low stood
 
     -- ---- a call, whoever makes it
@@ -368,8 +368,8 @@ module _ {B : Type 0} (setting : Setting B) (server : LineServer setting.next) (
       take_phase : is_thread out_t.after k ≡ true → Phase s k out_t.after (S_of rows_t) (K_of rows_t) (λ b. got_in steps b ++ texts_in b (Some took.line.text) out_t.effects) (λ b. said_in steps b ++ replies_of_step s b out_t.effects)
       take_phase lives = phase_other s k live.pod.state was (S_of live.rows) (S_of rows_t) (K_of live.rows) (K_of rows_t) (got_in steps) (said_in steps) (λ b. texts_in b (Some took.line.text) out_t.effects) out_t (λ n. take_fades n live.pod took.event took.line.text)
           (λ b. (others_reply_nothing s b live.pod).1 took.event took.line.text) (λ b z. b)
-          (λ lives_s b z row. row_settled s setting.bodies None out_t.effects live.rows (record { tid = s; body = server.serving b; answer = z }) row (alive_then live.pod.state out_t.after out_t.effects moved_t s lives_s))
-          (λ b z row. row_settled k setting.bodies None out_t.effects live.rows (record { tid = k; body = server.storing b; answer = z }) row (alive_then live.pod.state out_t.after out_t.effects moved_t k lives))
+          (λ lives_s b z row. settled_with s setting.bodies None out_t.effects live.rows (server.serving b) z row (alive_then live.pod.state out_t.after out_t.effects moved_t s lives_s))
+          (λ b z row. settled_with k setting.bodies None out_t.effects live.rows (server.storing b) z row (alive_then live.pod.state out_t.after out_t.effects moved_t k lives))
           goes
           (λ seen lives_s. never_woken seen (takes_leave_it live.pod was s (attends_seen live.pod.state s block.Not (ap (λ (v : Sight). v.waits) seen) refl) (rests_untimed live.pod.state was s seen) took.event took.line.text)) stood
         where

@@ -1,4 +1,7 @@
 -- What a step makes of the row of a thread that is there behind it.
+use Rattle.std.specs.Prelude.{option_map}
+use Rattle.lwp_types.specs.declared.call.Call.{Call}
+use Rattle.answer_laws.specs.Served.{IsPolledWith, polled_with}
 use Rattle.answer_laws.specs.Sights.{answers_to}
 use Rattle.answer_laws.specs.Stands.{last_heard}
 use Rattle.lwp_types.specs.CountLaws.{count-cons, one}
@@ -72,7 +75,7 @@ module _ {B : Type 0} (u : ℕ) where
   row_answered t a rows row found false e = row_kept t e (λ row. record row { answer = a }) (λ r. refl) rows ∙ found
 
   -- the effects of a step in which it doesn't die
-  pub row_settled : (bodies : List B) (born : Option ℕ) (es : List Effect) (rows : List (Row B)) (row : Row B) → row_of u rows ≡ Some row → count_by (is_died u) es ≡ 0 → row_of u (after_settle bodies born es rows) ≡ Some (record row { answer = last_heard row.answer (answers_to u es) })
+  row_settled : (bodies : List B) (born : Option ℕ) (es : List Effect) (rows : List (Row B)) (row : Row B) → row_of u rows ≡ Some row → count_by (is_died u) es ≡ 0 → row_of u (after_settle bodies born es rows) ≡ Some (record row { answer = last_heard row.answer (answers_to u es) })
   row_settled bodies born [] rows row found none = found
   row_settled bodies born (effect.Answered t a ∷ es) rows row found none = by_test (eqb t u) refl
       (λ r f. row_settled bodies born es (after_answer t a rows ++ rows_born bodies born (thread_in a)) r f (omega (arith, none, count-cons (is_died u) (effect.Answered t a) es)))
@@ -99,8 +102,35 @@ module _ {B : Type 0} (u : ℕ) where
   row_settled bodies born (effect.Rites a d ∷ es) rows row found none = row_settled bodies born es rows row found (omega (arith, none, count-cons (is_died u) (effect.Rites a d) es))
 
   -- a body that was polled
-  pub row_polled_own : (body : B) (rows : List (Row B)) (row : Row B) → row_of u rows ≡ Some row → row_of u (after_poll u body rows) ≡ Some (record row { body = body })
-  row_polled_own body rows row found = row_changed (λ row. record row { body = body }) (λ r. refl) rows row found
+  row_polled_own : (body : B) (c : Call) (rows : List (Row B)) (row : Row B) → row_of u rows ≡ Some row → row_of u (after_poll u body c rows) ≡ Some (record row { body = body; called = true; call = c })
+  row_polled_own body c rows row found = row_changed (λ row. record row { body = body; called = true; call = c }) (λ r. refl) rows row found
 
-  pub row_polled_other : (t : ℕ) → eqb t u ≡ false → (body : B) (rows : List (Row B)) → row_of u (after_poll t body rows) ≡ row_of u rows
-  row_polled_other t other body rows = row_kept t other (λ row. record row { body = body }) (λ r. refl) rows
+  row_polled_other : (t : ℕ) → eqb t u ≡ false → (body : B) (c : Call) (rows : List (Row B)) → row_of u (after_poll t body c rows) ≡ row_of u rows
+  row_polled_other t other body c rows = row_kept t other (λ row. record row { body = body; called = true; call = c }) (λ r. refl) rows
+
+  -- ---- what it is polled with
+
+  -- its row
+  pub record RowWith (b : B) (z : Answer) (o : Option (Row B)) : Type 0 where
+    pub row : Row B
+    pub found : o ≡ Some row
+    pub pair : ◌≡◌ {A = B × Answer} (row.body, row.answer) (b, z)
+
+  pub row_with : (b : B) (z : Answer) (o : Option (Row B)) → option_map polled_with o ≡ Some (b, z) → RowWith b z o
+  row_with b z None e = absurd (cc)
+  row_with b z (Some row) e = record { row = row; found = refl; pair = cc e }
+
+  -- the effects of a step in which it doesn't die
+  pub settled_with : (bodies : List B) (born : Option ℕ) (es : List Effect) (rows : List (Row B)) (b : B) (z : Answer) → IsPolledWith u rows b z → count_by (is_died u) es ≡ 0 → IsPolledWith u (after_settle bodies born es rows) b (last_heard z (answers_to u es))
+  settled_with bodies born es rows b z h none =
+      let w = row_with b z (row_of u rows) h in
+      ap (option_map polled_with) (row_settled bodies born es rows w.row w.found none) ∙ ap (λ (p : B × Answer). Some (p.0, last_heard p.1 (answers_to u es))) w.pair
+
+  -- it was polled, or another
+  pub polled_own : (body : B) (c : Call) (rows : List (Row B)) (b : B) (z : Answer) → IsPolledWith u rows b z → IsPolledWith u (after_poll u body c rows) body z
+  polled_own body c rows b z h =
+      let w = row_with b z (row_of u rows) h in
+      ap (option_map polled_with) (row_polled_own body c rows w.row w.found) ∙ ap (λ (p : B × Answer). Some (body, p.1)) w.pair
+
+  pub polled_other : (t : ℕ) → eqb t u ≡ false → (body : B) (c : Call) (rows : List (Row B)) → option_map polled_with (row_of u (after_poll t body c rows)) ≡ option_map polled_with (row_of u rows)
+  polled_other t other body c rows = ap (option_map polled_with) (row_polled_other t other body c rows)

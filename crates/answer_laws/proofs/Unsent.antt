@@ -8,12 +8,12 @@ use Rattle.answer_laws.proofs.PodSteps.{living_calls_are_events, takes_are_event
 use Rattle.answer_laws.proofs.Servings.{S_of, alive_then, chosen_lives, gone_fades, gone_grows, got_in, got_push, moved_lawful, rests_untimed, said_in, said_push, short_before}
 use Rattle.answer_laws.proofs.TalkLaws.{Inv.Goes, Phase.Idle}
 use Rattle.answer_laws.proofs.TalkSteps.{attends_seen, unsome}
-use Rattle.answer_laws.proofs.ThreadRows.{row_polled_other, row_polled_own, row_settled}
+use Rattle.answer_laws.proofs.ThreadRows.{polled_other, polled_own, settled_with, RowWith, row_with}
 use Rattle.answer_laws.specs.Births.{is_send_of}
 use Rattle.answer_laws.specs.Clients.{texts_delivered, names_only, replies_of_step, sends_nothing}
 use Rattle.answer_laws.specs.Events.{machine_of}
 use Rattle.answer_laws.specs.Lengths.{is_short}
-use Rattle.answer_laws.specs.Served.{CanGoOn, LineServer, after_move, after_moves, is_move_due, steps_of}
+use Rattle.answer_laws.specs.Served.{CanGoOn, LineServer, after_move, after_moves, is_move_due, steps_of, IsPolledWith, polled_with}
 use Rattle.answer_laws.specs.Sights.{IsLeft, IsWoken, Sight, sight}
 use Rattle.answer_laws.specs.Stands.{AgentIs.Unmade, Becomes, HeardAs, Leaves, block_of, mail_letters, texts_in}
 use Rattle.answer_laws.specs.Talks.{Mail.Nothing, Stand.Hears}
@@ -123,7 +123,7 @@ module _ (s : ℕ) where
 module _ {B : Type 0} (setting : Setting B) (server : LineServer setting.next) (s : ℕ) where
   -- if it calls, the call is no letter
   abbrev pub IsQuiet : Live B → Type 0
-  IsQuiet live = choice live.pod.state ≡ Some s → live.pod.pending ≡ None → (b : SessionBody) (z : Answer) → row_of s live.rows ≡ Some (record { tid = s; body = server.serving b; answer = z })
+  IsQuiet live = choice live.pod.state ≡ Some s → live.pod.pending ≡ None → (b : SessionBody) (z : Answer) → IsPolledWith s live.rows (server.serving b) z
       → sends_nothing (session_next b (names_for_poll s live.names) z).0 ≡ true
 
   -- so it is of the calls among these moves
@@ -136,11 +136,15 @@ module _ {B : Type 0} (setting : Setting B) (server : LineServer setting.next) (
   quiet_behind (m ∷ ms) two session quiet = quiet_behind ms two (after_move setting session m) quiet.1
 
   -- the effects of its call
-  pub own_effects : (live : Live B) → choice live.pod.state ≡ Some s → (b : SessionBody) (z : Answer) → row_of s live.rows ≡ Some (record { tid = s; body = server.serving b; answer = z })
+  pub own_effects : (live : Live B) → choice live.pod.state ≡ Some s → (b : SessionBody) (z : Answer) → IsPolledWith s live.rows (server.serving b) z
       → (move setting.next setting.bodies live).effects ≡ (event_step live.pod (session_next b (names_for_poll s live.names) z).0).effects
   unfolding move call_move
-  own_effects live turn b z row = ap (λ o. (move_by setting.next setting.bodies live o).effects) turn ∙ ap (λ o. (move_row setting.next setting.bodies live s o).effects) row
+  own_effects live turn b z row = ap (λ o. (move_by setting.next setting.bodies live o).effects) turn ∙ ap (λ o. (move_row setting.next setting.bodies live s o).effects) (found row).found
+      ∙ ap (λ (p : B × Answer). (call_move setting.bodies live s (setting.next p.0 (names_for_poll s live.names) p.1)).effects) (found row).pair
       ∙ ap (λ (r : Polled B). (call_move setting.bodies live s r).effects) (server.serves b (names_for_poll s live.names) z)
+    where
+      found : IsPolledWith s live.rows (server.serving b) z → RowWith s (server.serving b) z (row_of s live.rows)
+      found h = row_with s (server.serving b) z (row_of s live.rows) h
 
   pub is_quiet_by : (live : Live B) → list_any (is_send_of s) (move setting.next setting.bodies live).effects ≡ false → IsQuiet live
   is_quiet_by live none turn free b z row = by_test (sends_nothing c) refl
@@ -215,12 +219,12 @@ module _ {B : Type 0} (setting : Setting B) (server : LineServer setting.next) (
       out = machine_of (event_step live.pod reply.0)
 
       abbrev rows2 : List (Row B)
-      rows2 = after_settle setting.bodies (proc_of reply.0) (event_step live.pod reply.0).effects (after_poll t reply.1 live.rows)
+      rows2 = after_settle setting.bodies (proc_of reply.0) (event_step live.pod reply.0).effects (after_poll t reply.1 reply.0 live.rows)
 
       other_call : Phase s s out.after (S_of setting server s k s_k rows2) Unpolled (λ b. got_in setting server s k s_k steps b ++ texts_in b None out.effects) (λ b. said_in setting server s k s_k steps b ++ replies_of_step s b out.effects)
       other_call = phase_other s s live.pod.state was (S_of setting server s k s_k live.rows) (S_of setting server s k s_k rows2) Unpolled Unpolled (got_in setting server s k s_k steps) (said_in setting server s k s_k steps) (λ b. texts_in b None out.effects) out (λ n. event_fades n live.pod reply.0)
           (λ b. (others_reply_nothing s b live.pod).0 t turn t_s reply.0) (λ b z. b)
-          (λ lives b z row. row_settled s setting.bodies (proc_of reply.0) out.effects (after_poll t reply.1 live.rows) (record { tid = s; body = server.serving b; answer = z }) (row_polled_other s t t_s reply.1 live.rows ∙ row)
+          (λ lives b z row. settled_with s setting.bodies (proc_of reply.0) out.effects (after_poll t reply.1 reply.0 live.rows) (server.serving b) z (polled_other s t t_s reply.1 reply.0 live.rows ∙ row)
           (alive_then live.pod.state out.after out.effects (call_moved live.pod was reply.0) s lives))
           (λ b z is. is) goes
           (λ seen lives. never_woken seen (living_is_left live.pod was t s turn t_s (attends_seen live.pod.state s block.Not (ap (λ (v : Sight). v.waits) seen) refl) (rests_untimed live.pod.state was s seen) (λ v. ap (λ (x : Sight). count_by (is_to v) x.letters) seen) reply.0 lives))
@@ -241,22 +245,22 @@ module _ {B : Type 0} (setting : Setting B) (server : LineServer setting.next) (
       next_s = session_next its.body (names_for_poll s live.names) its.answer
 
       reply_s : setting.next row.body (names_for_poll s live.names) row.answer ≡ (next_s.0, server.serving next_s.1, next_s.2)
-      reply_s = let same = unsome (sym found ∙ its.row) in (λ i. setting.next (same i).body (names_for_poll s live.names) (same i).answer) ∙ server.serves its.body (names_for_poll s live.names) its.answer
+      reply_s = let same = unsome (ap (option_map polled_with) (sym found) ∙ its.row) in (λ i. setting.next (same i).0 (names_for_poll s live.names) (same i).1) ∙ server.serves its.body (names_for_poll s live.names) its.answer
 
       abbrev out_s : Outcome
       out_s = machine_of (event_step live.pod next_s.0)
 
       abbrev rows_s : List (Row B)
-      rows_s = after_settle setting.bodies (proc_of next_s.0) (event_step live.pod next_s.0).effects (after_poll s (server.serving next_s.1) live.rows)
+      rows_s = after_settle setting.bodies (proc_of next_s.0) (event_step live.pod next_s.0).effects (after_poll s (server.serving next_s.1) next_s.0 live.rows)
 
       same_row : (b : SessionBody) (z : Answer) → S_of setting server s k s_k live.rows b z → (b ≡ its.body) × (z ≡ its.answer)
-      same_row b z is = let same = unsome (sym is ∙ its.row) in (server.one_session b its.body (ap (λ (r : Row B). r.body) same), ap (λ (r : Row B). r.answer) same)
+      same_row b z is = let same = unsome (sym is ∙ its.row) in (server.one_session b its.body (ap (λ (p : B × Answer). p.0) same), ap (λ (p : B × Answer). p.1) same)
 
       own_call : IsQuiet setting server s live → ((b : ℕ) → list_all is_short (got_in setting server s k s_k steps b) ≡ true) → eqb null_id live.pod.state.births ≡ false
           → Phase s s out_s.after (S_of setting server s k s_k rows_s) Unpolled (λ b. got_in setting server s k s_k steps b ++ texts_in b None out_s.effects) (λ b. said_in setting server s k s_k steps b ++ replies_of_step s b out_s.effects)
       own_call quiet short low = phase_own s s live.pod was turn (S_of setting server s k s_k live.rows) (S_of setting server s k s_k rows_s) Unpolled Unpolled (got_in setting server s k s_k steps) (said_in setting server s k s_k steps) its.body its.answer (names_for_poll s live.names) same_row
-          (λ lives. row_settled s setting.bodies (proc_of next_s.0) out_s.effects (after_poll s (server.serving next_s.1) live.rows) (record { tid = s; body = server.serving next_s.1; answer = its.answer })
-          (row_polled_own s (server.serving next_s.1) live.rows (record { tid = s; body = server.serving its.body; answer = its.answer }) its.row) (alive_then live.pod.state out_s.after out_s.effects (call_moved live.pod was next_s.0) s lives))
+          (λ lives. settled_with s setting.bodies (proc_of next_s.0) out_s.effects (after_poll s (server.serving next_s.1) next_s.0 live.rows) (server.serving next_s.1) its.answer
+          (polled_own s (server.serving next_s.1) next_s.0 live.rows (server.serving its.body) its.answer its.row) (alive_then live.pod.state out_s.after out_s.effects (call_moved live.pod was next_s.0) s lives))
           (λ b z is. is) short (λ free. sends_none s next_s.0 (eqb s s) (eq-eqb s s refl) (quiet turn free its.body its.answer its.row)) low lone
 
     -- ---- a call, whoever makes it
@@ -312,7 +316,7 @@ module _ {B : Type 0} (setting : Setting B) (server : LineServer setting.next) (
       take_phase : Phase s s out_t.after (S_of setting server s k s_k rows_t) Unpolled (λ b. got_in setting server s k s_k steps b ++ texts_in b (Some took.line.text) out_t.effects) (λ b. said_in setting server s k s_k steps b ++ replies_of_step s b out_t.effects)
       take_phase = phase_other s s live.pod.state was (S_of setting server s k s_k live.rows) (S_of setting server s k s_k rows_t) Unpolled Unpolled (got_in setting server s k s_k steps) (said_in setting server s k s_k steps) (λ b. texts_in b (Some took.line.text) out_t.effects) out_t (λ n. take_fades n live.pod took.event took.line.text)
           (λ b. (others_reply_nothing s b live.pod).1 took.event took.line.text) (λ b z. b)
-          (λ lives b z row. row_settled s setting.bodies None out_t.effects live.rows (record { tid = s; body = server.serving b; answer = z }) row (alive_then live.pod.state out_t.after out_t.effects (take_moved live.pod was took.event took.line.text may) s lives))
+          (λ lives b z row. settled_with s setting.bodies None out_t.effects live.rows (server.serving b) z row (alive_then live.pod.state out_t.after out_t.effects (take_moved live.pod was took.event took.line.text may) s lives))
           (λ b z is. is) goes
           (λ seen lives. never_woken seen (takes_leave_it live.pod was s (attends_seen live.pod.state s block.Not (ap (λ (v : Sight). v.waits) seen) refl) (rests_untimed live.pod.state was s seen) took.event took.line.text)) lone
         where

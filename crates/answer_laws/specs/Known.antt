@@ -1,4 +1,5 @@
 -- Whom the names of a script's threads stand for.
+use Rattle.answer_laws.specs.Served.{IsPolledWith}
 use Rattle.line_server.specs.Sessions.{SessionBody, session_next}
 use Rattle.lwp_types.specs.Names.{Names, id_at, null_id, null_names, names_for_poll}
 use Rattle.lwp_types.specs.State.{State}
@@ -7,12 +8,12 @@ use Rattle.lwp_types.specs.declared.call.Call.TheVariants as call
 use Rattle.lwp_types.specs.declared.call.PodParams.{PodParams}
 use Rattle.pod_runner.specs.Due.{IsDefined}
 use Rattle.pod_runner.specs.Play.{play}
-use Rattle.pod_runner.specs.Session.{Session, Setting, opening_session, row_of}
+use Rattle.pod_runner.specs.Session.{Session, Setting, opening_session}
 use Rattle.pod_runner.specs.declared.session.Took.{Took}
 use Rattle.script_body.specs.Bodies.{body_next}
 use Rattle.script_body.specs.declared.thread_body.ThreadBody.{ThreadBody}
 use Rattle.script_body.specs.declared.thread_body.ThreadBody.TheVariants.{Serving}
-use Rattle.std.specs.Prelude.{List, Some, ℕ, ◌<◌, ◌≡◌, ◌≤◌, ◌⊎◌}
+use Rattle.std.specs.Prelude.{List, ℕ, ◌<◌, ◌≡◌, ◌≤◌, ◌⊎◌}
 
 -- it is null, or the number of somebody born
 abbrev pub IsKnown : State → ℕ → Type 0
@@ -43,8 +44,7 @@ SessionsSendToTheBorn = (bodies : List ThreadBody) (params : PodParams) (names :
     → 1 ≤ params.maxpri → params.maxpri ≤ 255 → KnowsItsNames (opening_session (script_setting bodies params names))
     → (takes : List Took) (n : ℕ) → IsDefined (script_setting bodies params names) takes n
     → (s : ℕ) (body : SessionBody) (heard : Answer)
-    → row_of s (play (script_setting bodies params names) takes n).live.rows
-    ≡ Some (record { tid = s; body = Serving body; answer = heard })
+    → IsPolledWith s (play (script_setting bodies params names) takes n).live.rows (Serving body) heard
     → (to room : ℕ) (text : List ℕ)
     → (session_next body (names_for_poll s (play (script_setting bodies params names) takes n).live.names) heard).0
     ≡ call.Send to room text

@@ -1,4 +1,5 @@
 -- Sessions of pods in which a store and a client's session are among the threads.
+use Rattle.pod_runner.specs.declared.session.Row.{Row}
 use Rattle.answer_laws.specs.Clients.{IsAnsweredInTurn, Step, all_sends_to, texts_delivered}
 use Rattle.answer_laws.specs.Lengths.{is_short}
 use Rattle.answer_laws.specs.Sights.{sight}
@@ -62,10 +63,18 @@ steps_of steps = map step_of steps
 
 -- ---- where they begin
 
+-- what a thread is polled with next: its body, and its answer
+abbrev pub polled_with : {B : Type 0} → Row B → B × Answer
+polled_with row = (row.body, row.answer)
+
+-- the thread is polled with these next
+abbrev pub IsPolledWith : {B : Type 0} → ℕ → List (Row B) → B → Answer → Type 0
+IsPolledWith u rows body heard = option_map polled_with (row_of u rows) ≡ Some (body, heard)
+
 -- the thread has this body and was not polled yet; it waits for nothing, has the frame that it begins with, and has
 -- sent nothing
 pub record Begins {B : Type 0} (u : ℕ) (body : B) (live : Live B) : Type 0 where
-  pub row : row_of u live.rows ≡ Some (record { tid = u; body = body; answer = zero_answer })
+  pub row : IsPolledWith u live.rows body zero_answer
   pub thread : sight live.pod.state u ≡ record { waits = Some block.Not; marks = mark.Frame ∷ []; letters = [] }
 
 -- a session that begins here, with no steps so far
