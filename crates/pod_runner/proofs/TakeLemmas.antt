@@ -1,7 +1,10 @@
 -- Takes by their rows and texts.
-use Rattle.std.proofs.Common.{◌≡◌, ℕ, zero, suc, ◌<◌, List, [], ◌∷◌, ◌++◌, length, refl, ap, arith}
+use Rattle.std.proofs.Common.{◌≡◌, ◌==◌, ◌+◌, ◌∙◌, sym, ℕ, zero, suc, ◌<◌, List, [], ◌∷◌, ◌++◌, length, refl, ap, arith}
+use Rattle.lwp_types.specs.CountLaws.{count-cons, one}
 use Rattle.std.specs.Prelude.{slice_index_or}
-use Rattle.pod_runner.specs.Takes.{take_of, takes_of}
+use Rattle.pod_runner.specs.Snapshots.{taken_of}
+use Rattle.std.specs.List.{count_by}
+use Rattle.pod_runner.specs.Takes.{is_of, take_of, takes_of}
 use Rattle.pod_runner.specs.declared.session.Took.{Took}
 use Rattle.pod_runner.specs.declared.take_list.TakeRow.{TakeRow}
 
@@ -26,3 +29,13 @@ takes_at [] texts i row text d same within here there = absurd (omega (arith, wi
 takes_at (r ∷ rows) [] i row text d same within here there = absurd (omega (arith, same))
 takes_at (r ∷ rows) (t ∷ texts) zero row text d same within here there = rw (here, there) refl
 takes_at (r ∷ rows) (t ∷ texts) (suc i) row text d same within here there = takes_at rows texts i row text d (omega (arith, same)) (omega (arith, within)) here there
+
+-- as many takes of a client's lines as rows
+pub taken_rows : (c : ℕ) (rows : List TakeRow) (texts : List (List ℕ)) → length rows ≡ length texts
+    → taken_of (takes_of rows texts) c ≡ count_by (is_of c) rows
+taken_rows c [] texts same = refl
+taken_rows c (row ∷ rows) [] same = absurd (omega (arith, same))
+taken_rows c (row ∷ rows) (text ∷ texts) same =
+    count-cons (λ (took : Took). took.line.client == c) (take_of row text) (takes_of rows texts)
+    ∙ ap (λ n. one (row.client == c) + n) (taken_rows c rows texts (omega (arith, same)))
+    ∙ sym (count-cons (is_of c) row rows)

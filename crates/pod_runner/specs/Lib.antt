@@ -18,3 +18,4 @@ pub mod Laws
 pub mod SessionMoves
 pub mod Live
 pub mod Inlets
+pub mod Snapshots

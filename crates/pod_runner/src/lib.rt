@@ -28,6 +28,7 @@ mod playing;
 mod row_list;
 mod rows;
 mod session;
+mod snapshot;
 mod take_list;
 
 pub use drive::{go_round, run};

@@ -20,7 +20,7 @@ use trace_text::StepLines;
 
 /// A run of a program, seen as what it plays and how far it is; its session is the definition's.
 pub struct Run<'s, B: Body, P: Program<B>> {
-    parts: RunParts<'s, B>,
+    pub(crate) parts: RunParts<'s, B>,
     program: P,
     // The procedures' names, by number.
     procs: TextList,
@@ -29,8 +29,8 @@ pub struct Run<'s, B: Body, P: Program<B>> {
     mons: usize,
     conds: usize,
     turns: u64,
-    calls: u64,
-    takes: TakeList,
+    pub(crate) calls: u64,
+    pub(crate) takes: TakeList,
     failed: bool,
     // The lines of the last step, in memory that the next step's are put into.
     out: StepLines,

@@ -39,7 +39,8 @@ impl<'s, B> Model for RowList<'s, B> {
     ghost invariant = { λ l. IsTrue l.rising → AreRising l.rows.items };
 }
 
-fn copy_list(alloc: Global, list: &IdList) -> Result<IdList, NoMemory>
+/// The same numbers, in memory of their own.
+pub fn copy_list(alloc: Global, list: &IdList) -> Result<IdList, NoMemory>
     ensures { IfOk result (λ copy. copy ≡ list.now) }
 {
     let mut copy = IdList::new(alloc);
@@ -324,6 +325,18 @@ impl<'s, B> RowList<'s, B> {
         ensures { result ≡ length self.now.rows }
     {
         self.rows.len()
+    }
+
+    /// All rows.
+    pub fn as_slice(&self) -> &[Row<'s, B>]
+        ensures { result.now ≡ self.now.rows }
+    {
+        self.rows.as_slice()
+    }
+
+    /// Where the memory for the rows comes from.
+    pub fn allocator(&self) -> Global {
+        *self.rows.allocator()
     }
 
     /// The place of a thread's row, or how many rows there are.

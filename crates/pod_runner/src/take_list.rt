@@ -1,5 +1,8 @@
 // The lines that a run has taken.
 ghost use Rattle.std.specs.Prelude.{◌≡◌, ◌<◌, ◌∷◌, ◌++◌, [], length, slice_index_or, OnErr, OnOk};
+ghost use Rattle.std.specs.List.{count_by};
+ghost use Rattle.pod_runner.specs.Snapshots.{taken_of};
+ghost use Rattle.pod_runner.specs.Takes.{is_of};
 
 use crate::Took;
 use lists::TextList;
@@ -35,6 +38,19 @@ impl Model for TakeList {
     ghost invariant = { λ l. length l.rows.items ≡ length l.texts };
 }
 
+// How many rows there are of a client.
+fn rows_of(rows: &[TakeRow], client: usize) -> u64
+    ensures { result ≡ count_by (is_of client) rows.now }
+{
+    let mut count = 0;
+    for row in rows {
+        if row.client as usize == client {
+            count += 1;
+        }
+    }
+    count
+}
+
 impl TakeList {
     /// No takes.
     pub fn new(alloc: Global) -> TakeList
@@ -68,6 +84,13 @@ impl TakeList {
             },
             event: row.event,
         }
+    }
+
+    /// How many lines of a client there are.
+    pub fn count_of(&self, client: usize) -> u64
+        ensures { result ≡ taken_of self.now client }
+    {
+        rows_of(&self.rows, client)
     }
 
     /// One take more, at the end.
