@@ -341,8 +341,8 @@ module _ {B : Type 0} where
   row_born : (bodies : List B) (number : ℕ) (body : B) (t u : ℕ) (before rest : List Effect) (rows : List (Row B)) → slice_get bodies number ≡ Some body → count_by (is_died u) (before ++ effect.Answered t (answer.Thread u) ∷ rest) ≡ 0
       → is_some (row_of u (after_settle bodies (Some number) (before ++ effect.Answered t (answer.Thread u) ∷ rest) rows)) ≡ true
   row_born bodies number body t u [] rest rows is none =
-      row_settled bodies (Some number) rest (answered_row t (answer.Thread u) rows ++ rows_of_new u (slice_get bodies number)) u (omega (arith, none, count-cons (is_died u) (effect.Answered t (answer.Thread u)) rest))
-      (subst (λ o. is_some (row_of u (answered_row t (answer.Thread u) rows ++ rows_of_new u o)) ≡ true) (sym is) (row_last u (answered_row t (answer.Thread u) rows) _ refl))
+      row_settled bodies (Some number) rest (answered_row t (answer.Thread u) rows ++ rows_of_new u number (slice_get bodies number)) u (omega (arith, none, count-cons (is_died u) (effect.Answered t (answer.Thread u)) rest))
+      (subst (λ o. is_some (row_of u (answered_row t (answer.Thread u) rows ++ rows_of_new u number o)) ≡ true) (sym is) (row_last u (answered_row t (answer.Thread u) rows) _ refl))
   row_born bodies number body t u (e ∷ before) rest rows is none =
       row_born bodies number body t u before rest (after_settle_by bodies (Some number) e rows) is (omega (arith, none, count-cons (is_died u) e (before ++ effect.Answered t (answer.Thread u) ∷ rest)))
 
@@ -391,22 +391,22 @@ module _ {B : Type 0} (setting : Setting B) where
       }
     where
       by_before : (u : ℕ) → is_thread (event_step live.pod reply.0).after.state u ≡ true → count_by (is_died u) (event_step live.pod reply.0).effects ≡ 0 → u < (event_step live.pod reply.0).after.state.births
-          → (b : Bool) → is_thread live.pod.state u ≡ b → is_some (row_of u (after_settle bodies (proc_of reply.0) (event_step live.pod reply.0).effects (after_poll t reply.1 live.rows))) ≡ true
+          → (b : Bool) → is_thread live.pod.state u ≡ b → is_some (row_of u (after_settle bodies (proc_of reply.0) (event_step live.pod reply.0).effects (after_poll t reply.1 reply.0 live.rows))) ≡ true
       by_before u lives quiet low true e =
-          row_settled bodies (proc_of reply.0) (event_step live.pod reply.0).effects (after_poll t reply.1 live.rows) u quiet
-          (row_changed u t (λ (row : Row B). record row { body = reply.1 }) live.rows (λ row. refl) ∙ was.rows u e)
+          row_settled bodies (proc_of reply.0) (event_step live.pod reply.0).effects (after_poll t reply.1 reply.0 live.rows) u quiet
+          (row_changed u t (λ (row : Row B). record row { body = reply.1; called = true; call = reply.0 }) live.rows (λ row. refl) ∙ was.rows u e)
       by_before u lives quiet low false e = by_age (nat_le live.pod.state.births u) refl
         where
-          by_age : (b : Bool) → nat_le live.pod.state.births u ≡ b → is_some (row_of u (after_settle bodies (proc_of reply.0) (event_step live.pod reply.0).effects (after_poll t reply.1 live.rows))) ≡ true
+          by_age : (b : Bool) → nat_le live.pod.state.births u ≡ b → is_some (row_of u (after_settle bodies (proc_of reply.0) (event_step live.pod reply.0).effects (after_poll t reply.1 reply.0 live.rows))) ≡ true
           by_age false age =
               let off = (keeps_call u live.pod reply.0).fades.threads (leb-false live.pod.state.births u age) e in
               absurd (let bad : true ≡ false = sym lives ∙ off in cc)
           by_age true age =
               let w = event-bears live.pod t reply.0 u turn e (leb_true live.pod.state.births u age) low lives in
               let body = there bodies w.number (omega (arith, w.low, was.procs)) in
-              subst (λ o. is_some (row_of u (after_settle bodies o (event_step live.pod reply.0).effects (after_poll t reply.1 live.rows))) ≡ true) (sym w.is)
-              (subst (λ l. is_some (row_of u (after_settle bodies (Some w.number) l (after_poll t reply.1 live.rows))) ≡ true) (sym w.told)
-              (row_born bodies w.number body.0 t u w.before w.rest (after_poll t reply.1 live.rows) body.1 (subst (λ l. count_by (is_died u) l ≡ 0) w.told quiet)))
+              subst (λ o. is_some (row_of u (after_settle bodies o (event_step live.pod reply.0).effects (after_poll t reply.1 reply.0 live.rows))) ≡ true) (sym w.is)
+              (subst (λ l. is_some (row_of u (after_settle bodies (Some w.number) l (after_poll t reply.1 reply.0 live.rows))) ≡ true) (sym w.told)
+              (row_born bodies w.number body.0 t u w.before w.rest (after_poll t reply.1 reply.0 live.rows) body.1 (subst (λ l. count_by (is_died u) l ≡ 0) w.told quiet)))
             where
               leb_true : (m n : ℕ) → nat_le m n ≡ true → m ≤ n
               leb_true m n h = leb-true m n h
@@ -454,11 +454,11 @@ module _ {B : Type 0} (setting : Setting B) where
         record {
           lawful = Lawful-opening setting.params fit.least fit.most;
           procs = sym fit.bodies;
-          rows = λ u lives. subst (λ o. is_some (row_of u (rows_of_new 0 o)) ≡ true) (sym first.1) (alone u first.0 (0 == u) lives);
+          rows = λ u lives. subst (λ o. is_some (row_of u (rows_of_new 0 0 o)) ≡ true) (sym first.1) (alone u first.0 (0 == u) lives);
         }
       where
         first_row : B → Row B
-        first_row body = record { tid = 0; body = body; answer = zero_answer }
+        first_row body = record { tid = 0; proc = 0; body = body; answer = zero_answer; called = false; call = call.Return }
 
         alone : (u : ℕ) (body : B) (b : Bool) → is_some (cond b (Some (opening_thread setting.params.maxpri)) None) ≡ true → is_some (cond b (Some (first_row body)) None) ≡ true
         alone u body true lives = refl
