@@ -12,3 +12,4 @@ mod notes;
 mod silent;
 
 pub use answering::answers_main;
+pub use silent::Silent;

@@ -21,12 +21,12 @@ mod maker;
 mod plan;
 mod replaying;
 
-pub use answers::answers_main;
+pub use answers::{Silent, answers_main};
 pub use batches::batch_main;
 pub use command::top;
 pub use maker::{Order, Summary, made_spells, make_script, order_at, summary_lines};
 pub use plan::{is_over, make_main, plan_main, play_script};
-pub use replaying::{REPLAY_MAX, replay_main};
+pub use replaying::{Input, REPLAY_MAX, Told, read_input, replay_main, told_by};
 pub use script_body::{ScriptProgram, ThreadBody};
 pub use script_run::{LiveSession, no_gates, run_main};
 pub use script_session::{SCRIPT_MAX, Session, SessionEnd, Taken, TakenLines, fault_text};

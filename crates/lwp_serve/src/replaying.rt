@@ -13,4 +13,5 @@ mod input;
 mod told;
 
 pub use checked::replay_main;
-pub use input::REPLAY_MAX;
+pub use input::{Input, REPLAY_MAX, read_input};
+pub use told::{Told, told_by};

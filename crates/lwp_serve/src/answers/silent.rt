@@ -5,7 +5,7 @@ use lwp_types::{Failed, Sink};
 
 /// Takes all bytes and tells none.
 #[derive(Drop)]
-pub(crate) struct Silent {}
+pub struct Silent {}
 
 impl Sink for Silent {
     ghost use Rattle.std.specs.Prelude.{None};

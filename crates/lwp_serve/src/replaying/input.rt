@@ -18,9 +18,9 @@ pub const REPLAY_MAX: usize = 268_435_456;
 
 /// What was read, and where the script lies in it.
 #[derive(Drop)]
-pub(crate) struct Input {
-    pub(crate) text: Vec<u8>,
-    pub(crate) part: Part,
+pub struct Input {
+    pub text: Vec<u8>,
+    pub part: Part,
 }
 
 // How many bytes come before the first newline; all, where there is none.
@@ -87,7 +87,7 @@ fn script_in(text: &[u8]) -> Option<Part>
 }
 
 /// The input that a source holds, which is read to its end or one byte past what an input may have.
-pub(crate) fn read_input<S: Source>(alloc: Global, source: &mut S) -> Result<Input, SessionEnd>
+pub fn read_input<S: Source>(alloc: Global, source: &mut S) -> Result<Input, SessionEnd>
     ensures input { IfOk result (λ input. IsInput (S.left source.old) input.text.items input.part) }
     ensures within { IfOk result (λ input. LiesIn input.text.items input.part) }
     ensures up { OnOk result (IsReadUp 268435457 (S.left source.old) (S.left source.new)) }

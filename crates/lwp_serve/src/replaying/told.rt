@@ -18,11 +18,11 @@ use std::alloc::Global;
 
 /// What is told of a replay: how its session ends, the takes and calls of the verdict, and what is to be written.
 #[derive(Drop)]
-pub(crate) struct Told {
-    pub(crate) end: SessionEnd,
-    pub(crate) taken: TakeList,
-    pub(crate) turns: u64,
-    pub(crate) text: Vec<u8>,
+pub struct Told {
+    pub end: SessionEnd,
+    pub taken: TakeList,
+    pub turns: u64,
+    pub text: Vec<u8>,
 }
 
 fn add_text(out: &mut Vec<u8>, text: &[u8]) -> Result<(), NoMemory>
@@ -129,8 +129,8 @@ fn names_for(alloc: Global, script: &Script) -> Result<Env, NoMemory>
     Env::new(alloc, threads, mons, conds)
 }
 
-// What is told of recorded bytes and a script.
-fn told_by(alloc: Global, turns: u64, script: &Script, recorded: &[u8]) -> Result<Told, NoMemory>
+/// What is told of a script and recorded bytes.
+pub fn told_by(alloc: Global, turns: u64, script: &Script, recorded: &[u8]) -> Result<Told, NoMemory>
     requires within { IsWithinLimits script.now }
     requires posted { IsPosted script.now }
     ensures { IfOk result
