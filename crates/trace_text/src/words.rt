@@ -1,10 +1,11 @@
 // The words that lines are made of. Each function but those that answer a word puts its part at the end of the bytes so far.
-ghost use Rattle.std.specs.Prelude.{◌≡◌, ◌≤◌, ◌+◌, ◌++◌, IfOk, OnOk, length, take};
+ghost use Rattle.std.specs.Prelude.{◌≡◌, ◌≤◌, ◌+◌, ◌++◌, IfOk, None, OnOk, length, take};
 ghost use Rattle.std.specs.Fmt.{decimal};
-ghost use Rattle.trace_text.specs.Lines.{with_space, flags_text, mode_text, pattern_text, func_text};
+ghost use Rattle.trace_text.specs.Lines.{with_space, exit_text, flags_text, mode_text, pattern_text, func_text};
 
+use crate::calls::put_exit;
 use crate::rows::{put_flags, put_mode, put_number, put_pattern};
-use lwp_types::{Flags, Func, Mode, NoMemory, Pattern, Text};
+use lwp_types::{ExitCall, Flags, Func, Mode, NoMemory, Pattern, Text};
 
 /// A text as it is.
 pub fn add_text(out: &mut Vec<u8>, text: &[u8]) -> Result<(), NoMemory>
@@ -111,6 +112,20 @@ pub fn add_pattern(out: &mut Vec<u8>, pattern: Pattern) -> Result<(), NoMemory>
 {
     let from = open(out)?;
     let end = put_pattern(out.as_mut_slice(), from, pattern);
+    out.truncate(end);
+    Ok(())
+}
+
+// How many bytes what an exit procedure does takes at most.
+const EXIT_ROOM: usize = 270;
+
+/// What an exit procedure does, each thread by its number.
+pub fn add_exit(out: &mut Vec<u8>, call: &ExitCall) -> Result<(), NoMemory>
+    ensures { OnOk result (out.new.items ≡ out.old.items ++ exit_text None call.now) }
+{
+    let from = out.len();
+    out.resize(from + EXIT_ROOM, 0)?;
+    let end = put_exit(out.as_mut_slice(), from, None, call);
     out.truncate(end);
     Ok(())
 }
