@@ -20,15 +20,15 @@ use Rattle.script_advice.specs.declared.texts.Format.{Format}
 
 -- ---- The first.
 
-first_from : (d : Declared) (n : ℕ) (why : Reason) (lines : List (List ℕ)) (tail : List ℕ) → BeginsWith (from_first d n why lines tail) n why
-first_from d n why [] tail = (refl, refl)
-first_from d n why (line ∷ lines) tail = (refl, refl)
+first_from : (d : Declared) (above : List (List ℕ)) (n : ℕ) (why : Reason) (lines : List (List ℕ)) (tail : List ℕ) → BeginsWith (from_first d above n why lines tail) n why
+first_from d above n why [] tail = (refl, refl)
+first_from d above n why (line ∷ lines) tail = (refl, refl)
 
 first_at : (text : List ℕ) (n : ℕ) (why : Reason) → BeginsWith (errors_at text n why) n why
 unfolding errors_at
-first_at text n why = elim (eqb n 0) as (λ v. eqb n 0 ≡ v → BeginsWith (cond v (remark_of (declared_by text) 0 why [] ∷ []) (from_first (declared_by text) n why (drop (n - 1) (line_cut text).0) (line_cut text).1)) n why) [
+first_at text n why = elim (eqb n 0) as (λ v. eqb n 0 ≡ v → BeginsWith (cond v (remark_of (declared_by text) false 0 why [] ∷ []) (from_first (declared_by text) (take (n - 1) (line_cut text).0) n why (drop (n - 1) (line_cut text).0) (line_cut text).1)) n why) [
   | true ↦ λ e. (sym (eqb-true n 0 e), refl)
-  | false ↦ λ e. first_from (declared_by text) n why (drop (n - 1) (line_cut text).0) (line_cut text).1
+  | false ↦ λ e. first_from (declared_by text) (take (n - 1) (line_cut text).0) n why (drop (n - 1) (line_cut text).0) (line_cut text).1
 ] refl
 
 pub first_is : (text : List ℕ) → FirstIsReaders text

@@ -1,6 +1,7 @@
 -- The first wrong word of a line, and what is wrong with it.
-use Rattle.std.specs.Prelude.{ℕ, Bool, ◌&&◌, ◌||◌, ◌==◌, nat_le, List, [], ◌∷◌, length, take, drop, Option, Some, None, if◌then◌else◌}
-use Rattle.std.specs.List.{list_any}
+use Rattle.std.specs.Prelude.{ℕ, Bool, true, false, ◌&&◌, ◌||◌, ◌==◌, nat_le, List, [], ◌∷◌, length, take, drop, Option, Some, None, if◌then◌else◌}
+use Rattle.std.specs.Char.{is_ascii_digit}
+use Rattle.std.specs.List.{list_all, list_any}
 use Rattle.lwp_types.specs.TextFields.{is_printable, is_text}
 use Rattle.script_lines.specs.declared.table.Kind.{Kind}
 use Rattle.script_lines.specs.declared.table.Kind.TheVariants as kind
@@ -38,10 +39,32 @@ wrong other words = Some (fault_at words (what_of other (first_word words)))
 
 -- ---- The slots.
 
+-- a slot that a number may fill by itself
+abbrev pub takes_number : Kind → Bool
+takes_number kind.Number = true
+takes_number kind.Priority = true
+takes_number kind.Room = true
+takes_number kind.Client = true
+takes_number kind.Event = true
+takes_number kind.Mode = true
+takes_number kind.Pattern = true
+takes_number _ = false
+
+-- digits with a zero in front that could be left out
+abbrev pub is_padded : List ℕ → Bool
+is_padded [] = false
+is_padded (d ∷ []) = false
+is_padded (d ∷ e ∷ ds) = d == 48 && list_all is_ascii_digit (d ∷ e ∷ ds)
+
+-- what is wrong with a word in a slot that it doesn't fill
+unfoldable pub slot_what : Kind → List ℕ → What
+slot_what k w = if takes_number k && is_padded w then what.Zero else what.Slot k
+
 -- the fault of a slot that a word fills
 abbrev pub word_fault : Kind → List ℕ → Option Fault
 word_fault k [] = Some (fault_at [] what.Lacking)
-word_fault k (b ∷ words) = if fits k (first_word words) then None else wrong (what.Slot k) words
+word_fault k (b ∷ words) = if fits k (first_word words) then None
+    else wrong (slot_what k (first_word words)) words
 
 -- the fault of a text, which may be wanting
 abbrev pub text_fault : List ℕ → Option Fault

@@ -1,4 +1,5 @@
 pub mod Remarks
+pub mod Above
 pub mod Errors
 pub mod Texts
 pub mod Advice

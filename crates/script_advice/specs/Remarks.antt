@@ -4,6 +4,7 @@ use denote.Enum.Bare.{sameb}
 use Rattle.script_lines.specs.declared.table.Kind.TheVariants as kind
 use Rattle.script_lines.specs.declared.table.Op.{Op}
 use Rattle.script_lines.specs.declared.table.Op.TheVariants as op
+use Rattle.script_lines.specs.contracts.table.Op.{the_type as op_type}
 use Rattle.script_lines.specs.Phrase.{Phrase}
 use Rattle.script_lines.specs.Reading.{phrase_at}
 use Rattle.script_lines.specs.Table.{key_of, starts_any}
@@ -17,6 +18,8 @@ use Rattle.script_advice.specs.Forms.{nearest_op}
 use Rattle.script_advice.specs.Faults.{fault_of, key_at, op_of, slot_at}
 use Rattle.script_advice.specs.WhatTexts.{what_text}
 use Rattle.script_advice.specs.declared.faults.Fault.{Fault}
+use Rattle.script_advice.specs.declared.faults.What.{What}
+use Rattle.script_advice.specs.declared.faults.What.TheVariants as what
 use Rattle.script_advice.specs.declared.remarks.Cause.{Cause}
 use Rattle.script_advice.specs.declared.remarks.Cause.TheVariants as cause
 use Rattle.script_advice.specs.declared.remarks.Doubt.{Doubt}
@@ -105,6 +108,9 @@ cause_text (cause.Doubted d) = doubt_text d
 abbrev pub why_text : Why → List ℕ
 why_text (why.Form w) = what_text w
 why_text why.Undeclared = codes "a procedure that nothing declares"
+why_text why.Taken = codes "a procedure of this name is declared above"
+why_text why.NoClient = codes "no client above has this number"
+why_text why.AfterAgain = codes "a statement after the again that ends its procedure"
 why_text (why.Rule r) = rule_text r
 why_text (why.Doubted d) = doubted_text d
 
@@ -124,21 +130,40 @@ is_of_text _ = false
 abbrev pub starts_nothing : Declared → Reason → Phrase → Bool
 starts_nothing d r p = sameb reason_type r reason.Statement && not (is_declared d p)
 
+-- which part of its rule a line of this kind breaks, where a line above declares what it names or none does
+abbrev pub broken_rule : Reason → Op → Bool → Why
+broken_rule reason.Proc o above = if above then why.Taken else why.Rule reason.Proc
+broken_rule reason.Native o above = if above then why.Taken else why.Rule reason.Native
+broken_rule reason.Post o above = if above then why.Rule reason.Post else why.NoClient
+broken_rule reason.Again o above = if sameb op_type o op.Again then why.Rule reason.Again else why.AfterAgain
+broken_rule r o above = why.Rule r
+
+-- the line from the word on that is wrong for this
+abbrev pub words_at : Why → Op → List ℕ → List ℕ
+words_at why.Undeclared o line = slot_at o kind.Procedure line
+words_at why.Taken o line = slot_at o kind.Procedure line
+words_at why.NoClient o line = slot_at o kind.Client line
+words_at _ o line = line
+
+-- a line of this kind that is bad for this
+abbrev pub place_by : Why → Op → List ℕ → Place
+place_by w o line = place_at (length (words_at w o line)) w
+
 -- a line whose form is right: it breaks a rule, or starts a procedure that nothing declares
-abbrev pub place_of_phrase : Declared → Reason → List ℕ → Option Phrase → Place
-place_of_phrase d r line None = place_at (length line) (why.Rule r)
-place_of_phrase d r line (Some p) =
-    if starts_nothing d r p then place_at (length (slot_at p.op kind.Procedure line)) why.Undeclared
-    else place_at (length line) (why.Rule r)
+abbrev pub place_of_phrase : Declared → Bool → Reason → List ℕ → Option Phrase → Place
+place_of_phrase d above r line None = place_at (length line) (why.Rule r)
+place_of_phrase d above r line (Some p) =
+    place_by (if starts_nothing d r p then why.Undeclared else broken_rule r p.op above) p.op line
 
 -- a line that has this fault, or none
-abbrev pub fault_place : Declared → Reason → List ℕ → Option Fault → Place
-fault_place d r line None = place_of_phrase d r line (phrase_at line)
-fault_place d r line (Some f) = place_at f.left (why.Form f.what)
+abbrev pub fault_place : Declared → Bool → Reason → List ℕ → Option Fault → Place
+fault_place d above r line None = place_of_phrase d above r line (phrase_at line)
+fault_place d above r line (Some f) = place_at f.left (why.Form f.what)
 
 -- the end of the line where it or the text ends too early, and else the first wrong word
-unfoldable pub place_of : Declared → Reason → List ℕ → Place
-place_of d r line = if is_of_text r then place_at 0 (why.Rule r) else fault_place d r line (fault_of line)
+unfoldable pub place_of : Declared → Bool → Reason → List ℕ → Place
+place_of d above r line = if is_of_text r then place_at 0 (why.Rule r)
+    else fault_place d above r line (fault_of line)
 
 -- ---- The word that is nearly there.
 
@@ -160,6 +185,13 @@ abbrev pub near_key : List ℕ → Option Op → List ℕ
 near_key line None = key_or_none (nearest_op (key_at line))
 near_key line (Some o) = []
 
+-- the key that the line's is nearly; none, where the wrong byte is no part of a word
+abbrev pub near_form : What → List ℕ → List ℕ
+near_form what.Tab line = []
+near_form what.Return line = []
+near_form what.Byte line = []
+near_form _ line = near_key line (op_of line)
+
 -- the declared procedure that is nearly the one that the line starts
 abbrev pub near_procedure : Declared → Option Phrase → List ℕ
 near_procedure d None = []
@@ -168,8 +200,11 @@ near_procedure d (Some p) = word_or_none (or_else (nearest (some_names d.procs) 
 
 -- the word that the wrong one is nearly, if that is wrong
 unfoldable pub near_of : Declared → Why → List ℕ → List ℕ
-near_of d (why.Form w) line = near_key line (op_of line)
+near_of d (why.Form w) line = near_form w line
 near_of d why.Undeclared line = near_procedure d (phrase_at line)
+near_of d why.Taken line = []
+near_of d why.NoClient line = []
+near_of d why.AfterAgain line = []
 near_of d (why.Rule r) line = []
 near_of d (why.Doubted x) line = []
 
@@ -189,13 +224,14 @@ wanted_op _ line = likely_op line
 unfoldable pub form_of : Reason → List ℕ → Option Op
 form_of r line = if is_of_text r then None else wanted_op r line
 
--- what is told of a bad line, in a text that declares these procedures
-abbrev pub remark_of : Declared → ℕ → Reason → List ℕ → Remark
-remark_of d n r line = record {
+-- what is told of a bad line, in a text that declares these procedures, where a line above declares what it names or
+-- none does
+abbrev pub remark_of : Declared → Bool → ℕ → Reason → List ℕ → Remark
+remark_of d above n r line = record {
   line = n;
   cause = cause.Bad r;
   text = line;
-  place = place_of d r line;
+  place = place_of d above r line;
   form = form_of r line;
-  near = near_of d (place_of d r line).why line;
+  near = near_of d (place_of d above r line).why line;
 }

@@ -41,4 +41,5 @@ what_text what.UpperCase = codes "an upper-case letter: words and names are in l
 what_text what.Unknown = codes "no line begins so"
 what_text what.Lacking = codes "a word is missing"
 what_text what.More = codes "a word too many"
+what_text what.Zero = codes "a zero in front: a number has none"
 what_text (what.Slot k) = kind_text k

@@ -1,19 +1,22 @@
 // The errors of a text are told: its first bad line, and the lines behind it that are bad by themselves.
-ghost use Rattle.std.specs.Prelude.{◌≡◌, ◌++◌, ◌<◌, None, IfOk, OnOk, List, take};
+ghost use Rattle.std.specs.Prelude.{◌≡◌, ◌++◌, ◌∷◌, ◌<◌, None, IfOk, OnOk, List, suc, take};
 ghost use Rattle.script_lines.specs.Reading.{phrase_at};
 ghost use Rattle.script_text.specs.Spelling.{line_cut, reason_of};
 ghost use Rattle.script_text.specs.declared.stage.Stage.TheVariants as stage;
 ghost use Rattle.script_advice.specs.Errors.{alone, end_remarks, errors_at, later, with_error};
+ghost use Rattle.script_advice.specs.Above.{told_after, told_with, untold};
 ghost use Rattle.script_advice.specs.Remarks.{Remark, remark_of};
 ghost use Rattle.script_advice.specs.Texts.{remark_text, remarks_text};
 
+use crate::above::any_declares;
 use crate::known::Known;
 use crate::lines::{behind_lines, first_line};
 use crate::remarks::remark_of;
 use crate::texts::{Format, add_remark};
+use crate::told::Told;
 use lwp_types::NoMemory;
 use script_lines::{is_printable, phrase_at, reach};
-use script_text::Reason;
+use script_text::{NameList, Reason};
 use std::alloc::Global;
 
 // The reason of a line that says nothing, among statements.
@@ -37,10 +40,10 @@ fn unsaid_reason(line: &[u8]) -> Reason
     }
 }
 
-// Why a line is bad wherever it stands.
+// Why a line is bad wherever it stands, where these undeclared procedures were told.
 #[tactic(auto, unfolding(crate::specs::Errors::alone))]
-fn alone(known: &Known, line: &[u8]) -> Option<Reason>
-    ensures { result ≡ alone known.now line.now }
+fn alone(known: &Known, told: &NameList, line: &[u8]) -> Option<Reason>
+    ensures { result ≡ alone known.now told.now line.now }
 {
     if !is_printable(line) {
         return Some(Reason::Bytes);
@@ -48,7 +51,7 @@ fn alone(known: &Known, line: &[u8]) -> Option<Reason>
     let Some(phrase) = phrase_at(line) else {
         return Some(unsaid_reason(line));
     };
-    if known.allows(&phrase) {
+    if known.allows(&phrase) || told.contains(phrase.procedure) {
         None
     } else {
         Some(Reason::Statement)
@@ -60,41 +63,50 @@ fn add_error(
     out: &mut Vec<u8>,
     format: Format,
     known: &Known,
+    above: bool,
     number: u32,
     reason: Reason,
     line: &[u8],
 ) -> Result<(), NoMemory>
     ensures { OnOk result
         (out.new.items
-        ≡ out.old.items ++ remark_text format (remark_of known.now number reason line.now)) }
+        ≡ out.old.items
+        ++ remark_text format (remark_of known.now above number reason line.now)) }
 {
-    let remark = remark_of(known, number, reason, line);
+    let remark = remark_of(known, above, number, reason, line);
     add_remark(out, format, &remark)
 }
 
-// Tells why a line is bad, if it is bad by itself. Gives how many more errors may be told then.
+// Tells why a line is bad, if it is bad by itself, and notes it. Gives how many more errors may be told then.
 fn add_alone(
     out: &mut Vec<u8>,
     format: Format,
     known: &Known,
+    told: &mut Told,
     number: u32,
     line: &[u8],
     left: u32,
 ) -> Result<u32, NoMemory>
     requires { 0 < left }
-    ensures { IfOk result
+    ensures out { IfOk result
         (λ after.
         (others : List Remark) →
         out.old.items
         ++ remarks_text format
         (take left
-        (with_error known.now number line.now (alone known.now line.now) others))
+        (with_error known.now number line.now
+        (alone known.now told.old.undeclared line.now) others))
         ≡ out.new.items ++ remarks_text format (take after others)) }
+    ensures told { OnOk result
+        (told.new
+        ≡ told_after known.now told.old line.now
+        (alone known.now told.old.undeclared line.now)) }
 {
-    let Some(reason) = alone(known, line) else {
+    let Some(reason) = alone(known, &told.undeclared, line) else {
         return Ok(left);
     };
-    add_error(out, format, known, number, reason, line)?;
+    add_error(out, format, known, false, number, reason, line)?;
+    told.note(known, reason, line)?;
     Ok(left - 1)
 }
 
@@ -114,14 +126,15 @@ fn add_unended(
     if left == 0 || tail.is_empty() {
         return Ok(());
     }
-    add_error(out, format, known, number, Reason::Unended, tail)
+    add_error(out, format, known, false, number, Reason::Unended, tail)
 }
 
-// Tells the errors of these lines, of which the first has this number, and no more than so many.
+// Tells the errors of these lines, of which the first has this number, and no more than so many. All this was told above.
 fn add_later(
     out: &mut Vec<u8>,
     format: Format,
     known: &Known,
+    told: &mut Told,
     first: u32,
     text: &[u8],
     most: u32,
@@ -130,7 +143,7 @@ fn add_later(
         (out.new.items
         ≡ out.old.items
         ++ remarks_text format
-        (take most (later known.now first (line_cut text.now).0 (line_cut text.now).1))) }
+        (take most (later known.now told.old first (line_cut text.now).0 (line_cut text.now).1))) }
 {
     let mut number = first;
     let mut rest = text;
@@ -139,11 +152,46 @@ fn add_later(
         if left == 0 {
             return Ok(());
         }
-        left = add_alone(out, format, known, number, line, left)?;
+        let seen = told.seen(line);
+        left = add_alone(out, format, known, told, number, seen, left)?;
         number = number.checked_add(1).ok_or(NoMemory)?;
         rest = after;
     }
     add_unended(out, format, known, number, rest, left)
+}
+
+fn next_number(number: u32) -> Result<u32, NoMemory>
+    ensures { IfOk result (λ n. n ≡ suc number) }
+{
+    number.checked_add(1).ok_or(NoMemory)
+}
+
+// Tells the first bad line of a text, for this reason, and then the errors of those after it, a thousand together.
+fn add_from_first(
+    alloc: Global,
+    out: &mut Vec<u8>,
+    format: Format,
+    known: &Known,
+    above: bool,
+    number: u32,
+    reason: Reason,
+    bad: &[u8],
+    after: &[u8],
+) -> Result<(), NoMemory>
+    ensures { OnOk result
+        (out.new.items
+        ≡ out.old.items
+        ++ remarks_text format
+        (take 1000
+        (remark_of known.now above number reason bad.now
+        ∷ later known.now (told_with known.now untold reason bad.now) (suc number)
+        (line_cut after.now).0 (line_cut after.now).1))) }
+{
+    add_error(out, format, known, above, number, reason, bad)?;
+    let mut told = Told::new(alloc);
+    told.note(known, reason, bad)?;
+    let next = next_number(number)?;
+    add_later(out, format, known, &mut told, next, after, 999)
 }
 
 /// Tells the first thousand errors of a text whose first bad line is this, for this reason.
@@ -162,13 +210,12 @@ pub fn add_errors(
 {
     let known = Known::by(alloc, text)?;
     if line == 0 {
-        return add_error(out, format, &known, 0, reason, &[]);
+        return add_error(out, format, &known, false, 0, reason, &[]);
     }
     let rest = behind_lines(line - 1, text);
     let Some((bad, after)) = first_line(rest) else {
-        return add_error(out, format, &known, line, reason, rest);
+        return add_error(out, format, &known, false, line, reason, rest);
     };
-    add_error(out, format, &known, line, reason, bad)?;
-    let number = line.checked_add(1).ok_or(NoMemory)?;
-    add_later(out, format, &known, number, after, 999)
+    let above = any_declares(reason, line - 1, text, bad);
+    add_from_first(alloc, out, format, &known, above, line, reason, bad, after)
 }

@@ -1,9 +1,10 @@
 // The first wrong word of a line, and what is wrong with it.
 ghost use Rattle.std.specs.Prelude.{◌≡◌, Some, take, drop};
-ghost use Rattle.std.specs.List.{list_any};
+ghost use Rattle.std.specs.Char.{is_ascii_digit};
+ghost use Rattle.std.specs.List.{list_all, list_any};
 ghost use Rattle.script_lines.specs.Table.{is_half, key_length};
 ghost use Rattle.script_lines.specs.Reading.{first_word};
-ghost use Rattle.script_advice.specs.Faults.{behind_slot, behind_word, byte_what, end_fault, fault_at, fault_of, form_fault, from_slot, from_unprintable, front_fault, is_upper, key_at, op_of, opens_comment, second_fault, slot_at, slot_fault, slots_fault, text_fault, what_of, word_fault, wrong};
+ghost use Rattle.script_advice.specs.Faults.{behind_slot, behind_word, byte_what, end_fault, fault_at, fault_of, form_fault, from_slot, from_unprintable, front_fault, is_upper, key_at, op_of, opens_comment, second_fault, slot_at, slot_fault, slot_what, slots_fault, takes_number, is_padded, text_fault, what_of, word_fault, wrong};
 ghost use Rattle.script_advice.specs.Faults.{rest_fault};
 ghost use Rattle.script_advice.specs.Slots.{is_built, is_test};
 ghost use Rattle.script_lines.specs.declared.table.Kind.TheVariants as kind;
@@ -35,6 +36,8 @@ pub enum What {
     Lacking,
     /// The line goes on where it has to end.
     More,
+    /// A number with a zero in front.
+    Zero,
     /// What stands in this slot may not stand there.
     Slot(Kind),
 }
@@ -86,6 +89,50 @@ fn wrong(other: What, words: &[u8]) -> Option<Fault>
     fault_at(words, what_of(other, first_word(words)))
 }
 
+// Whether a number may fill the slot by itself.
+fn takes_number(kind: Kind) -> bool
+    ensures { result ≡ takes_number kind }
+{
+    matches!(
+        kind,
+        Kind::Number
+            | Kind::Priority
+            | Kind::Room
+            | Kind::Client
+            | Kind::Event
+            | Kind::Mode
+            | Kind::Pattern
+    )
+}
+
+fn are_digits(word: &[u8]) -> bool
+    ensures { result ≡ list_all is_ascii_digit word.now }
+{
+    word.iter().all(|b| 48 <= *b && *b <= 57)
+}
+
+// Whether the word is of digits, with a zero in front that could be left out.
+fn is_padded(word: &[u8]) -> bool
+    ensures { result ≡ is_padded word.now }
+{
+    match word {
+        [first, _, ..] => *first == b'0' && are_digits(word),
+        _ => false,
+    }
+}
+
+// What is wrong with a word in a slot that it doesn't fill.
+#[tactic(auto, unfolding(crate::specs::Faults::slot_what))]
+fn slot_what(kind: Kind, word: &[u8]) -> What
+    ensures { result ≡ slot_what kind word.now }
+{
+    if takes_number(kind) && is_padded(word) {
+        What::Zero
+    } else {
+        What::Slot(kind)
+    }
+}
+
 // The fault of a slot that a word fills.
 fn word_fault(kind: Kind, rest: &[u8]) -> Option<Fault>
     ensures { result ≡ word_fault kind rest.now }
@@ -93,10 +140,11 @@ fn word_fault(kind: Kind, rest: &[u8]) -> Option<Fault>
     match rest {
         [] => fault_at(rest, What::Lacking),
         [_, words @ ..] => {
-            if fits(kind, first_word(words)) {
+            let word = first_word(words);
+            if fits(kind, word) {
                 None
             } else {
-                wrong(What::Slot(kind), words)
+                wrong(slot_what(kind, word), words)
             }
         }
     }
@@ -294,8 +342,8 @@ fn form_fault(op: Option<Op>, line: &[u8]) -> Option<Fault>
     }
 }
 
-// The bytes from the first on that isn't printable.
-fn from_unprintable(line: &[u8]) -> &[u8]
+/// The bytes from the first on that isn't printable.
+pub fn from_unprintable(line: &[u8]) -> &[u8]
     ensures { result.now ≡ from_unprintable line.now }
 {
     let mut rest = line;

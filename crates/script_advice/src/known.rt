@@ -3,6 +3,7 @@ ghost use Rattle.std.specs.Prelude.{◌≡◌};
 ghost use Rattle.script_text.specs.Declaring.{native_on, only_name, proc_on, spaced_word};
 
 use crate::lines::first_line;
+use crate::told::without_return;
 use lwp_types::NoMemory;
 use script_lines::{Phrase, is_name, reach};
 use script_text::NameList;
@@ -40,8 +41,8 @@ fn only_name(word: &[u8]) -> &[u8]
     if is_name(word) { word } else { &[] }
 }
 
-// The procedure of statements that a line declares, or the empty word.
-fn proc_on(line: &[u8]) -> &[u8]
+/// The procedure of statements that a line declares, or the empty word.
+pub fn proc_on(line: &[u8]) -> &[u8]
     ensures { result.now ≡ proc_on line.now }
 {
     match line {
@@ -58,8 +59,8 @@ fn spaced_word(words: &[u8]) -> &[u8]
     if rest.is_empty() { &[] } else { word }
 }
 
-// The built-in procedure that a line declares, or the empty word.
-fn native_on(line: &[u8]) -> &[u8]
+/// The built-in procedure that a line declares, or the empty word.
+pub fn native_on(line: &[u8]) -> &[u8]
     ensures { result.now ≡ native_on line.now }
 {
     match line {
@@ -71,8 +72,7 @@ fn native_on(line: &[u8]) -> &[u8]
 impl Known {
     ghost use Rattle.std.specs.Prelude.{◌≡◌, OnOk, IfOk};
     ghost use Rattle.script_text.specs.Grammar.{has, is_declared, nothing};
-    ghost use Rattle.script_text.specs.Spelling.{after_note};
-    ghost use Rattle.script_advice.specs.Errors.{declared_by};
+    ghost use Rattle.script_advice.specs.Errors.{declared_after, declared_by};
 
     fn new(alloc: Global) -> Known
         ensures { result ≡ nothing }
@@ -83,10 +83,11 @@ impl Known {
         }
     }
 
-    // Notes what a line declares.
+    // Notes what a line declares, whether or not a carriage return ends it.
     fn note(&mut self, line: &[u8]) -> Result<(), NoMemory>
-        ensures { OnOk result (self.new ≡ after_note self.old line.now) }
+        ensures { OnOk result (self.new ≡ declared_after self.old line.now) }
     {
+        let line = without_return(line);
         self.procs.enter(proc_on(line))?;
         self.natives.enter(native_on(line))
     }

@@ -2,9 +2,11 @@
 //!
 //! `check` reads a text and writes what is told of it. Where the text spells no script, its first bad line is told, with the reader's
 //! number and reason, and behind it each line that is bad by itself: the line, its first wrong word, what is wrong with that, what may
-//! stand there, and a known word that it nearly is. Where it spells one, lines are told that are allowed and hardly meant. No more than a
-//! thousand lines are told. `no_errors_where_spelt`, `first_error_is_the_readers` and `errors_are_told` are laws: errors are told exactly
-//! where `script_text` refuses a text, and the first of them is its own.
+//! stand there, and a known word that it nearly is. An undeclared procedure is told once, and so is a carriage return that ends lines
+//! (`told`); what the lines above the first bad one declare says which part of a rule it breaks (`above`). Where the text spells a script,
+//! lines are told that are allowed and hardly meant. No more than a thousand lines are told. `no_errors_where_spelt`,
+//! `first_error_is_the_readers` and `errors_are_told` are laws: errors are told exactly where `script_text` refuses a text, and the first
+//! of them is its own.
 //!
 //! What is wrong in a line by itself is a matter of `faults`, with `slots`, `forms`, `near` and `what_texts`. A line that isn't the text
 //! of a phrase has a first word that may not stand where it does, or ends too early. `fault_of` finds it, going over the slots of the
@@ -15,6 +17,7 @@
 //! `trace_text`, and reads and writes by `streams`.
 #![tactic(auto)]
 
+mod above;
 mod advice;
 mod ahead;
 mod checking;
@@ -31,6 +34,7 @@ mod remarks;
 mod sets;
 mod slots;
 mod texts;
+mod told;
 mod way;
 mod what_texts;
 

@@ -1,7 +1,7 @@
 // What is told of a line: where, what stands there, and what may.
 ghost use Rattle.std.specs.Prelude.{◌≡◌};
 ghost use Rattle.script_lines.specs.Reading.{phrase_at};
-ghost use Rattle.script_advice.specs.Remarks.{cause_text, doubt_text, doubted_text, fault_place, form_of, is_of_text, key_or_none, likely_op, near_key, near_of, near_procedure, place_at, place_of, reason_text, remark_of, rule_text, place_of_phrase, severity_text, starts_nothing, why_text};
+ghost use Rattle.script_advice.specs.Remarks.{cause_text, doubt_text, doubted_text, fault_place, form_of, is_of_text, key_or_none, likely_op, near_form, near_key, near_of, near_procedure, place_at, place_of, reason_text, remark_of, rule_text, place_of_phrase, severity_text, starts_nothing, why_text, broken_rule, place_by, words_at};
 
 use crate::faults::{Fault, What, fault_of, key_at, op_of, slot_at};
 use crate::forms::nearest_op;
@@ -49,6 +49,12 @@ pub enum Why {
     Form(What),
     /// The procedure that the line starts is declared by none.
     Undeclared,
+    /// A line above declares a procedure of the name that this one declares.
+    Taken,
+    /// No line above declares the client that the line posts for.
+    NoClient,
+    /// The statement comes after the `again` that ends its procedure.
+    AfterAgain,
     /// The form is right, and the line, or the text, breaks the rule that has this name.
     Rule(Reason),
     /// The line is good, and hardly meant.
@@ -205,6 +211,9 @@ pub fn why_text(why: Why) -> &'static [u8]
     match why {
         Why::Form(what) => what_text(what),
         Why::Undeclared => b"a procedure that nothing declares",
+        Why::Taken => b"a procedure of this name is declared above",
+        Why::NoClient => b"no client above has this number",
+        Why::AfterAgain => b"a statement after the again that ends its procedure",
         Why::Rule(reason) => rule_text(reason),
         Why::Doubted(doubt) => doubted_text(doubt),
     }
@@ -225,45 +234,82 @@ fn is_of_text(reason: Reason) -> bool
     matches!(reason, Reason::TooLarge | Reason::Unended | Reason::Missing)
 }
 
-// Whether a line is bad for the procedure that it starts.
-fn starts_nothing(known: &Known, reason: Reason, phrase: &Phrase<'_>) -> bool
+/// Whether a line is bad for the procedure that it starts.
+pub fn starts_nothing(known: &Known, reason: Reason, phrase: &Phrase<'_>) -> bool
     ensures { result ≡ starts_nothing known.now reason phrase.now }
 {
     reason == Reason::Statement && !known.allows(phrase)
 }
 
-// A line whose form is right.
-fn place_of_phrase(known: &Known, reason: Reason, line: &[u8]) -> Place
-    ensures { result ≡ place_of_phrase known.now reason line.now (phrase_at line.now) }
+// Which part of its rule a line of this kind breaks, where a line above declares what it names or none does.
+fn broken_rule(reason: Reason, op: Op, above: bool) -> Why
+    ensures { result ≡ broken_rule reason op above }
 {
-    if let Some(phrase) = phrase_at(line) {
-        if starts_nothing(known, reason, &phrase) {
-            let left = slot_at(phrase.op, Kind::Procedure, line).len();
-            return place_at(left, Why::Undeclared);
-        }
+    match reason {
+        Reason::Proc | Reason::Native if above => Why::Taken,
+        Reason::Post if !above => Why::NoClient,
+        Reason::Again if op != Op::Again => Why::AfterAgain,
+        _ => Why::Rule(reason),
     }
-    place_at(line.len(), Why::Rule(reason))
+}
+
+// The line from the word on that is wrong for this.
+fn words_at(why: Why, op: Op, line: &[u8]) -> &[u8]
+    ensures { result.now ≡ words_at why op line.now }
+{
+    match why {
+        Why::Undeclared | Why::Taken => slot_at(op, Kind::Procedure, line),
+        Why::NoClient => slot_at(op, Kind::Client, line),
+        _ => line,
+    }
+}
+
+// A line of this kind that is bad for this.
+fn place_by(why: Why, op: Op, line: &[u8]) -> Place
+    ensures { result ≡ place_by why op line.now }
+{
+    place_at(words_at(why, op, line).len(), why)
+}
+
+// A line whose form is right.
+fn place_of_phrase(known: &Known, above: bool, reason: Reason, line: &[u8]) -> Place
+    ensures { result ≡ place_of_phrase known.now above reason line.now (phrase_at line.now) }
+{
+    let Some(phrase) = phrase_at(line) else {
+        return place_at(line.len(), Why::Rule(reason));
+    };
+    if starts_nothing(known, reason, &phrase) {
+        place_by(Why::Undeclared, phrase.op, line)
+    } else {
+        place_by(broken_rule(reason, phrase.op, above), phrase.op, line)
+    }
 }
 
 // A line that has this fault, or none.
-fn fault_place(known: &Known, reason: Reason, line: &[u8], fault: Option<Fault>) -> Place
-    ensures { result ≡ fault_place known.now reason line.now fault }
+fn fault_place(
+    known: &Known,
+    above: bool,
+    reason: Reason,
+    line: &[u8],
+    fault: Option<Fault>,
+) -> Place
+    ensures { result ≡ fault_place known.now above reason line.now fault }
 {
     match fault {
-        None => place_of_phrase(known, reason, line),
+        None => place_of_phrase(known, above, reason, line),
         Some(fault) => place_at(fault.left, Why::Form(fault.what)),
     }
 }
 
 // The end of the line where it or the text ends too early, and else the first wrong word.
 #[tactic(auto, unfolding(crate::specs::Remarks::place_of))]
-fn place_of(known: &Known, reason: Reason, line: &[u8]) -> Place
-    ensures { result ≡ place_of known.now reason line.now }
+fn place_of(known: &Known, above: bool, reason: Reason, line: &[u8]) -> Place
+    ensures { result ≡ place_of known.now above reason line.now }
 {
     if is_of_text(reason) {
         return place_at(0, Why::Rule(reason));
     }
-    fault_place(known, reason, line, fault_of(line))
+    fault_place(known, above, reason, line, fault_of(line))
 }
 
 // ---- The word that is nearly there.
@@ -284,6 +330,16 @@ fn near_key(line: &[u8], op: Option<Op>) -> &'static [u8]
     match op {
         None => key_or_none(nearest_op(key_at(line))),
         Some(_) => &[],
+    }
+}
+
+// The key that the line's is nearly; none, where the wrong byte is no part of a word.
+fn near_form(what: What, line: &[u8]) -> &'static [u8]
+    ensures { result.now ≡ near_form what line.now }
+{
+    match what {
+        What::Tab | What::Return | What::Byte => &[],
+        _ => near_key(line, op_of(line)),
     }
 }
 
@@ -312,9 +368,9 @@ fn near_of<'k>(known: &'k Known, why: Why, line: &[u8]) -> &'k [u8]
     ensures { result.now ≡ near_of known.now why line.now }
 {
     match why {
-        Why::Form(_) => near_key(line, op_of(line)),
+        Why::Form(what) => near_form(what, line),
         Why::Undeclared => near_procedure(known, line),
-        Why::Rule(_) | Why::Doubted(_) => &[],
+        _ => &[],
     }
 }
 
@@ -345,11 +401,17 @@ fn form_of(reason: Reason, line: &[u8]) -> Option<Op>
     }
 }
 
-/// What is told of a bad line, in a text that declares these procedures.
-pub fn remark_of<'t>(known: &'t Known, line: u32, reason: Reason, text: &'t [u8]) -> Remark<'t>
-    ensures { result ≡ remark_of known.now line reason text.now }
+/// What is told of a bad line, in a text that declares these procedures, where a line above declares what it names or none does.
+pub fn remark_of<'t>(
+    known: &'t Known,
+    above: bool,
+    line: u32,
+    reason: Reason,
+    text: &'t [u8],
+) -> Remark<'t>
+    ensures { result ≡ remark_of known.now above line reason text.now }
 {
-    let place = place_of(known, reason, text);
+    let place = place_of(known, above, reason, text);
     Remark {
         line,
         cause: Cause::Bad(reason),

@@ -45,6 +45,7 @@ pub fn what_text(what: What) -> &'static [u8]
         What::Unknown => b"no line begins so",
         What::Lacking => b"a word is missing",
         What::More => b"a word too many",
+        What::Zero => b"a zero in front: a number has none",
         What::Slot(kind) => kind_text(kind),
     }
 }

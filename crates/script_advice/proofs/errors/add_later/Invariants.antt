@@ -6,8 +6,8 @@ use Rattle.script_advice.proofs.errors.add_later.Given as goal
 
 abbrev pub invariant-loop-line : goal.invariant-loop-line
 invariant-loop-line l =
-    l.out.items ++ remarks_text l.format (take l.left (later l.known l.number (line_cut l.rest).0 (line_cut l.rest).1))
-    ≡ l.initial.out.items ++ remarks_text l.format (take l.most (later l.known l.first (line_cut l.text).0 (line_cut l.text).1))
+    l.out.items ++ remarks_text l.format (take l.left (later l.known l.told l.number (line_cut l.rest).0 (line_cut l.rest).1))
+    ≡ l.initial.out.items ++ remarks_text l.format (take l.most (later l.known l.initial.told l.first (line_cut l.text).0 (line_cut l.text).1))
 
 abbrev pub decreases-loop-line : goal.decreases-loop-line
 decreases-loop-line l = length l.rest
