@@ -64,10 +64,7 @@ fn note_of<'s, B>(alloc: Global, row: &Row<'s, B>) -> Result<ThreadNote<'s>, NoM
 }
 
 // The same of all live threads.
-fn notes_of<'s, B>(
-    alloc: Global,
-    rows: &[Row<'s, B>],
-) -> Result<Sequence<ThreadNote<'s>>, NoMemory>
+fn notes_of<'s, B>(alloc: Global, rows: &[Row<'s, B>]) -> Result<Sequence<ThreadNote<'s>>, NoMemory>
     ensures { IfOk result (λ notes. notes ≡ map note_of rows.now) }
 {
     let mut notes = Sequence::new(alloc);

@@ -23,5 +23,6 @@ pub use ends::{Halt, end_lines};
 pub use lines::trace_line;
 pub use step_lines::StepLines;
 pub use words::{
-    add_exit, add_flags, add_mode, add_number, add_pattern, add_spaced, add_spaced_text, add_text, func_word,
+    add_exit, add_flags, add_mode, add_number, add_pattern, add_spaced, add_spaced_text, add_text,
+    func_word,
 };

@@ -130,7 +130,12 @@ fn names_for(alloc: Global, script: &Script) -> Result<Env, NoMemory>
 }
 
 /// What is told of a script and recorded bytes.
-pub fn told_by(alloc: Global, turns: u64, script: &Script, recorded: &[u8]) -> Result<Told, NoMemory>
+pub fn told_by(
+    alloc: Global,
+    turns: u64,
+    script: &Script,
+    recorded: &[u8],
+) -> Result<Told, NoMemory>
     requires within { IsWithinLimits script.now }
     requires posted { IsPosted script.now }
     ensures { IfOk result
