@@ -20,3 +20,5 @@ mod spoken;
 mod traces;
 #[cfg(test)]
 mod words;
+#[cfg(test)]
+mod states;

@@ -1,0 +1,6 @@
+pub mod Blocked
+pub mod Covering
+pub mod Finding
+pub mod KeyLaws
+pub mod Rounds
+pub mod Telling
