@@ -1,0 +1,5 @@
+pub mod AlongLaws
+pub mod ClientLaws
+pub mod LineLaws
+pub mod PlanLaws
+pub mod ReplayLaws

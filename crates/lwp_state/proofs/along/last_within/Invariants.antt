@@ -1,0 +1,10 @@
+use Rattle.std.proofs.Common.{◌+◌, ◌-◌}
+use Rattle.lwp_state.proofs.AlongLaws.{Counting}
+use Rattle.lwp_state.specs.Along.{moment_at}
+use Rattle.lwp_state.proofs.along.last_within.Given as goal
+
+abbrev pub invariant-loop-end : goal.invariant-loop-end
+invariant-loop-end g l = Counting g.B.Body.next g.P.Program.bodies g.P.Program.proc_names (moment_at l.takes l.end) l.initial.run l.run l.here l.most l.lines
+
+abbrev pub decreases-loop-end : goal.decreases-loop-end
+decreases-loop-end g l = (l.end.takes - l.here.takes) + (l.end.calls - l.here.calls)
