@@ -2,10 +2,10 @@
 //!
 //! There is a table for each program, a row a line: a name, the file that the program reads, the file with the text that is wanted, the
 //! status that is wanted, and the program's words. `data/rows` is for `lwpserve`, whose input is a script, the parts of a batch or the
-//! input of a replay; `data/view_rows` is for `lwpview`, and `data/check_rows` for `lwpcheck`. Each row is run over streams in memory
-//! through what its program is made of: `lwp_serve::top`, `trace_page::view`, and `script_advice::check` or, with the word `--print`,
-//! `script_printer::copy`. One line is printed for it: `same`, or else the first line that differs, or the status where all lines are
-//! the same. `compare` is proved to say so. What the files hold no contract can say.
+//! input of a replay; `data/view_rows` is for `lwpview`, `data/check_rows` for `lwpcheck`, and `data/state_rows` for `lwpstate`. Each row
+//! is run over streams in memory through what its program is made of: `lwp_serve::top`, `trace_page::view`, `script_advice::check` or,
+//! with the word `--print`, `script_printer::copy`, and `lwp_state::top`. One line is printed for it: `same`, or else the first line
+//! that differs, or the status where all lines are the same. `compare` is proved to say so. What the files hold no contract can say.
 //!
 //! How the text is compared is said by the last part of its file's name:
 //!
@@ -33,6 +33,7 @@ mod outcome;
 mod printing;
 mod row;
 mod serve;
+mod state;
 mod table;
 mod verdict;
 mod view;
@@ -60,5 +61,6 @@ fn print_tables<R: Threads + Wait + Sync>(rt: &HostRuntime, threads: &R) -> io::
     let checked = print_rows(rt, threads, Tool::Check)?;
     print_count(rt, "many", many_lines(rt.alloc()))?;
     print_count(rt, "too_large", too_large(rt.alloc()))?;
-    Ok(served && viewed && checked)
+    let stated = print_rows(rt, threads, Tool::State)?;
+    Ok(served && viewed && checked && stated)
 }

@@ -5,6 +5,7 @@ use crate::outcome::Outcome;
 use crate::printing::{io_error, print_verdict};
 use crate::row::{Row, row_of};
 use crate::serve::served;
+use crate::state::stated;
 use crate::verdict::{Verdict, compare, ending};
 use crate::view::viewed;
 use lwp_types::NoMemory;
@@ -19,6 +20,7 @@ pub enum Tool {
     Serve,
     View,
     Check,
+    State,
 }
 
 // The file with the rows for a program.
@@ -27,6 +29,7 @@ fn table_of(tool: Tool) -> &'static str {
         Tool::Serve => "rows",
         Tool::View => "view_rows",
         Tool::Check => "check_rows",
+        Tool::State => "state_rows",
     }
 }
 
@@ -86,6 +89,7 @@ fn outcome_of<R: Threads + Wait + Sync>(
         Tool::Serve => served(alloc, threads, row, given),
         Tool::View => viewed(alloc, &row.words, given),
         Tool::Check => checked(alloc, &row.words, given),
+        Tool::State => stated(alloc, &row.words, given),
     }
 }
 
