@@ -1,5 +1,5 @@
-# Completion for bash: the words and options of lwpserve, lwpview and lwpcheck. tools/install puts it where bash-completion looks for it;
-# without that, `source tools/completion.bash`.
+# Completion for bash: the words and options of lwpserve, lwpview, lwpcheck and lwpstate. tools/install puts it where bash-completion looks
+# for it; without that, `source tools/completion.bash`.
 
 # The words of lwpserve; behind them stand numbers alone, which nothing can complete.
 _loqzemar_lwpserve() {
@@ -19,6 +19,13 @@ _loqzemar_lwpcheck() {
   [ "$COMP_CWORD" -ne 1 ] || mapfile -t COMPREPLY < <(compgen -W '--json --print --help --version' -- "$2")
 }
 
+# The words of lwpstate; after them stands a number.
+_loqzemar_lwpstate() {
+  COMPREPLY=()
+  [ "$COMP_CWORD" -ne 1 ] || mapfile -t COMPREPLY < <(compgen -W 'plan replay --help --version' -- "$2")
+}
+
 complete -F _loqzemar_lwpserve lwpserve
 complete -F _loqzemar_lwpview lwpview
 complete -F _loqzemar_lwpcheck lwpcheck
+complete -F _loqzemar_lwpstate lwpstate
