@@ -17,8 +17,8 @@ mod servers;
 #[cfg(test)]
 mod spoken;
 #[cfg(test)]
+mod states;
+#[cfg(test)]
 mod traces;
 #[cfg(test)]
 mod words;
-#[cfg(test)]
-mod states;

@@ -220,16 +220,30 @@ fn add_parts(state: &mut StateCopy) -> Result<(), NoMemory> {
     for number in [0, 1, 2] {
         state.monitors.push(number)?;
     }
-    state.timers.push(TimerRow { tid: tid(7), due: 8 })?;
-    state.timers.push(TimerRow { tid: tid(3), due: 9 })?;
+    state.timers.push(TimerRow {
+        tid: tid(7),
+        due: 8,
+    })?;
+    state.timers.push(TimerRow {
+        tid: tid(3),
+        due: 9,
+    })?;
     state.locks.push(lock(1, 3, 1))?;
     state.locks.push(lock(0, 2, 2))?;
     let mon = Mid { number: 1 };
-    state.requests.push(Request { mon, tid: tid(2), depth: 3 })?;
+    state.requests.push(Request {
+        mon,
+        tid: tid(2),
+        depth: 3,
+    })?;
     let number = Cid { number: 0 };
     let mon = Mid { number: 2 };
     state.conditions.push(CondRow { number, mon })?;
-    state.waits.push(WaitRow { cond: number, tid: tid(6), depth: 1 })?;
+    state.waits.push(WaitRow {
+        cond: number,
+        tid: tid(6),
+        depth: 1,
+    })?;
     state.agents.push(agent(4, 5, 2, false))?;
     state.agents.push(agent(5, 6, 3, true))
 }
@@ -252,14 +266,20 @@ fn every_kind(alloc: Global) -> Result<Vec<u8>, NoMemory> {
     snap.taken.push(2)?;
     let clients = [
         ClientLines { event: 5, posts: 3 },
-        ClientLines { event: 31, posts: 9 },
+        ClientLines {
+            event: 31,
+            posts: 9,
+        },
     ];
     state_text(alloc, &snap, &names(alloc)?, &clients)
 }
 
 fn stuck(alloc: Global) -> Result<Vec<u8>, NoMemory> {
     let mut snap = no_session(alloc);
-    snap.pod.state.threads.push(thread(alloc, 0, 1, Block::Joining(tid(0))))?;
+    snap.pod
+        .state
+        .threads
+        .push(thread(alloc, 0, 1, Block::Joining(tid(0))))?;
     snap.threads.push(note(0, 0))?;
     let clients = [ClientLines { event: 3, posts: 1 }];
     state_text(alloc, &snap, &names(alloc)?, &clients)
