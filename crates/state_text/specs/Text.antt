@@ -17,6 +17,7 @@ use Rattle.lwp_types.specs.declared.rows.Mark.{Mark}
 use Rattle.lwp_types.specs.declared.rows.Request.{Request}
 use Rattle.lwp_types.specs.declared.rows.TimerRow.{TimerRow}
 use Rattle.lwp_types.specs.declared.rows.WaitRow.{WaitRow}
+use Rattle.pod_events.specs.Copies.{events_in}
 use Rattle.pod_events.specs.Events.{EventState, is_takeable}
 use Rattle.pod_events.specs.Machine.{current_of}
 use Rattle.snapshots.specs.Copies.{state_in}
@@ -183,15 +184,6 @@ client_lines taken c (client ∷ clients) = client_line taken c client ++ client
 abbrev pub cycle_line : List ℕ → List ℕ
 cycle_line ts = codes "cycle" ++ (thread_words ts ++ codes "\n")
 
--- the pod and the events that it keeps for itself
-abbrev pub events_in : PodCopy → EventState
-events_in pod = record {
-  state = state_in pod.state;
-  trapped = pod.trapped;
-  pending = pod.pending;
-  reports = pod.reports;
-}
-
 -- some client, counted from c, has a line left that can be taken
 abbrev pub is_wanted : EventState → List ℕ → ℕ → List ClientLines → Bool
 is_wanted es taken c [] = false
@@ -202,10 +194,10 @@ is_wanted es taken c (client ∷ clients) = (nat_lt (taken_of taken c) client.po
 abbrev pub is_stuck : EventState → List ℕ → List ClientLines → Bool
 is_stuck es taken clients = is_none (choice es.state) && not (is_wanted es taken 0 clients)
 
--- how the session is over, if it is so
-abbrev pub end_line : EventState → List ℕ → List ClientLines → List ℕ
-end_line es taken clients = if es.state.ended then codes "ended " ++ (decimal es.state.status ++ codes "\n")
-    else if is_stuck es taken clients then codes "stuck\n" else []
+-- how the session is over, if it is so; that it is stuck is left out where its trace is not read so far
+abbrev pub end_line : Bool → EventState → List ℕ → List ClientLines → List ℕ
+end_line whole es taken clients = if es.state.ended then codes "ended " ++ (decimal es.state.status ++ codes "\n")
+    else if whole && is_stuck es taken clients then codes "stuck\n" else []
 
 -- the events that a pod keeps for itself
 abbrev pub event_lines : PodCopy → List ℕ
@@ -220,10 +212,11 @@ pod_lines procs notes pod = let s = state_in pod.state in
     ++ (flat_map (monitor_lines s) s.monitors
     ++ (flat_map (condition_lines s) s.conditions ++ event_lines pod)))
 
--- the text of a session's state, with the procedures' names and the lines that each client posts
-abbrev pub state_text : List (List ℕ) → List ClientLines → Snapshot → List ℕ
-state_text procs clients snap = let s = state_in snap.pod.state in
+-- the text of a session's state, with the procedures' names and the lines that each client posts; the session's trace is
+-- read to its end, or not
+abbrev pub state_text : Bool → List (List ℕ) → List ClientLines → Snapshot → List ℕ
+state_text whole procs clients snap = let s = state_in snap.pod.state in
     whole_line snap.calls s
     ++ (pod_lines procs snap.threads snap.pod
     ++ (client_lines snap.taken 0 clients
-    ++ (flat_map cycle_line (cycles s) ++ end_line (events_in snap.pod) snap.taken clients)))
+    ++ (flat_map cycle_line (cycles s) ++ end_line whole (events_in snap.pod) snap.taken clients)))

@@ -1,9 +1,10 @@
 // The whole text.
 ghost use Rattle.std.specs.Prelude.{◌≡◌, ◌++◌, IfOk, OnOk, codes, map};
 ghost use Rattle.std.specs.List.{flat_map};
+ghost use Rattle.pod_events.specs.Copies.{events_in};
 ghost use Rattle.snapshots.specs.Copies.{row_in, state_in};
 ghost use Rattle.state_text.specs.Tables.{AreTables};
-ghost use Rattle.state_text.specs.Text.{end_line, event_lines, events_in, is_stuck, pod_lines, state_text, thread_lines, thread_words, trapped_words, whole_line, words_line};
+ghost use Rattle.state_text.specs.Text.{end_line, event_lines, is_stuck, pod_lines, state_text, thread_lines, thread_words, trapped_words, whole_line, words_line};
 
 use crate::clients::{ClientLines, add_clients};
 use crate::cycles::add_cycles;
@@ -129,29 +130,31 @@ fn add_end(
     tables: &Tables,
     taken: &Sequence<u64>,
     clients: &[ClientLines],
+    whole: bool,
 ) -> Result<(), NoMemory>
     requires { AreTables pod.now.state tables.now }
-    ensures { OnOk result (out.new.items ≡ out.old.items ++ end_line (events_in pod.now) taken.now clients.now) }
+    ensures { OnOk result (out.new.items ≡ out.old.items ++ end_line whole (events_in pod.now) taken.now clients.now) }
 {
     if pod.state.ended {
         add_word_number(out, b"ended ", u64::from(pod.state.status))?;
         return add_text(out, b"\n");
     }
-    if is_stuck(alloc, pod, tables, taken, clients)? {
+    if whole && is_stuck(alloc, pod, tables, taken, clients)? {
         return add_text(out, b"stuck\n");
     }
     Ok(())
 }
 
 /// The text of a session's state. `procs` are the procedures' names, by number, and `clients` the clients of the session, each with how
-/// many lines it posts in all.
+/// many lines it posts in all. That the session is stuck is told only where its trace is read to its end: `whole` says so.
 pub fn state_text(
     alloc: Global,
     snap: &Snapshot,
     procs: &TextList,
     clients: &[ClientLines],
+    whole: bool,
 ) -> Result<Vec<u8>, NoMemory>
-    ensures { IfOk result (λ text. text.items ≡ state_text procs.now clients.now snap.now) }
+    ensures { IfOk result (λ text. text.items ≡ state_text whole procs.now clients.now snap.now) }
 {
     let pod = &snap.pod;
     let tables = Tables::of(alloc, pod)?;
@@ -167,6 +170,6 @@ pub fn state_text(
     )?;
     add_clients(&mut out, clients, &snap.taken)?;
     add_cycles(alloc, &mut out, pod, &tables)?;
-    add_end(alloc, &mut out, pod, &tables, &snap.taken, clients)?;
+    add_end(alloc, &mut out, pod, &tables, &snap.taken, clients, whole)?;
     Ok(out)
 }

@@ -9,7 +9,8 @@ ghost use Rattle.pod_events.specs.Events.{is_takeable, is_trapped};
 ghost use Rattle.pod_events.specs.Machine.{current_of};
 ghost use Rattle.snapshots.specs.Copies.{state_in};
 ghost use Rattle.state_text.specs.Tables.{AreEventKeys, AreTables};
-ghost use Rattle.state_text.specs.Text.{events_in, is_wanted};
+ghost use Rattle.pod_events.specs.Copies.{events_in};
+ghost use Rattle.state_text.specs.Text.{is_wanted};
 
 use crate::clients::{ClientLines, taken_of};
 use crate::keys::Keys;

@@ -271,7 +271,7 @@ fn every_kind(alloc: Global) -> Result<Vec<u8>, NoMemory> {
             posts: 9,
         },
     ];
-    state_text(alloc, &snap, &names(alloc)?, &clients)
+    state_text(alloc, &snap, &names(alloc)?, &clients, true)
 }
 
 fn stuck(alloc: Global) -> Result<Vec<u8>, NoMemory> {
@@ -282,14 +282,14 @@ fn stuck(alloc: Global) -> Result<Vec<u8>, NoMemory> {
         .push(thread(alloc, 0, 1, Block::Joining(tid(0))))?;
     snap.threads.push(note(0, 0))?;
     let clients = [ClientLines { event: 3, posts: 1 }];
-    state_text(alloc, &snap, &names(alloc)?, &clients)
+    state_text(alloc, &snap, &names(alloc)?, &clients, true)
 }
 
 fn over(alloc: Global) -> Result<Vec<u8>, NoMemory> {
     let mut snap = no_session(alloc);
     snap.pod.state.ended = true;
     snap.pod.state.status = 9;
-    state_text(alloc, &snap, &names(alloc)?, &[])
+    state_text(alloc, &snap, &names(alloc)?, &[], true)
 }
 
 #[test]

@@ -1,4 +1,5 @@
-use Rattle.state_text.specs.Text.{events_in, is_wanted}
+use Rattle.pod_events.specs.Copies.{events_in}
+use Rattle.state_text.specs.Text.{is_wanted}
 use Rattle.std.proofs.Common.{drop, ◌≡◌}
 use Rattle.state_text.proofs.turns.is_wanted.Given as goal
 
