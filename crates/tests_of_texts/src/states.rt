@@ -51,6 +51,13 @@ cycle t0
 stuck
 ";
 
+// The same, where the trace is not read to its end.
+const HELD_UP: &[u8] = b"calls 0 now 0 maxpri 1 exit 0
+t0 main prio 1 joins t0
+client 0 event 3 taken 0 left 1
+cycle t0
+";
+
 const OVER: &[u8] = b"calls 0 now 0 maxpri 1 exit 9
 ended 9
 ";
@@ -274,7 +281,7 @@ fn every_kind(alloc: Global) -> Result<Vec<u8>, NoMemory> {
     state_text(alloc, &snap, &names(alloc)?, &clients, true)
 }
 
-fn stuck(alloc: Global) -> Result<Vec<u8>, NoMemory> {
+fn stuck(alloc: Global, whole: bool) -> Result<Vec<u8>, NoMemory> {
     let mut snap = no_session(alloc);
     snap.pod
         .state
@@ -282,7 +289,7 @@ fn stuck(alloc: Global) -> Result<Vec<u8>, NoMemory> {
         .push(thread(alloc, 0, 1, Block::Joining(tid(0))))?;
     snap.threads.push(note(0, 0))?;
     let clients = [ClientLines { event: 3, posts: 1 }];
-    state_text(alloc, &snap, &names(alloc)?, &clients, true)
+    state_text(alloc, &snap, &names(alloc)?, &clients, whole)
 }
 
 fn over(alloc: Global) -> Result<Vec<u8>, NoMemory> {
@@ -299,6 +306,7 @@ fn tells_every_kind_of_line(rt: HostRuntime) {
 
 #[test]
 fn tells_how_a_session_is_over(rt: HostRuntime) {
-    assert!(rt; matches!(stuck(rt.alloc()), Ok(text) if text.as_slice() == STUCK));
+    assert!(rt; matches!(stuck(rt.alloc(), true), Ok(text) if text.as_slice() == STUCK));
+    assert!(rt; matches!(stuck(rt.alloc(), false), Ok(text) if text.as_slice() == HELD_UP));
     assert!(rt; matches!(over(rt.alloc()), Ok(text) if text.as_slice() == OVER));
 }
