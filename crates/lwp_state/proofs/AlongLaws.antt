@@ -1,5 +1,5 @@
 -- Steps on the way to a moment.
-use Rattle.lwp_state.specs.Along.{CallsNext, IsLastWithin, IsOnWay, IsStep, IsThere, TakesNext, moment_at, moment_now, moment_of}
+use Rattle.lwp_state.specs.Along.{CallsNext, IsLastWithin, IsOnWay, IsStep, IsThere, TakesNext, lines_by, moment_at, moment_now, moment_of}
 use Rattle.streams.specs.Counting.{Counting as Counted}
 use Rattle.lwp_state.specs.declared.along.Reach.{Reach}
 use Rattle.lwp_types.specs.Choice.{choice}
@@ -289,6 +289,16 @@ module _ {B P : Type 0} (next : Next B) (bodies : P → List B) where
         subst (λ (m : Moment). IsLastWithin (run.setting_of next bodies old) (proc_names old.program) most (moment_at takes end) m) (sym (moment-here takes end here now fits g.on g.takes g.calls))
         (subst (λ (s : Setting B). IsLastWithin s (proc_names old.program) most (moment_at takes end) (moment_now now)) (setting-on old now g.same)
         (subst (λ (p : P). IsLastWithin (run.setting_of next bodies now) (proc_names p) most (moment_at takes end) (moment_now now)) g.same.program h))
+
+    -- how many lines were written by then
+    pub told-here : (takes : List Took) (end here : Reach) (old now : Played P) (most : ℕ) (held : Counted) → end.takes ≤ length takes → Counting (moment_at takes end) old now here most held
+        → line_count held.bytes ≡ lines_by (run.setting_of next bodies old) (proc_names old.program) (moment_at takes here)
+    told-here takes end here old now most held fits g =
+        subst (λ (m : Moment). line_count held.bytes ≡ lines_by (run.setting_of next bodies old) (proc_names old.program) m)
+        (sym (moment-here takes end here now fits g.going.on g.going.takes g.going.calls))
+        (subst (λ (s : Setting B). line_count held.bytes ≡ lines_by s (proc_names old.program) (moment_now now)) (setting-on old now g.going.same)
+        (subst (λ (p : P). line_count held.bytes ≡ lines_by (run.setting_of next bodies now) (proc_names p) (moment_now now)) g.going.same.program
+        (ap line_count g.bytes)))
 
     -- it stops at the end of the way
     pub stops-there : (takes : List Took) (end here : Reach) (old now : Played P) (most : ℕ) (held : Counted) → end.takes ≤ length takes → Counting (moment_at takes end) old now here most held → here ≡ end

@@ -24,7 +24,7 @@ use Rattle.script_session.specs.declared.session.SessionEnd.{SessionEnd}
 use Rattle.script_session.specs.declared.session.SessionEnd.TheVariants as end
 use Rattle.script_text.specs.declared.script.Script.{Script}
 use Rattle.snapshots.specs.declared.session.Snapshot.{Snapshot}
-use Rattle.std.proofs.Common.{List, [], ap, inl, inr, refl, subst, sym, ℕ, ◌∙◌, ◌≡◌, ◌⊎◌}
+use Rattle.std.proofs.Common.{List, [], ap, inl, inr, refl, subst, sym, true, ℕ, ◌∙◌, ◌≡◌, ◌⊎◌}
 use Rattle.streams.specs.Streams.{IsFaultless, IsFaulty, IsQuiet, Stream}
 use Rattle.streams.specs.Writing.{AppendsPart}
 
@@ -90,10 +90,10 @@ plan-shown calls source sink script session h (inr shown) = by shown.0 shown.1 s
     made : ℕ
     made = calls_of script calls
 
-    planned : (ends : SessionEnd) (text : List ℕ) → IsStateOf script takes made text → IsPlanned calls script (outcome_of ends takes made) text
+    planned : (ends : SessionEnd) (text : List ℕ) → IsStateOf true script takes made text → IsPlanned calls script (outcome_of ends takes made) text
     planned ends text state = record { made = refl; taken = refl; state = state }
 
-    by : (text : List ℕ) → IsStateOf script takes made text → IsToldBy end.Reported takes made text sink session → IsStateAfterPlan calls source sink session
+    by : (text : List ℕ) → IsStateOf true script takes made text → IsToldBy end.Reported takes made text sink session → IsStateAfterPlan calls source sink session
     by text state (inl t) = plan-of calls source sink end.Reported takes made session t.0 (
       read-of source script end.Stuck h tt,
       (h.faultless, says-all source.old script (λ (x : Script). IsWritten (IsPlanned calls x (outcome_of end.Reported takes made)) sink) h.holds (t.1, (text, planned end.Reported text state, t.2))),

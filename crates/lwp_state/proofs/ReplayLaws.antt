@@ -7,7 +7,7 @@ use Rattle.lwp_serve.specs.Replaying.Input.{recorded_in, script_in}
 use Rattle.lwp_serve.specs.Replaying.Replay.{HoldsBad, asked_of}
 use Rattle.lwp_serve.specs.Replaying.Texts.{end_of, text_of}
 use Rattle.lwp_serve.specs.declared.replaying.told.Told.{Told}
-use Rattle.lwp_state.specs.Along.{IsLastWithin, IsOnWay, moment_at, moment_of}
+use Rattle.lwp_state.specs.Along.{IsLastWithin, IsOnWay, lines_by, moment_at, moment_of}
 use Rattle.lwp_state.specs.Replay.{IsFound, IsReplayed, IsShown, IsShownOf, IsStateAt, IsStateInReplay, IsVerdict, ReplaySays, differs_within, lines_asked}
 use Rattle.lwp_state.specs.Shown.{IsCut, IsStateOf, IsToldBy, IsWritten}
 use Rattle.lwp_state.specs.declared.along.Reach.{Reach}
@@ -39,7 +39,7 @@ use Rattle.script_text.specs.declared.script.Script.{Script}
 use Rattle.std.proofs.Common.{Bool, Err, List, None, Ok, Option, Some, [], ap, arith, false, inl, inr, length, length-append, map, refl, subst, sym, take, true, ℕ, ◌++◌, ◌+◌, ◌∙◌, ◌≡◌, ◌≤◌, ◌⊎◌}
 use Rattle.std.proofs.Math.Seq.{take-length}
 use Rattle.std.proofs.lemmas.List.{length-map}
-use Rattle.std.specs.Prelude.{MatchBool, slice_index_or}
+use Rattle.std.specs.Prelude.{nat_lt, MatchBool, slice_index_or}
 use Rattle.streams.specs.Limited.{IsReadUp, IsReadWithin}
 use Rattle.streams.specs.Streams.{IsFaultless, IsFaulty, IsQuiet, Stream}
 
@@ -99,6 +99,13 @@ last-of script n takes calls end reach r is some made h =
     subst (λ (to : Moment). IsLastWithin (setting_of script) (proc_names script) n to (moment_at takes reach)) (whole-moment takes calls end some made)
     (subst (λ (x : Played Script). IsLastWithin (run.setting_of body_next bodies_of x) (proc_names x.program) n (moment_at takes end) (moment_at takes reach)) is h)
 
+-- so many lines were written by then
+pub lines-of : (script : Script) (n : ℕ) (takes : List Took) (calls : ℕ) (reach : Reach) (r : Played Script) → r ≡ opening_run script calls
+    → n ≡ lines_by (run.setting_of body_next bodies_of r) (proc_names r.program) (moment_at takes reach)
+    → n ≡ lines_by (setting_of script) (proc_names script) (moment_at takes reach)
+lines-of script n takes calls reach r is h =
+    subst (λ (x : Played Script). n ≡ lines_by (run.setting_of body_next bodies_of x) (proc_names x.program) (moment_at takes reach)) is h
+
 -- ---- what is told
 
 -- of a verdict by which one of the lines differs
@@ -114,7 +121,7 @@ found-verdict script recorded n turns told is h differs = record {
 
 -- of a state
 pub found-state : (script : Script) (recorded : List ℕ) (n turns : ℕ) (before told : Told) (at : Moment) → turns ≡ 100000 → IsTold turns script recorded before.end before.text.items before.taken before.turns → differs_within n before.end ≡ false
-    → IsLastWithin (setting_of script) (proc_names script) n (moment_of before.taken before.turns) at → told.end ≡ end.Reported → told.taken ≡ at.takes → told.turns ≡ at.calls → IsStateOf script at.takes at.calls told.text.items
+    → IsLastWithin (setting_of script) (proc_names script) n (moment_of before.taken before.turns) at → told.end ≡ end.Reported → told.taken ≡ at.takes → told.turns ≡ at.calls → IsStateOf (nat_lt (lines_by (setting_of script) (proc_names script) at) n) script at.takes at.calls told.text.items
     → IsFound script recorded n told
 found-state script recorded n turns before told at is h differs last ended taken made state = record {
   verdict = h.verdict;

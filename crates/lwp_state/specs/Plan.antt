@@ -7,7 +7,7 @@ use Rattle.script_session.specs.declared.session.Session.{Session}
 use Rattle.script_session.specs.declared.session.SessionEnd.{SessionEnd}
 use Rattle.script_session.specs.declared.session.SessionEnd.TheVariants as end
 use Rattle.script_text.specs.declared.script.Script.{Script}
-use Rattle.std.specs.Prelude.{List, [], ℕ, ◌≡◌, ◌⊎◌}
+use Rattle.std.specs.Prelude.{List, [], true, ℕ, ◌≡◌, ◌⊎◌}
 use Rattle.streams.specs.Limited.{IsReadUp, IsReadWithin}
 use Rattle.streams.specs.Streams.{IsFaultless, IsFaulty, IsQuiet, Stream}
 
@@ -15,14 +15,14 @@ use Rattle.streams.specs.Streams.{IsFaultless, IsFaulty, IsQuiet, Stream}
 pub record IsPlanned (calls : ℕ) (script : Script) (session : Session) (text : List ℕ) : Type 0 where
   pub made : session.turns ≡ calls_of script calls
   pub taken : Tells session (takes_of script calls)
-  pub state : IsStateOf script (takes_of script calls) (calls_of script calls) text
+  pub state : IsStateOf true script (takes_of script calls) (calls_of script calls) text
 
 -- what comes of a script: the state at the end of its plan is written, or a write fails; or memory was wanting, and
 -- nothing was written
 abbrev pub IsShown : ℕ → Script → Stream → Session → Type 0
 IsShown calls script sink session =
     (session ≡ outcome_of end.NoMemory [] 0) × IsQuiet sink
-    ⊎ ((text : List ℕ) × IsStateOf script (takes_of script calls) (calls_of script calls) text
+    ⊎ ((text : List ℕ) × IsStateOf true script (takes_of script calls) (calls_of script calls) text
     × IsToldBy end.Reported (takes_of script calls) (calls_of script calls) text sink session)
 
 -- what each end says: the text was written, or the first part of it; or nothing was, and there is a cause

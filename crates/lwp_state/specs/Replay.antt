@@ -6,7 +6,7 @@ use Rattle.lwp_serve.specs.Replaying.Input.{recorded_in}
 use Rattle.lwp_serve.specs.Replaying.Replay.{Holds, HoldsBad, HoldsNone, asked_of, most_read}
 use Rattle.lwp_serve.specs.Replaying.Texts.{end_of, text_of}
 use Rattle.lwp_serve.specs.declared.replaying.told.Told.{Told}
-use Rattle.lwp_state.specs.Along.{IsLastWithin, moment_of}
+use Rattle.lwp_state.specs.Along.{IsLastWithin, lines_by, moment_of}
 use Rattle.lwp_state.specs.Shown.{IsCut, IsStateOf, IsToldBy, IsWritten}
 use Rattle.pod_runner.specs.declared.session.Took.{Took}
 use Rattle.replay.specs.Recorded.{line_count}
@@ -21,7 +21,7 @@ use Rattle.script_session.specs.declared.session.SessionEnd.TheVariants as end
 use Rattle.script_text.specs.Script.{proc_names}
 use Rattle.script_text.specs.Spelling.{verdict}
 use Rattle.script_text.specs.declared.script.Script.{Script}
-use Rattle.std.specs.Prelude.{Bool, List, MatchBool, None, Ok, Option, Some, [], false, min, nat_le, ℕ, ◌≡◌, ◌⊎◌}
+use Rattle.std.specs.Prelude.{Bool, List, MatchBool, None, Ok, Option, Some, [], false, min, nat_le, nat_lt, ℕ, ◌≡◌, ◌⊎◌}
 use Rattle.streams.specs.Limited.{IsReadUp, IsReadWithin}
 use Rattle.streams.specs.Streams.{IsFaultless, IsFaulty, IsQuiet, Stream}
 
@@ -46,12 +46,14 @@ pub record IsVerdict (v : Verdict) (takes : List Took) (calls : ℕ) (told : Tol
   pub taken : told.taken ≡ takes
   pub made : told.turns ≡ calls
 
--- it is told of the state after the last step of the session whose lines all are among the first n
+-- it is told of the state after the last step of the session whose lines all are among the first n; the trace is read to
+-- its end where a line after these is among them
 pub record IsStateAt (script : Script) (n : ℕ) (takes : List Took) (calls : ℕ) (told : Told) : Type 0 where
   pub ended : told.end ≡ end.Reported
   pub last : IsLastWithin (setting_of script) (proc_names script) n (moment_of takes calls)
       (moment_of told.taken told.turns)
-  pub state : IsStateOf script told.taken told.turns told.text.items
+  pub state : IsStateOf (nat_lt (lines_by (setting_of script) (proc_names script) (moment_of told.taken told.turns)) n)
+      script told.taken told.turns told.text.items
 
 -- Of a script and what was recorded, where the first n lines are asked for: there is a right verdict, and it is told if
 -- one of these lines differs; else a state of its session is.

@@ -12,15 +12,15 @@ use Rattle.script_text.specs.Script.{proc_names}
 use Rattle.script_text.specs.declared.script.Script.{Script}
 use Rattle.snapshots.specs.declared.session.Snapshot.{Snapshot}
 use Rattle.state_text.specs.Text.{state_text}
-use Rattle.std.specs.Prelude.{List, length, ℕ, ◌≡◌, ◌⊎◌}
+use Rattle.std.specs.Prelude.{Bool, List, length, ℕ, ◌≡◌, ◌⊎◌}
 use Rattle.streams.specs.Streams.{IsFaultless, IsFaulty, Stream}
 use Rattle.streams.specs.Writing.{AppendsPart}
 
--- they are that of a script's session after these takes and so many calls
-pub record IsStateOf (script : Script) (takes : List Took) (calls : ℕ) (text : List ℕ) : Type 0 where
+-- they are that of a script's session after these takes and so many calls, whose trace is read to its end, or not
+pub record IsStateOf (whole : Bool) (script : Script) (takes : List Took) (calls : ℕ) (text : List ℕ) : Type 0 where
   pub snap : Snapshot
   pub shows : IsSnapshot (length script.clients) takes calls (session_at script takes calls).live snap
-  pub said : text ≡ state_text (proc_names script) (clients_of script) snap
+  pub said : text ≡ state_text whole (proc_names script) (clients_of script) snap
 
 -- bytes of which this holds were written, all of them
 abbrev pub IsWritten : (List ℕ → Type 0) → Stream → Type 0

@@ -1,5 +1,5 @@
 // A session is played again, step by step, as its takes say.
-ghost use Rattle.lwp_state.specs.Along.{CallsNext, IsLastWithin, IsOnWay, IsStep, IsThere, TakesNext, moment_at, moment_now};
+ghost use Rattle.lwp_state.specs.Along.{CallsNext, IsLastWithin, IsOnWay, IsStep, IsThere, TakesNext, lines_by, moment_at, moment_now};
 ghost use Rattle.pod_runner.specs.Run.{IsNew, setting_of};
 ghost use Rattle.std.specs.Prelude.{◌≡◌, ◌≤◌, IfOk, MatchBool, MatchOption, OnOk, length};
 ghost use Rattle.streams.specs.Streams.{sides};
@@ -13,6 +13,13 @@ use pod_runner::{Run, RunErr, TakeList, Took};
 pub(crate) struct Reach {
     pub(crate) takes: usize,
     pub(crate) calls: u64,
+}
+
+/// A moment of a session, and how many lines were written by then.
+#[derive(Clone, Copy)]
+pub(crate) struct Stop {
+    pub(crate) reach: Reach,
+    pub(crate) lines: u64,
 }
 
 // Where a run is.
@@ -103,24 +110,36 @@ pub(crate) fn last_within<'s, B: Polled<'s>, P: Program<B>>(
     takes: &'s TakeList,
     end: Reach,
     most: u64,
-) -> Result<Reach, RunErr>
+) -> Result<Stop, RunErr>
     requires within { end.takes ≤ length takes.now }
     requires first { IsNew run.old }
     requires on { IsOnWay B.next P.bodies (moment_at takes.now end) run.old }
-    ensures within { IfOk result (λ reach. reach.takes ≤ length takes.now) }
+    ensures within { IfOk result (λ stop. stop.reach.takes ≤ length takes.now) }
     ensures last { IfOk result
-        (λ reach.
+        (λ stop.
         IsLastWithin (setting_of B.next P.bodies run.old) (P.proc_names run.old.program) most
-        (moment_at takes.now end) (moment_at takes.now reach)) }
+        (moment_at takes.now end) (moment_at takes.now stop.reach)) }
+    ensures lines { IfOk result
+        (λ stop.
+        stop.lines
+        ≡ lines_by (setting_of B.next P.bodies run.old) (P.proc_names run.old.program)
+        (moment_at takes.now stop.reach)) }
 {
     let mut lines = LineSink::new();
     let mut here = reach_of(run);
     while !is_same(here, end) {
+        let written = lines.count();
         step(run, takes, end, &mut lines)?;
         if lines.more_than(most) {
-            return Ok(here);
+            return Ok(Stop {
+                reach: here,
+                lines: written,
+            });
         }
         here = reach_of(run);
     }
-    Ok(here)
+    Ok(Stop {
+        reach: here,
+        lines: lines.count(),
+    })
 }

@@ -46,6 +46,13 @@ impl LineSink {
         }
     }
 
+    /// How many lines it has taken.
+    pub(crate) fn count(&self) -> u64
+        ensures { result ≡ line_count self.now.bytes }
+    {
+        self.lines
+    }
+
     /// Whether it has taken more lines than so many.
     pub(crate) fn more_than(&self, most: u64) -> bool
         ensures { result ≡ nat_lt most (line_count self.now.bytes) }

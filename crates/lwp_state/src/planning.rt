@@ -42,14 +42,14 @@ fn told_of_plan(alloc: Global, calls: u64, script: &Script) -> Result<Told, NoMe
     requires posted { IsPosted script.now }
     ensures state { IfOk result
         (λ told.
-        IsStateOf script.now (takes_of script.now calls) (calls_of script.now calls)
+        IsStateOf true script.now (takes_of script.now calls) (calls_of script.now calls)
         told.text.items) }
     ensures takes { IfOk result (λ told. told.taken ≡ takes_of script.now calls) }
     ensures calls { IfOk result (λ told. told.turns ≡ calls_of script.now calls) }
     ensures end { IfOk result (λ told. told.end ≡ end.Reported) }
 {
     let played = planned_run(alloc, calls, script)?;
-    told_of_state(alloc, script, played)
+    told_of_state(alloc, script, played, true)
 }
 
 // Shows the state that a script's plan comes to.

@@ -1,7 +1,7 @@
 // A script and a recorded trace are read, and the state at one of its lines is written.
 ghost use Rattle.batch.specs.Parts.{LiesIn, content};
 ghost use Rattle.lwp_serve.specs.Replaying.Found.{IsNotTold};
-ghost use Rattle.lwp_state.specs.Along.{IsLastWithin, moment_at, moment_of};
+ghost use Rattle.lwp_state.specs.Along.{IsLastWithin, lines_by, moment_at, moment_of};
 ghost use Rattle.lwp_state.specs.Replay.{IsFound, IsShown, IsShownOf, IsStateInReplay, differs_within, lines_asked};
 ghost use Rattle.pod_runner.specs.Run.{GoesOn};
 ghost use Rattle.script_body.specs.Posted.{IsPosted};
@@ -12,7 +12,7 @@ ghost use Rattle.script_text.specs.Spelling.{verdict};
 ghost use Rattle.std.specs.Prelude.{◌≡◌, ◌≤◌, IfErr, IfOk, Ok, false, length};
 ghost use Rattle.streams.specs.Streams.{sides};
 
-use crate::along::{Reach, go_to, last_within};
+use crate::along::{Reach, Stop, go_to, last_within};
 use crate::showing::{ScriptRun, told_of_state, write_told};
 use batch::Part;
 use lwp_serve::{Silent, Told, read_input, told_by};
@@ -47,21 +47,25 @@ fn differs_within(end: &SessionEnd, lines: u64) -> bool
     }
 }
 
-// How far the session with these takes has come when the lines of its next step are too many.
+// How far the session with these takes has come when the lines of its next step are too many, and how many it has written by then.
 fn reach_within(
     alloc: Global,
     script: &Script,
     takes: &TakeList,
     calls: u64,
     lines: u64,
-) -> Result<Reach, NoMemory>
+) -> Result<Stop, NoMemory>
     requires within { IsWithinLimits script.now }
     requires due { AreDue script.now takes.now calls }
-    ensures within { IfOk result (λ reach. reach.takes ≤ length takes.now) }
+    ensures within { IfOk result (λ stop. stop.reach.takes ≤ length takes.now) }
     ensures last { IfOk result
-        (λ reach.
+        (λ stop.
         IsLastWithin (setting_of script.now) (proc_names script.now) lines (moment_of takes.now calls)
-        (moment_at takes.now reach)) }
+        (moment_at takes.now stop.reach)) }
+    ensures lines { IfOk result
+        (λ stop.
+        stop.lines
+        ≡ lines_by (setting_of script.now) (proc_names script.now) (moment_at takes.now stop.reach)) }
 {
     let mut run = start(alloc, script, calls)?;
     let end = Reach {
@@ -69,7 +73,7 @@ fn reach_within(
         calls,
     };
     match last_within(&mut run, takes, end, lines) {
-        Ok(reach) => Ok(reach),
+        Ok(stop) => Ok(stop),
         // The sink has no end that it could come to.
         Err(_) => Err(NoMemory),
     }
@@ -112,9 +116,9 @@ fn told_within(
     if differs_within(&told.end, lines) {
         return Ok(told);
     }
-    let reach = reach_within(alloc, script, &told.taken, told.turns, lines)?;
-    let run = run_to(alloc, script, &told.taken, reach)?;
-    let shown = told_of_state(alloc, script, run)?;
+    let stop = reach_within(alloc, script, &told.taken, told.turns, lines)?;
+    let run = run_to(alloc, script, &told.taken, stop.reach)?;
+    let shown = told_of_state(alloc, script, run, stop.lines < lines)?;
     Ok(shown)
 }
 

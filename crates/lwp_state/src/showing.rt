@@ -37,22 +37,23 @@ fn proc_names(alloc: Global, script: &Script) -> Result<TextList, NoMemory>
     Ok(names)
 }
 
-/// The text of the state that a run of a script has come to.
+/// The text of the state that a run of a script has come to. Its trace is read to its end, or not: `whole` says so.
 pub(crate) fn text_of_state<'s>(
     alloc: Global,
     script: &Script,
     run: &ScriptRun<'s>,
+    whole: bool,
 ) -> Result<Vec<u8>, NoMemory>
     requires within { IsWithinLimits script.now }
     requires posted { IsPosted script.now }
     requires sound { run.now.failed ≡ false }
     requires plays { GoesOn (opening_run script.now run.now.turns) run.now }
-    ensures { IfOk result (λ text. IsStateOf script.now run.now.takes run.now.calls text.items) }
+    ensures { IfOk result (λ text. IsStateOf whole script.now run.now.takes run.now.calls text.items) }
 {
     let snap = run.snapshot(script.clients.len())?;
     let names = proc_names(alloc, script)?;
     let clients = clients_of(alloc, script)?;
-    let text = state_text(alloc, &snap, &names, &clients)?;
+    let text = state_text(alloc, &snap, &names, &clients, whole)?;
     Ok(text)
 }
 
@@ -78,17 +79,18 @@ pub(crate) fn told_of_state<'s>(
     alloc: Global,
     script: &Script,
     run: ScriptRun<'s>,
+    whole: bool,
 ) -> Result<Told, NoMemory>
     requires within { IsWithinLimits script.now }
     requires posted { IsPosted script.now }
     requires sound { run.failed ≡ false }
     requires plays { GoesOn (opening_run script.now run.turns) run }
-    ensures state { IfOk result (λ told. IsStateOf script.now run.entry.takes run.entry.calls told.text.items) }
+    ensures state { IfOk result (λ told. IsStateOf whole script.now run.entry.takes run.entry.calls told.text.items) }
     ensures takes { IfOk result (λ told. told.taken ≡ run.entry.takes) }
     ensures calls { IfOk result (λ told. told.turns ≡ run.entry.calls) }
     ensures end { IfOk result (λ told. told.end ≡ end.Reported) }
 {
-    let text = text_of_state(alloc, script, &run)?;
+    let text = text_of_state(alloc, script, &run, whole)?;
     let turns = run.calls();
     Ok(Told {
         end: SessionEnd::Reported,

@@ -1,9 +1,9 @@
-use Rattle.lwp_state.proofs.AlongLaws.{counting-first, counting-on, nearer, not-past, stops-before, stops-there}
+use Rattle.lwp_state.proofs.AlongLaws.{counting-first, counting-on, nearer, not-past, stops-before, stops-there, told-here}
 use Rattle.lwp_state.specs.Along.{moment_at}
 use Rattle.replay.specs.Recorded.{line_count}
 use Rattle.streams.specs.Counting.{Counting}
 use Rattle.streams.specs.Streams.{Stream}
-use Rattle.std.proofs.Common.{Some, ap, arith, false, rules, true, ◌≡◌}
+use Rattle.std.proofs.Common.{Some, ap, arith, false, rules, true, ◌∙◌, ◌≡◌}
 use Rattle.std.specs.Prelude.{nat_lt}
 use Rattle.lwp_state.proofs.along.last_within.Goals as goal
 
@@ -43,3 +43,11 @@ returns-then-more_than-clause-last g c =
     let over : nat_lt c.args.most (line_count c.step.new.sink.bytes) ≡ true = search rules in
     stops-before g.B.Body.next g.P.Program.bodies g.P.Program.proc_names c.args.takes.now c.args.end c.loop-end.here c.args.run.now c.loop-end.run c.step.new.run c.args.most c.loop-end.lines c.step.new.sink
     c.requires.within c.loop-end.invariant c.in_ok-step.ensures over
+
+pub returns-clause-lines : goal.returns-clause-lines
+returns-clause-lines g c =
+    c.count.ensures ∙ told-here g.B.Body.next g.P.Program.bodies g.P.Program.proc_names c.args.takes.now c.args.end c.loop-end.here c.args.run.now c.loop-end.run c.args.most c.loop-end.lines c.requires.within c.loop-end.invariant
+
+pub returns-then-more_than-clause-lines : goal.returns-then-more_than-clause-lines
+returns-then-more_than-clause-lines g c =
+    c.count-written.ensures ∙ told-here g.B.Body.next g.P.Program.bodies g.P.Program.proc_names c.args.takes.now c.args.end c.loop-end.here c.args.run.now c.loop-end.run c.args.most c.loop-end.lines c.requires.within c.loop-end.invariant
