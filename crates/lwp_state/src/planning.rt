@@ -7,7 +7,7 @@ ghost use Rattle.script_body.specs.Posted.{IsPosted};
 ghost use Rattle.script_session.specs.SoFar.{opening_run};
 ghost use Rattle.script_session.specs.declared.session.SessionEnd.TheVariants as end;
 ghost use Rattle.script_text.specs.Limits.{IsWithinLimits};
-ghost use Rattle.std.specs.Prelude.{◌≡◌, ◌≤◌, IfOk, false};
+ghost use Rattle.std.specs.Prelude.{true, ◌≡◌, ◌≤◌, IfOk, false};
 ghost use Rattle.streams.specs.Streams.{sides};
 
 use crate::showing::{ScriptRun, told_of_state, write_told};
