@@ -142,6 +142,12 @@ fn add_marks(out: &mut Vec<u8>, marks: &[Mark]) -> Result<(), NoMemory>
     Ok(())
 }
 
+fn number_of(tid: Tid) -> u64
+    ensures { result ≡ tid }
+{
+    tid.number
+}
+
 // What a thread has.
 fn add_belongings(
     out: &mut Vec<u8>,
@@ -152,11 +158,12 @@ fn add_belongings(
     requires { AreTables pod.now.state tables.now }
     ensures { OnOk result (out.new.items ≡ out.old.items ++ belongings (state_in pod.now.state) (row_in row.now)) }
 {
-    let tid = row.number.number;
+    let tid = number_of(row.number);
     add_entries(out, pod.state.locks.as_slice(), &tables.owners, tid)?;
     add_marks(out, row.marks.as_slice())?;
     add_entries(out, pod.state.letters.as_slice(), &tables.receivers, tid)?;
-    add_entries(out, pod.state.agents.as_slice(), &tables.agents, tid)
+    add_entries(out, pod.state.agents.as_slice(), &tables.agents, tid)?;
+    Ok(())
 }
 
 // How a thread is marked, and the end of its line.
