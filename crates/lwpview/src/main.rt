@@ -18,9 +18,10 @@ use streams::{GATHERED, StdSink, StdSource};
 use trace_page::{ViewEnd, fault_text, status_of, view};
 
 const HELP: &str = "\
-usage: lwpview [FROM TO] < TRACE
+usage: lwpview [FROM TO | --last N] < TRACE
 
   FROM TO     draw the calls from this one to that one, counted from 1; of more than 5000 the first 5000
+  --last N    draw so many calls at the end, at most 5000
   --help      write this
   --version   write the program's name and version
 

@@ -1,4 +1,6 @@
 mod EachLaws
+mod WaitLaws
+mod ViewLaws
 pub mod PageLaws
 pub mod TitleLaws
 pub mod Readings

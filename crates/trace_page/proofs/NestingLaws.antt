@@ -1,6 +1,6 @@
 -- The elements of a page are closed: what each of its parts makes of a reader.
 use Rattle.lwp_types.specs.Names.{null_id}
-use Rattle.std.proofs.Common.{List, [], ap, eqb, refl, suc, true, zero, ℕ, ◌%◌, ◌++◌, ◌+◌, ◌∷◌, ◌≡◌}
+use Rattle.std.proofs.Common.{Bool, List, [], ap, eqb, false, refl, suc, true, zero, ℕ, ◌%◌, ◌++◌, ◌+◌, ◌∷◌, ◌≡◌}
 use Rattle.trace_lines.specs.declared.entry.Gain.{Gain}
 use Rattle.trace_lines.specs.declared.entry.Gain.TheVariants as gain
 use Rattle.std.specs.Fmt.{decimal}
@@ -8,14 +8,16 @@ use Rattle.std.specs.List.{list_all}
 use Rattle.std.specs.Prelude.{IsTrue, codes}
 use Rattle.trace_page.proofs.Readings.{Brings, Keeps, Plain, both, in_value, keeps_each, keeps_either, none, number, on, text_keeps}
 use Rattle.trace_page.proofs.TitleLaws.{texts_are_plain}
-use Rattle.trace_page.specs.Frame.{around, beyond, colours, each_text, end_text, event_open, event_words, head, head_key, head_style, height_of, height_open, key_marks, key_waits, layout, marks, more_closed, more_open, more_text, name_closed, name_text, name_words, names_closed, names_open, names_text, number_text, numbers_closed, numbers_open, numbers_text, page_closed, paper_open, patterns, procedure_of, procedure_words, script, sheet_closed, sheet_open, sheet_text, sheet_turned, signs, size_closed, size_open, size_text, strip_closed, strip_open, strip_text, tail, tenth, tenths, waits, ways, width_of}
+use Rattle.trace_page.specs.Frame.{around, beyond, colours, end_text, event_open, event_words, head, head_key, head_style, height_of, hop_front, hop_text, height_open, key_marks, key_waits, layout, marks, more_closed, more_open, more_text, name_closed, name_text, name_words, names_closed, names_open, names_text, number_text, numbers_closed, numbers_open, numbers_text, page_closed, paper_open, patterns, procedure_of, procedure_words, script, sheet_closed, sheet_open, sheet_text, sheet_turned, signs, size_closed, size_open, size_text, strip_closed, strip_open, strip_text, stuck_between, stuck_closed, stuck_open, stuck_text, tail, tenth, tenths, wait_front, wait_line, waits, ways, width_of}
 use Rattle.trace_page.specs.Frame as frame
 use Rattle.trace_page.specs.Nesting.{Outside, Quoted, after_byte, at, is_closed, is_nested, read_on}
 use Rattle.trace_page.specs.Page.{after_line, after_lines, group_if_shown, groups, page}
 use Rattle.trace_page.specs.Scene.{Seen, need_of, opening}
-use Rattle.trace_page.specs.Shapes.{arrow_text, band_text, bar_text, class_text, clock_text, closing_text, due_text, element_closed, escaped_text, event_text, group_closed, group_open, group_text, held_text, label_closed, label_text, letter_text, line_text, move_text, named_text, path_text, posted_text, rect_text, rule_text, said_text, shape_text, shapes_text, sign_of, sign_open, tag_text, tick_text, title_text, trap_text, use_open, use_text, value_text, wait_class, wait_text, waits_text, wanted_text, way_class, x_of, y_of}
-use Rattle.trace_page.specs.Steps.{after_finish, is_shown}
+use Rattle.trace_page.specs.Shapes.{arrow_text, band_text, bar_text, class_text, clock_label, clock_text, closing_text, due_class, due_text, element_closed, escaped_text, event_text, group_closed, group_open, group_text, held_text, held_words, label_closed, label_text, lane_waits, letter_text, line_text, move_text, named_text, path_text, posted_label, posted_text, rect_text, rule_text, said_text, shape_text, shapes_text, sign_of, sign_open, tag_text, tick_text, title_text, trap_text, use_open, use_text, value_text, wait_class, wait_text, waits_text, wanted_text, way_class, x_of, y_of}
+use Rattle.trace_page.specs.Steps.{after_finish, is_due, is_shown}
 use Rattle.trace_page.specs.Titles.{is_plain}
+use Rattle.trace_page.specs.Waits.{awaited, each_from, is_stuck}
+use Rattle.trace_page.specs.declared.scene.Hop.{Hop}
 use Rattle.trace_page.specs.declared.scene.Kind.{Kind}
 use Rattle.trace_page.specs.declared.scene.Kind.TheVariants as kind
 use Rattle.trace_page.specs.declared.scene.Lane.{Lane}
@@ -207,6 +209,8 @@ way_is_plain way.Letter = record { plain = refl }
 way_is_plain way.Reply = record { plain = refl }
 way_is_plain way.Wake = record { plain = refl }
 way_is_plain way.Also = record { plain = refl }
+way_is_plain way.Blocked = record { plain = refl }
+way_is_plain way.Deadlock = record { plain = refl }
 
 arrow_keeps : (s : Seen) (w : Way) (from : ℕ) (left : Moment) (to : ℕ) (at : Moment) → Keeps (arrow_text s w from left to at)
 unfolding arrow_text
@@ -216,19 +220,21 @@ posted_keeps : (client seq : ℕ) → Keeps (posted_text client seq)
 unfolding posted_text
 posted_keeps client seq = both (number_keeps client) (both (words (codes ":") refl) (number_keeps seq))
 
-event_keeps : (s : Seen) (client seq nth agent : ℕ) (at : Moment) → Keeps (event_text s client seq nth agent at)
-unfolding event_text
-event_keeps s client seq nth agent at = record {
-  keeps = λ names.
-      on (label_opens (record { plain = refl }) _ _ names) (on ((posted_keeps client seq).keeps _) (on (label_closes names) ((path_keeps (record { plain = refl }) _ _ _ _).keeps names)));
-}
+posted_label_keeps : (s : Seen) (client seq nth : ℕ) (at : Moment) → Keeps (posted_label s client seq nth at)
+unfolding posted_label
+posted_label_keeps s client seq nth at = label_keeps (record { plain = refl }) _ _ (posted_keeps client seq)
 
-clock_keeps : (s : Seen) (now nth : ℕ) (at : Moment) → Keeps (clock_text s now nth at)
+event_keeps : (s : Seen) (client seq nth : ℕ) (told : Bool) (agent : ℕ) (at : Moment) → Keeps (event_text s client seq nth told agent at)
+unfolding event_text
+event_keeps s client seq nth told agent at = both (keeps_either told (posted_label_keeps s client seq nth at) none) (path_keeps (record { plain = refl }) _ _ _ _)
+
+clock_label_keeps : (s : Seen) (now nth : ℕ) (at : Moment) → Keeps (clock_label s now nth at)
+unfolding clock_label
+clock_label_keeps s now nth at = label_keeps (record { plain = refl }) _ _ (number_keeps now)
+
+clock_keeps : (s : Seen) (now nth : ℕ) (told : Bool) (at : Moment) → Keeps (clock_text s now nth told at)
 unfolding clock_text
-clock_keeps s now nth at = record {
-  keeps = λ names.
-      on (label_opens (record { plain = refl }) _ _ names) (on ((number_keeps now).keeps _) (on (label_closes names) ((use_keeps (record { plain = refl }) _ _).keeps names)));
-}
+clock_keeps s now nth told at = both (keeps_either told (clock_label_keeps s now nth at) none) (use_keeps (record { plain = refl }) _ _)
 
 trap_keeps : (s : Seen) (tid : ℕ) (at : Moment) → Keeps (trap_text s tid at)
 unfolding trap_text
@@ -262,13 +268,31 @@ named_keeps : (n : Need) (target : ℕ) → Keeps (named_text n target)
 unfolding named_text
 named_keeps n target = keeps_either (eqb target null_id) none (both (letter_keeps n) (number_keeps target))
 
-waits_keep : (n : Need) (target : ℕ) → Keeps (waits_text n target)
+held_words_keep : (n : Need) (by : ℕ) → Keeps (held_words n by)
+unfolding held_words
+held_words_keep need.Monitor by = keeps_either (eqb by null_id) none (both (words (codes ", held by t") refl) (number_keeps by))
+held_words_keep need.Reply by = none
+held_words_keep need.Letter by = none
+held_words_keep need.Condition by = none
+held_words_keep need.Death by = none
+held_words_keep need.Clock by = none
+held_words_keep need.Nothing by = none
+
+waits_keep : (n : Need) (target by : ℕ) → Keeps (waits_text n target by)
 unfolding waits_text
-waits_keep n target = both (words (codes "waits for ") refl) (both (wanted_keeps n) (named_keeps n target))
+waits_keep n target by = both (words (codes "waits for ") refl) (both (wanted_keeps n) (both (named_keeps n target) (held_words_keep n by)))
+
+lane_waits_keep : (s : Seen) (lane : Lane) → Keeps (lane_waits s lane)
+lane_waits_keep s lane = waits_keep (need_of lane.verb) lane.target (awaited s.spans lane)
+
+due_is_plain : (stuck : Bool) → Plain (due_class stuck)
+unfolding due_class
+due_is_plain true = record { plain = refl }
+due_is_plain false = record { plain = refl }
 
 due_keeps : (s : Seen) (lane : Lane) (at : Moment) → Keeps (due_text s lane at)
 unfolding due_text
-due_keeps s lane at = label_keeps (record { plain = refl }) _ _ (waits_keep (need_of lane.verb) lane.target)
+due_keeps s lane at = label_keeps (due_is_plain (is_stuck lane.id s.hops)) _ _ (lane_waits_keep s lane)
 
 shape_keeps : (s : Seen) (line : List ℕ) (x : Shape) → Keeps (shape_text s line x)
 unfolding shape_text
@@ -280,8 +304,8 @@ shape_keeps s line (shape.Bar span to) = bar_keeps s span.kind span to
 shape_keeps s line (shape.Arrow way from left to at) = arrow_keeps s way from left to at
 shape_keeps s line (shape.Exit tid at) = use_keeps (record { plain = refl }) _ _
 shape_keeps s line (shape.Death tid at) = use_keeps (record { plain = refl }) _ _
-shape_keeps s line (shape.Event client seq nth agent at) = event_keeps s client seq nth agent at
-shape_keeps s line (shape.Clock now nth at) = clock_keeps s now nth at
+shape_keeps s line (shape.Event client seq nth told agent at) = event_keeps s client seq nth told agent at
+shape_keeps s line (shape.Clock now nth told at) = clock_keeps s now nth told at
 shape_keeps s line (shape.Trap tid at) = trap_keeps s tid at
 shape_keeps s line (shape.Closing nth at) = closing_keeps s line nth at
 shape_keeps s line (shape.Due lane at) = due_keeps s lane at
@@ -420,7 +444,7 @@ names_bring : (s : Seen) → Brings (at Outside in_picture) (names_text s) (at O
 unfolding names_text
 names_bring s = on names_open_brings (on ((keeps_each (λ lane. name_text s lane) (name_keeps s) s.lanes).keeps _) names_closed_brings)
 
-each_keeps : (f : ℕ → List ℕ) → ((n : ℕ) → Keeps (f n)) → (n count : ℕ) → Keeps (each_text f n count)
+each_keeps : (f : ℕ → List ℕ) → ((n : ℕ) → Keeps (f n)) → (n count : ℕ) → Keeps (each_from f n count)
 each_keeps f h n zero = none
 each_keeps f h n (suc count) = both (h n) (each_keeps f h (n + 1) count)
 
@@ -521,6 +545,45 @@ more_keeps : (s : Seen) → Keeps (more_text s)
 unfolding more_text
 more_keeps s = keeps_either s.more (record { keeps = λ names. on (more_opens names) (on ((number_keeps s.last).keeps _) (more_closes names)) }) none
 
+-- what is said at the top
+hop_front_keeps : (begins : Bool) → Keeps (hop_front begins)
+unfolding after_byte read_on hop_front
+hop_front_keeps true = record { keeps = λ names. record { so = refl } }
+hop_front_keeps false = text_keeps (record { plain = refl })
+
+hop_keeps : (hop : Hop) → Keeps (hop_text hop)
+unfolding hop_text
+hop_keeps hop = both (hop_front_keeps hop.begins) (both (number_keeps hop.from) (both (words (codes " waits for t") refl) (number_keeps hop.to)))
+
+wait_front_keeps : Keeps wait_front
+unfolding after_byte read_on wait_front
+wait_front_keeps = record { keeps = λ names. record { so = refl } }
+
+wait_line_keeps : (s : Seen) (lane : Lane) → Keeps (wait_line s lane)
+unfolding wait_line
+wait_line_keeps s lane = keeps_either (is_due lane) (both wait_front_keeps (both (number_keeps lane.id) (both (words (codes " ") refl) (lane_waits_keep s lane)))) none
+
+stuck_opens : (names : List (List ℕ)) → Brings (at Outside names) stuck_open (at Outside (codes "p" ∷ codes "div" ∷ names))
+unfolding after_byte read_on stuck_open
+stuck_opens names = record { so = refl }
+
+stuck_goes_on : (names : List (List ℕ)) → Brings (at Outside (codes "p" ∷ codes "div" ∷ names)) stuck_between (at Outside (codes "p" ∷ codes "div" ∷ names))
+unfolding after_byte read_on stuck_between
+stuck_goes_on names = record { so = refl }
+
+stuck_closes : (names : List (List ℕ)) → Brings (at Outside (codes "p" ∷ codes "div" ∷ names)) stuck_closed (at Outside names)
+unfolding after_byte read_on stuck_closed
+stuck_closes names = record { so = refl }
+
+stuck_keeps : (s : Seen) → Keeps (stuck_text s)
+unfolding stuck_text
+stuck_keeps s = keeps_either s.more none (record {
+  keeps = λ names.
+      let inside : List (List ℕ) = codes "p" ∷ codes "div" ∷ names in
+      on (stuck_opens names) (on ((keeps_each (λ hop. hop_text hop) hop_keeps s.hops).keeps inside)
+      (on (stuck_goes_on names) (on ((keeps_each (λ lane. wait_line s lane) (wait_line_keeps s) s.lanes).keeps inside) (stuck_closes names))));
+})
+
 end_keeps : (s : Seen) → Keeps (end_text s)
 unfolding end_text
 end_keeps s = record { keeps = λ names. on (group_opens names) (on ((shapes_keep s [] s.shapes).keeps _) (group_closes names)) }
@@ -535,7 +598,7 @@ around_brings s = on ((end_keeps s).keeps _) (on (names_bring s) (on (numbers_br
 
 beyond_brings : (s : Seen) → Brings (at Outside in_body) (beyond s) (at Outside in_body)
 unfolding beyond
-beyond_brings s = on ((strip_keeps s).keeps _) (on ((more_keeps s).keeps _) (on ((sheet_keeps s).keeps _) (script_keeps in_body)))
+beyond_brings s = on ((strip_keeps s).keeps _) (on ((more_keeps s).keeps _) (on ((stuck_keeps s).keeps _) (on ((sheet_keeps s).keeps _) (script_keeps in_body))))
 
 tail_brings : (s : Seen) → Brings (at Outside in_picture) (tail s) (at Outside [])
 unfolding tail

@@ -1,9 +1,9 @@
 -- The lines of a text, one by one.
-use Rattle.std.proofs.Common.{Bool, List, None, Some, [], ap, append_assoc, arith, cond, drop, eqb, false, length, refl, suc, sym, take, true, ℕ, ◌++◌, ◌+◌, ◌<◌, ◌∷◌, ◌≡◌, ◌∙◌}
+use Rattle.std.proofs.Common.{Bool, List, None, Some, [], ap, append_assoc, arith, cond, drop, eqb, false, length, length-drop, refl, suc, sym, take, true, ℕ, ◌++◌, ◌+◌, ◌<◌, ◌∷◌, ◌≡◌, ◌≤◌, ◌∙◌}
 use Rattle.std.specs.Prelude.{is_some}
 use Rattle.trace_lines.specs.Entries.{entry_of}
 use Rattle.trace_lines.specs.Words.{reach}
-use Rattle.trace_page.specs.Page.{after_line, after_lines, bad_from, bad_line, group_if_shown, groups, is_whole, onto_first, whole_lines}
+use Rattle.trace_page.specs.Page.{after_line, after_lines, bad_from, calls_of, first_bad, group_if_shown, groups, is_whole, line_calls, onto_first, whole_lines}
 use Rattle.trace_page.specs.Scene.{Seen}
 
 -- the first line, where there is a newline
@@ -59,7 +59,7 @@ not_whole (b ∷ c ∷ bs) e some = by_head (eqb b 10) e (λ h. not_whole (c ∷
 -- ---- the loop over the lines
 
 -- what stands behind the last newline is no line
-pub unended : (number n : ℕ) (rest text : List ℕ) → reach 10 rest ≡ length rest → 0 < length rest → bad_from number (is_whole rest) (whole_lines rest) ≡ bad_line text → number ≡ n → bad_line text ≡ Some n
+pub unended : (number n : ℕ) (rest text : List ℕ) → reach 10 rest ≡ length rest → 0 < length rest → bad_from number (is_whole rest) (whole_lines rest) ≡ first_bad text → number ≡ n → first_bad text ≡ Some n
 unended number n rest text e some bad same =
     sym bad ∙ (rw (no_line rest e, not_whole rest e some) refl ∙ ap Some same)
 
@@ -87,13 +87,27 @@ module _ (rest left : List ℕ) (k : ℕ) (at : k ≡ reach 10 rest) (lt : k < l
       let ls : List (List ℕ) = whole_lines left in
       ap (λ x. more ++ groups x ls) e ∙ (ap (λ x. x ++ groups (after_line l s) ls) m ∙ (append_assoc out (group_if_shown (after_line l s) l) (groups (after_line l s) ls) ∙ (sym (ap (λ x. out ++ groups s x) first) ∙ all)))
 
-  pub bad_on : (number : ℕ) (text : List ℕ) → is_some (entry_of (take k rest)) ≡ true → bad_from number (is_whole rest) (whole_lines rest) ≡ bad_line text
-      → bad_from (number + 1) (is_whole left) (whole_lines left) ≡ bad_line text
+  pub counted_on : (calls more all : ℕ) → more ≡ line_calls (take k rest) → calls + calls_of (whole_lines rest) ≡ all → calls + more + calls_of (whole_lines left) ≡ all
+  counted_on calls more all e h =
+      let split : calls_of (whole_lines rest) ≡ line_calls (take k rest) + calls_of (whole_lines left) = ap calls_of first in
+      omega (arith, e, h, split)
+
+  pub room_on : (calls more all : ℕ) → more ≤ 1 → calls + length rest ≤ all → calls + more + length left ≤ all
+  room_on calls more all one h = rw behind (omega (arith, length-drop (k + 1) rest, one, h, lt))
+
+  pub bad_on : (number : ℕ) (text : List ℕ) → is_some (entry_of (take k rest)) ≡ true → bad_from number (is_whole rest) (whole_lines rest) ≡ first_bad text
+      → bad_from (number + 1) (is_whole left) (whole_lines left) ≡ first_bad text
   bad_on number text good bad =
       let ls : List (List ℕ) = whole_lines left in
       let same : is_whole left ≡ is_whole rest = ap is_whole behind ∙ sym (whole_at rest k at lt) in
       ap (λ w. bad_from (number + 1) w ls) same ∙ (sym (ap (bad_from number (is_whole rest)) first ∙ rw good refl) ∙ bad)
 
+-- where there is no newline, there is no call more
+pub all_counted : (calls all : ℕ) (rest : List ℕ) → reach 10 rest ≡ length rest → calls + calls_of (whole_lines rest) ≡ all → calls ≡ all
+all_counted calls all rest e h =
+    let none : calls_of (whole_lines rest) ≡ 0 = ap calls_of (no_line rest e) in
+    omega (arith, h, none)
+
 -- the first line is bad
-pub refused : (rest : List ℕ) (k : ℕ) → k ≡ reach 10 rest → k < length rest → (number n : ℕ) (text : List ℕ) → bad_from number (is_whole rest) (whole_lines rest) ≡ bad_line text → (n ≡ number) × (entry_of (take k rest) ≡ None) → bad_line text ≡ Some n
+pub refused : (rest : List ℕ) (k : ℕ) → k ≡ reach 10 rest → k < length rest → (number n : ℕ) (text : List ℕ) → bad_from number (is_whole rest) (whole_lines rest) ≡ first_bad text → (n ≡ number) × (entry_of (take k rest) ≡ None) → first_bad text ≡ Some n
 refused rest k at lt number n text bad h = sym bad ∙ (rw (first_at rest k at lt, h.1) refl ∙ ap Some (sym h.0))

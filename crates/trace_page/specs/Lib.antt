@@ -1,6 +1,7 @@
 pub mod Measures
 pub mod Scene
 pub mod Spans
+pub mod Waits
 pub mod Steps
 pub mod Shapes
 pub mod Frame

@@ -15,9 +15,9 @@ call_width = 16
 abbrev pub half_call : ℕ
 half_call = 8
 
--- how many calls stand apart: 5,000 are drawn at most, and behind them stands what comes last
+-- how many calls stand apart: 5,000 are drawn at most, and behind them stand what comes last and whom it waits for
 abbrev pub most_calls : ℕ
-most_calls = 5001
+most_calls = 5003
 
 -- how many tenth calls have their number
 abbrev pub most_tenths : ℕ
@@ -25,11 +25,15 @@ most_tenths = 501
 
 -- how far right anything is at most
 abbrev pub most_right : ℕ
-most_right = 80064
+most_right = 80096
 
 -- behind the last call, room for the words that tell the end
 abbrev pub end_width : ℕ
-end_width = 320
+end_width = 420
+
+-- behind the last call, room for the arrows to whom somebody waits for, before the words that tell it
+abbrev pub due_gap : ℕ
+due_gap = 42
 
 -- the column of the lanes' names
 abbrev pub names_width : ℕ
@@ -43,7 +47,7 @@ first_lane = 56
 
 -- from a lane to the next
 abbrev pub lane_height : ℕ
-lane_height = 44
+lane_height = 68
 
 -- how many lanes stand apart
 abbrev pub most_lanes : ℕ
@@ -51,7 +55,7 @@ most_lanes = 65535
 
 -- how far down a lane is at most
 abbrev pub most_down : ℕ
-most_down = 2883596
+most_down = 4456436
 
 -- where arrows begin and end in a lane
 abbrev pub middle : ℕ

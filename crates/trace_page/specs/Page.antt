@@ -1,11 +1,11 @@
 -- The page of a trace.
-use Rattle.std.specs.Prelude.{Bool, List, None, Option, Some, [], if◌then◌else◌, is_some, true, ℕ, ◌++◌, ◌+◌, ◌==◌, ◌∷◌}
+use Rattle.std.specs.Prelude.{Bool, List, None, Option, Some, [], false, if◌then◌else◌, is_some, true, ℕ, ◌++◌, ◌+◌, ◌==◌, ◌∷◌}
 use Rattle.trace_lines.specs.Entries.{entry_of}
 use Rattle.trace_lines.specs.declared.entry.Entry.{Entry}
 use Rattle.trace_page.specs.Frame.{head, tail}
 use Rattle.trace_page.specs.Scene.{Seen, opening}
 use Rattle.trace_page.specs.Shapes.{group_text}
-use Rattle.trace_page.specs.Steps.{after_entry, after_finish, after_note, is_shown}
+use Rattle.trace_page.specs.Steps.{after_entry, after_finish, after_note, is_call, is_shown}
 
 -- a byte in front of the first of these lines, if there is any
 abbrev pub onto_first : ℕ → List (List ℕ) → List (List ℕ)
@@ -29,9 +29,27 @@ abbrev pub bad_from : ℕ → Bool → List (List ℕ) → Option ℕ
 bad_from n whole [] = if whole then None else Some n
 bad_from n whole (l ∷ ls) = if is_some (entry_of l) then bad_from (n + 1) whole ls else Some n
 
--- the first line of a text that is no line of a trace, counted from 1; one without its newline is none
+-- the first of a text
+abbrev pub first_bad : List ℕ → Option ℕ
+first_bad text = bad_from 1 (is_whole text) (whole_lines text)
+
+-- the first line of a text that is no line of a trace, counted from 1; one without its newline is none, and so is the
+-- first of a text that has none
 abbrev pub bad_line : List ℕ → Option ℕ
-bad_line text = bad_from 1 (is_whole text) (whole_lines text)
+bad_line [] = Some 1
+bad_line (b ∷ bs) = first_bad (b ∷ bs)
+
+abbrev pub is_call_by : Option Entry → Bool
+is_call_by None = false
+is_call_by (Some e) = is_call e
+
+abbrev pub line_calls : List ℕ → ℕ
+line_calls l = if is_call_by (entry_of l) then 1 else 0
+
+-- how many of these lines are calls
+abbrev pub calls_of : List (List ℕ) → ℕ
+calls_of [] = 0
+calls_of (l ∷ ls) = line_calls l + calls_of ls
 
 -- what is known behind a line
 abbrev pub after_entry_by : Option Entry → Seen → Seen

@@ -3,12 +3,14 @@ use Rattle.lwp_types.specs.Names.{null_id}
 use Rattle.std.specs.Prelude.{Bool, List, [], false, if◌then◌else◌, min, not, slice_index_or, slice_set, suc, true, ℕ, ◌&&◌, ◌++◌, ◌+◌, ◌==◌, ◌^◌, ◌-◌, ◌∷◌}
 use Rattle.trace_lines.specs.declared.entry.Verb.{Verb}
 use Rattle.trace_lines.specs.declared.entry.Verb.TheVariants as verb
+use Rattle.trace_page.specs.declared.scene.Hop.{Hop}
 use Rattle.trace_page.specs.declared.scene.Kind.TheVariants as kind
 use Rattle.trace_page.specs.declared.scene.Lane.{Lane}
 use Rattle.trace_page.specs.declared.scene.Moment.{Moment}
 use Rattle.trace_page.specs.declared.scene.Naming.{Naming}
 use Rattle.trace_page.specs.declared.scene.Need.{Need}
 use Rattle.trace_page.specs.declared.scene.Need.TheVariants as need
+use Rattle.trace_page.specs.declared.scene.Rows.{Rows}
 use Rattle.trace_page.specs.declared.scene.Setting.{Setting}
 use Rattle.trace_page.specs.declared.scene.Shape.{Shape}
 use Rattle.trace_page.specs.declared.scene.Span.{Span}
@@ -23,6 +25,7 @@ pub record Seen : Type 0 where
   pub time : Moment
   pub caller : ℕ
   pub events : ℕ
+  pub rows : Rows
   pub agent : ℕ
   pub closings : ℕ
   pub words : List ℕ
@@ -30,6 +33,8 @@ pub record Seen : Type 0 where
   pub spans : List Span
   pub settings : List Setting
   pub names : List Naming
+  -- who waits in a cycle, when all is told
+  pub hops : List Hop
   -- what is drawn for the last line
   pub shapes : List Shape
 
@@ -42,6 +47,7 @@ opening base last = record {
   time = record { call = 0; late = false };
   caller = null_id;
   events = 0;
+  rows = record { next = 0; second = 0; third = 0 };
   agent = null_id;
   closings = 0;
   words = [];
@@ -49,6 +55,7 @@ opening base last = record {
   spans = [];
   settings = [];
   names = [];
+  hops = [];
   shapes = [];
 }
 

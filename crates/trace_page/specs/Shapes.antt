@@ -5,8 +5,9 @@ use Rattle.std.specs.List.{flat_map}
 use Rattle.std.specs.Prelude.{Bool, List, [], codes, false, if◌then◌else◌, min, true, ℕ, ◌%◌, ◌*◌, ◌++◌, ◌+◌, ◌-◌, ◌==◌, ◌∷◌}
 use Rattle.trace_lines.specs.declared.entry.Gain.{Gain}
 use Rattle.trace_lines.specs.declared.entry.Gain.TheVariants as gain
-use Rattle.trace_page.specs.Measures.{below_rows, call_width, end_row, first_call, first_lane, foot, half_call, lane_height, middle, most_calls, most_lanes, outside_row, tick_spot}
+use Rattle.trace_page.specs.Measures.{below_rows, call_width, due_gap, end_row, first_call, first_lane, foot, half_call, lane_height, middle, most_calls, most_lanes, outside_row, tick_spot}
 use Rattle.trace_page.specs.Scene.{Seen, need_of, place}
+use Rattle.trace_page.specs.Waits.{awaited, is_stuck}
 use Rattle.trace_page.specs.declared.scene.Kind.{Kind}
 use Rattle.trace_page.specs.declared.scene.Kind.TheVariants as kind
 use Rattle.trace_page.specs.declared.scene.Lane.{Lane}
@@ -136,15 +137,15 @@ wait_text s lane to = rect_text (wait_class (need_of lane.verb)) (x_of s lane.si
 
 -- how far down the bar of a monitor is: below those that were acquired before, of which three show apart
 unfoldable pub deep : ℕ → ℕ
-deep level = 12 + 8 * min level 3
+deep level = 7 + 13 * min level 3
 
 unfoldable pub tag_text : ℕ → ℕ → ℕ → List ℕ
 tag_text x y mon = label_text (codes "tag") x y ++ (codes "m" ++ (decimal mon ++ label_closed))
 
 unfoldable pub held_text : Seen → Span → Moment → List ℕ
 held_text s span to =
-    rect_text (codes "held") (x_of s span.since) (y_of s span.tid + deep span.level) (x_of s to - x_of s span.since) 7
-    ++ tag_text (x_of s span.since + 3) (y_of s span.tid + deep span.level + 6) span.of
+    rect_text (codes "held") (x_of s span.since) (y_of s span.tid + deep span.level) (x_of s to - x_of s span.since) 12
+    ++ tag_text (x_of s span.since + 3) (y_of s span.tid + deep span.level + 10) span.of
 
 unfoldable pub band_text : Seen → List ℕ → ℕ → ℕ → Span → Moment → List ℕ
 band_text s class down height span to =
@@ -161,6 +162,8 @@ way_class way.Letter = codes "sent"
 way_class way.Reply = codes "replied"
 way_class way.Wake = codes "woken"
 way_class way.Also = codes "event"
+way_class way.Blocked = codes "blocked"
+way_class way.Deadlock = codes "deadlock"
 
 unfoldable pub arrow_text : Seen → Way → ℕ → Moment → ℕ → Moment → List ℕ
 arrow_text s way from left to at =
@@ -170,23 +173,29 @@ arrow_text s way from left to at =
 unfoldable pub posted_text : ℕ → ℕ → List ℕ
 posted_text client seq = decimal client ++ (codes ":" ++ decimal seq)
 
-unfoldable pub event_text : Seen → ℕ → ℕ → ℕ → ℕ → Moment → List ℕ
-event_text s client seq nth agent at =
-    label_text (codes "event") (x_of s at) (outside_row nth)
-    ++ (posted_text client seq
-    ++ (label_closed ++ path_text (codes "event") (x_of s at) below_rows (x_of s at) (y_of s agent + middle)))
+unfoldable pub posted_label : Seen → ℕ → ℕ → ℕ → Moment → List ℕ
+posted_label s client seq nth at =
+    label_text (codes "event") (x_of s at) (outside_row nth) ++ (posted_text client seq ++ label_closed)
+
+unfoldable pub event_text : Seen → ℕ → ℕ → ℕ → Bool → ℕ → Moment → List ℕ
+event_text s client seq nth told agent at =
+    (if told then posted_label s client seq nth at else [])
+    ++ path_text (codes "event") (x_of s at) below_rows (x_of s at) (y_of s agent + middle)
 
 -- a trap comes from above
 unfoldable pub trap_text : Seen → ℕ → Moment → List ℕ
 trap_text s tid at = path_text (codes "woken") (x_of s at) below_rows (x_of s at) (y_of s tid + middle)
 
 -- a tick has its number above, and a rule from there down through all lanes
-unfoldable pub clock_text : Seen → ℕ → ℕ → Moment → List ℕ
-clock_text s now nth at = label_text (codes "clock") (x_of s at) (outside_row nth)
-    ++ (decimal now ++ (label_closed ++ use_text (codes "#clock") (x_of s at) tick_spot))
+unfoldable pub clock_label : Seen → ℕ → ℕ → Moment → List ℕ
+clock_label s now nth at = label_text (codes "clock") (x_of s at) (outside_row nth) ++ (decimal now ++ label_closed)
+
+unfoldable pub clock_text : Seen → ℕ → ℕ → Bool → Moment → List ℕ
+clock_text s now nth told at =
+    (if told then clock_label s now nth at else []) ++ use_text (codes "#clock") (x_of s at) tick_spot
 
 unfoldable pub closing_text : Seen → List ℕ → ℕ → Moment → List ℕ
-closing_text s line nth at = label_text (codes "end") (x_of s at + 24) (end_row nth)
+closing_text s line nth at = label_text (codes "end") (x_of s at + due_gap) (end_row nth)
     ++ (escaped_text line ++ label_closed)
 
 -- what it waits for, in words
@@ -212,13 +221,32 @@ letter_text need.Nothing = codes " "
 unfoldable pub named_text : Need → ℕ → List ℕ
 named_text need target = if target == null_id then [] else letter_text need ++ decimal target
 
--- the same with what the call names
-unfoldable pub waits_text : Need → ℕ → List ℕ
-waits_text need target = codes "waits for " ++ (wanted_text need ++ named_text need target)
+-- who holds a monitor, where somebody does
+unfoldable pub held_words : Need → ℕ → List ℕ
+held_words need.Monitor by = if by == null_id then [] else codes ", held by t" ++ decimal by
+held_words need.Condition by = []
+held_words need.Reply by = []
+held_words need.Letter by = []
+held_words need.Death by = []
+held_words need.Clock by = []
+held_words need.Nothing by = []
+
+-- the same with what the call names, and who has it
+unfoldable pub waits_text : Need → ℕ → ℕ → List ℕ
+waits_text need target by = codes "waits for " ++ (wanted_text need ++ (named_text need target ++ held_words need by))
+
+-- what a lane waits for
+abbrev pub lane_waits : Seen → Lane → List ℕ
+lane_waits s lane = waits_text (need_of lane.verb) lane.target (awaited s.spans lane)
+
+-- a thread of a cycle is drawn in red, and no other: a server may wait for a letter when all is told
+unfoldable pub due_class : Bool → List ℕ
+due_class true = codes "due"
+due_class false = codes "idle"
 
 unfoldable pub due_text : Seen → Lane → Moment → List ℕ
-due_text s lane at = label_text (codes "due") (x_of s at + 6) (y_of s lane.id + foot)
-    ++ (waits_text (need_of lane.verb) lane.target ++ label_closed)
+due_text s lane at = label_text (due_class (is_stuck lane.id s.hops)) (x_of s at + due_gap) (y_of s lane.id + foot)
+    ++ (lane_waits s lane ++ label_closed)
 
 -- a shape of a line
 unfoldable pub shape_text : Seen → List ℕ → Shape → List ℕ
@@ -230,8 +258,8 @@ shape_text s line (shape.Bar span to) = bar_text s span.kind span to
 shape_text s line (shape.Arrow way from left to at) = arrow_text s way from left to at
 shape_text s line (shape.Exit tid at) = use_text (codes "#exit") (x_of s at) (y_of s tid)
 shape_text s line (shape.Death tid at) = use_text (codes "#death") (x_of s at) (y_of s tid)
-shape_text s line (shape.Event client seq nth agent at) = event_text s client seq nth agent at
-shape_text s line (shape.Clock now nth at) = clock_text s now nth at
+shape_text s line (shape.Event client seq nth told agent at) = event_text s client seq nth told agent at
+shape_text s line (shape.Clock now nth told at) = clock_text s now nth told at
 shape_text s line (shape.Trap tid at) = trap_text s tid at
 shape_text s line (shape.Closing nth at) = closing_text s line nth at
 shape_text s line (shape.Due lane at) = due_text s lane at

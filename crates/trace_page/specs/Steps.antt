@@ -1,6 +1,7 @@
 -- What a line makes of all that is known, and what is drawn for it.
 use Rattle.lwp_types.specs.Names.{null_id}
 use Rattle.lwp_types.specs.TextFields.{is_text}
+use Rattle.std.specs.List.{flat_map}
 use Rattle.std.specs.Prelude.{Bool, List, [], false, if◌then◌else◌, length, min, nat_lt, not, take, true, ℕ, ◌&&◌, ◌++◌, ◌+◌, ◌-◌, ◌/◌, ◌==◌, ◌^◌, ◌||◌, ◌∷◌}
 use Rattle.trace_lines.specs.Words.{rest, word}
 use Rattle.trace_lines.specs.declared.entry.Entry.{Entry}
@@ -10,7 +11,9 @@ use Rattle.trace_lines.specs.declared.entry.Gain.TheVariants as gain
 use Rattle.trace_lines.specs.declared.entry.Verb.{Verb}
 use Rattle.trace_lines.specs.declared.entry.Verb.TheVariants as verb
 use Rattle.trace_page.specs.Scene.{Seen, after_begin, after_draw, after_put, lane_of, need_of, one_more, place, together, with_lane}
-use Rattle.trace_page.specs.Spans.{after_change, agent_of, last_from, level_from, next_hold, top_from}
+use Rattle.trace_page.specs.Spans.{after_change, agent_of, bars, last_from, level_from, next_hold, top_from}
+use Rattle.trace_page.specs.Waits.{awaited, deadlocks, place_awaited}
+use Rattle.trace_page.specs.declared.scene.Hop.{Hop}
 use Rattle.trace_page.specs.declared.scene.Kind.TheVariants as kind
 use Rattle.trace_page.specs.declared.scene.Lane.{Lane}
 use Rattle.trace_page.specs.declared.scene.Moment.{Moment}
@@ -19,6 +22,7 @@ use Rattle.trace_page.specs.declared.scene.Need.TheVariants as need
 use Rattle.trace_page.specs.declared.scene.Setting.{Setting}
 use Rattle.trace_page.specs.declared.scene.Shape.{Shape}
 use Rattle.trace_page.specs.declared.scene.Shape.TheVariants as shape
+use Rattle.trace_page.specs.declared.scene.Span.{Span}
 use Rattle.trace_page.specs.declared.scene.Way.TheVariants as way
 use Rattle.trace_page.specs.declared.spans.Change.TheVariants as change
 
@@ -253,15 +257,34 @@ after_die tid s =
     after_change (change.Dies tid) (after_draw (shape.Death tid begins.time)
     (after_put (record lane { waits = false }) ends))
 
+-- the number of a line takes two calls, or four, where it is long
+abbrev pub wide : ℕ → ℕ → ℕ
+wide client seq = if nat_lt client 10 && nat_lt seq 100 then 2 else 4
+
+-- there is room for a number in the row whose turn it is
+abbrev pub has_room : Seen → Bool
+has_room s = not (nat_lt s.time.call s.rows.next)
+
+-- another row's turn comes; this one has room again after the number, if it was told
+abbrev pub after_row : ℕ → Seen → Seen
+after_row width s = record s {
+  events = one_more s.events;
+  rows = record {
+    next = s.rows.second;
+    second = s.rows.third;
+    third = if has_room s then min (s.time.call + width) (2 ^ 64 - 1) else s.rows.next;
+  };
+}
+
 -- the agent has sent its letter
 abbrev pub after_send : ℕ → Seen → Seen
 after_send id s = after_put (record (lane_of s id) { since = s.time }) (record s { agent = id })
 
 abbrev pub after_event : ℕ → ℕ → ℕ → Seen → Seen
 after_event event client seq s =
-    let late = record s { time = record s.time { late = true }; events = one_more s.events } in
+    let late = after_row (wide client seq) (record s { time = record s.time { late = true } }) in
     let agent = agent_of event s.spans in
-    after_send agent (after_draw (shape.Event client seq s.events agent late.time) late)
+    after_send agent (after_draw (shape.Event client seq s.events (has_room s) agent late.time) late)
 
 -- a later agent of the event has sent the same: the line goes on to it, from the agent before
 abbrev pub after_also : ℕ → Seen → Seen
@@ -272,8 +295,8 @@ after_also agent s =
 -- the clock ticks: whom it wakes is woken by nobody
 abbrev pub after_tick : ℕ → Seen → Seen
 after_tick now s =
-    let late = record s { time = record s.time { late = true }; caller = null_id; events = one_more s.events } in
-    after_draw (shape.Clock now s.events late.time) late
+    let late = after_row (wide 0 (now / 10)) (record s { time = record s.time { late = true }; caller = null_id }) in
+    after_draw (shape.Clock now s.events (has_room s) late.time) late
 
 -- a trap is raised in a thread, before its next call: what follows is its doing
 abbrev pub after_trap : ℕ → Seen → Seen
@@ -369,17 +392,43 @@ is_shown s = not s.more && ((s.base == 0) || nat_lt s.base s.time.call)
 
 -- ---- behind all lines
 
--- who waits still
-abbrev pub due : Moment → Lane → List Shape
-due at lane = if lane.waits && may_wait (need_of lane.verb) then shape.Wait lane at ∷ (shape.Due lane at ∷ []) else []
+-- so far right is whom somebody waits for
+abbrev pub aside : Moment → Moment
+aside at = record at { call = one_more (one_more at.call) }
 
-abbrev pub all_due : Moment → List Lane → List Shape
-all_due at [] = []
-all_due at (lane ∷ lanes) = due at lane ++ all_due at lanes
+-- an arrow to whom a thread waits for, if it has a lane
+abbrev pub toward : List Lane → Moment → ℕ → ℕ → List Shape
+toward all at from to = if nat_lt (place_awaited to all) (length all)
+    then shape.Arrow way.Blocked from at to (aside at) ∷ []
+    else []
+
+-- who waits still
+abbrev pub is_due : Lane → Bool
+is_due lane = lane.waits && may_wait (need_of lane.verb)
+
+abbrev pub due : List Lane → List Span → Moment → Lane → List Shape
+due all spans at lane = if is_due lane
+    then shape.Wait lane at ∷ (shape.Due lane at ∷ toward all at lane.id (awaited spans lane))
+    else []
+
+abbrev pub all_due : List Lane → List Span → Moment → List Lane → List Shape
+all_due all spans at [] = []
+all_due all spans at (lane ∷ lanes) = due all spans at lane ++ all_due all spans at lanes
+
+-- the arrows of cycles lie on those of the waits
+abbrev pub hop_shape : Moment → Hop → List Shape
+hop_shape at hop = shape.Arrow way.Deadlock hop.from at hop.to (aside at) ∷ []
+
+abbrev pub hop_shapes : Moment → List Hop → List Shape
+hop_shapes at hops = flat_map (λ hop. hop_shape at hop) hops
 
 -- all that goes on still is drawn, up to the place of the next call
 unfoldable pub after_finish : Seen → Seen
 after_finish s =
-    let ends = record s { time = record { call = one_more s.time.call; late = false }; shapes = [] } in
-    let rest = after_change change.Ends ends in
-    record rest { shapes = rest.shapes ++ all_due rest.time rest.lanes }
+    let at : Moment = record { call = one_more s.time.call; late = false } in
+    let hops = deadlocks s.lanes s.spans in
+    record s {
+      time = at;
+      hops = hops;
+      shapes = bars change.Ends at s.spans ++ (all_due s.lanes s.spans at s.lanes ++ hop_shapes at hops);
+    }

@@ -7,8 +7,8 @@
 //!
 //! `add_page` builds the page, in HTML with an inline SVG. Its contract is `page` in `specs/Page.antt`: the page is a function of the
 //! trace's lines and of the calls that are to be drawn. `Scene.antt`, `Spans.antt` and `Steps.antt` in `specs` say what is known
-//! behind each line and what is drawn for it; `Shapes.antt` and `Frame.antt` are the text of that, by the measures of
-//! `Measures.antt`.
+//! behind each line and what is drawn for it; `Waits.antt` says who waits for whom at the end, and which threads are in a deadlock;
+//! `Shapes.antt` and `Frame.antt` are the text of that, by the measures of `Measures.antt`.
 //!
 //! The crate stands on `trace_lines`, which reads the lines, on `trace_text` for numbers, and reads and writes by `streams`.
 #![tactic(auto)]
@@ -22,6 +22,7 @@ mod shapes;
 mod showing;
 mod spans;
 mod steps;
+mod waits;
 mod words;
 
 pub use laws::{elements_are_closed, lines_are_titles, some_are_closed, texts_are_plain};

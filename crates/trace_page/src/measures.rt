@@ -11,14 +11,17 @@ pub(crate) const CALL_WIDTH: u64 = 16;
 /// From a call to what is drawn behind it and before the next.
 pub(crate) const HALF_CALL: u64 = 8;
 
-/// How many calls stand apart: 5,000 are drawn at most, and behind them stands what comes last.
-pub(crate) const MOST_CALLS: u64 = 5001;
+/// How many calls stand apart: 5,000 are drawn at most, and behind them stand what comes last and whom it waits for.
+pub(crate) const MOST_CALLS: u64 = 5003;
 
 /// How many tenth calls have their number.
 pub(crate) const MOST_TENTHS: u64 = 501;
 
 /// Behind the last call, room for the words that tell the end.
-pub(crate) const END_WIDTH: u64 = 320;
+pub(crate) const END_WIDTH: u64 = 420;
+
+/// Behind the last call, room for the arrows to whom somebody waits for, before the words that tell it.
+pub(crate) const DUE_GAP: u64 = 42;
 
 /// The column of the lanes' names.
 pub(crate) const NAMES_WIDTH: u64 = 150;
@@ -27,7 +30,7 @@ pub(crate) const NAMES_WIDTH: u64 = 150;
 pub(crate) const FIRST_LANE: u64 = 56;
 
 /// From a lane to the next.
-pub(crate) const LANE_HEIGHT: u64 = 44;
+pub(crate) const LANE_HEIGHT: u64 = 68;
 
 /// How many lanes stand apart.
 pub(crate) const MOST_LANES: usize = 65_535;

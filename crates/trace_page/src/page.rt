@@ -1,10 +1,11 @@
 // The page of a trace.
-ghost use Rattle.std.specs.Prelude.{◌≡◌, ◌++◌, true, ℕ, is_some, None, Some, OnOk, IfErr};
+ghost use Rattle.std.specs.Prelude.{◌≡◌, ◌≤◌, ◌++◌, true, ℕ, is_some, None, Some, OnOk, IfErr};
 ghost use Rattle.trace_lines.specs.Entries.{entry_of};
-ghost use Rattle.trace_page.specs.Page.{after_line, after_lines, bad_line, group_if_shown, groups, page, whole_lines};
+ghost use Rattle.trace_page.specs.Page.{after_line, after_lines, bad_line, calls_of, first_bad, group_if_shown, groups, line_calls, page, whole_lines};
 
 use crate::frame::add_head;
 use crate::scene::Scene;
+use crate::steps::is_call;
 use lwp_types::NoMemory;
 use std::alloc::Global;
 use trace_lines::{entry_of, reach, skip};
@@ -70,8 +71,8 @@ fn add_lines<'t>(scene: &mut Scene<'t>, out: &mut Vec<u8>, text: &'t [u8]) -> Re
     ensures told { OnOk result (scene.new ≡ after_lines scene.old (whole_lines text.now)) }
     ensures drawn { OnOk result
         (out.new.items ≡ out.old.items ++ groups scene.old (whole_lines text.now)) }
-    ensures good { OnOk result (bad_line text.now ≡ None) }
-    ensures bad { IfErr result (λ e. (n : ℕ) → e ≡ PageErr.Line n → bad_line text.now ≡ Some n) }
+    ensures good { OnOk result (first_bad text.now ≡ None) }
+    ensures bad { IfErr result (λ e. (n : ℕ) → e ≡ PageErr.Line n → first_bad text.now ≡ Some n) }
 {
     let mut number = 1;
     let mut rest = text;
@@ -90,6 +91,34 @@ fn add_lines<'t>(scene: &mut Scene<'t>, out: &mut Vec<u8>, text: &'t [u8]) -> Re
     Ok(())
 }
 
+// How many calls a line makes.
+fn line_calls(line: &[u8]) -> u64
+    ensures value { result ≡ line_calls line.now }
+    ensures most { result ≤ 1 }
+{
+    match entry_of(line) {
+        Some(entry) if is_call(entry) => 1,
+        _ => 0,
+    }
+}
+
+/// How many calls a trace has.
+pub fn count_calls(text: &[u8]) -> u64
+    ensures { result ≡ calls_of (whole_lines text.now) }
+{
+    let mut calls = 0;
+    let mut rest = text;
+    while !rest.is_empty() {
+        let end = reach(b'\n', rest);
+        if end == rest.len() {
+            return calls;
+        }
+        calls += line_calls(&rest[..end]);
+        rest = skip(end + 1, rest);
+    }
+    calls
+}
+
 /// Puts the page of a trace behind the bytes so far: one HTML page with an inline SVG, of the calls behind `base`, up to `last`.
 pub fn add_page(
     alloc: Global,
@@ -103,6 +132,9 @@ pub fn add_page(
     ensures good { OnOk result (bad_line text.now ≡ None) }
     ensures bad { IfErr result (λ e. (n : ℕ) → e ≡ PageErr.Line n → bad_line text.now ≡ Some n) }
 {
+    if text.is_empty() {
+        return Err(PageErr::Line(1));
+    }
     add_head(out)?;
     let mut scene = Scene::new(alloc, base, last);
     add_lines(&mut scene, out, text)?;

@@ -129,6 +129,28 @@ pub enum Way {
     Wake,
     /// A line that was taken goes on, from an agent to the next of its event; or a death is told, by the dead to an agent.
     Also,
+    /// A thread waits, for that one, when all is told.
+    Blocked,
+    /// The same in a cycle of threads that wait for one another.
+    Deadlock,
+}
+
+/// A thread of a cycle of threads that wait for one another, and whom it waits for.
+#[derive(Clone, Copy)]
+pub struct Hop {
+    pub from: u64,
+    pub to: u64,
+    /// It is the first of its cycle.
+    pub begins: bool,
+}
+
+/// From which call on there is room in each of the three rows of what comes from the outside: in the row whose turn it is, and in the
+/// two after it.
+#[derive(Clone, Copy)]
+pub struct Rows {
+    pub next: u64,
+    pub second: u64,
+    pub third: u64,
 }
 
 /// Something that is drawn.
@@ -176,18 +198,21 @@ pub enum Shape {
         tid: u64,
         at: Moment,
     },
-    /// A line that was taken, how many were taken before, and the first agent of its event; nobody, where it is a trap.
+    /// A line that was taken, how many were taken before, whether there is room to tell it, and the first agent of its event; nobody,
+    /// where it is a trap.
     Event {
         client: u64,
         seq: u64,
         nth: u64,
+        told: bool,
         agent: u64,
         at: Moment,
     },
-    /// A tick of the clock by its number, and how many lines were taken before.
+    /// A tick of the clock by its number, how many lines were taken before, and whether there is room to tell it.
     Clock {
         now: u64,
         nth: u64,
+        told: bool,
         at: Moment,
     },
     /// A trap is raised in the thread.
@@ -215,6 +240,7 @@ pub struct Scene<'t> {
     pub(crate) time: Moment,
     pub(crate) caller: u64,
     pub(crate) events: u64,
+    pub(crate) rows: Rows,
     pub(crate) agent: u64,
     pub(crate) closings: u64,
     pub(crate) words: Words<'t>,
@@ -222,6 +248,7 @@ pub struct Scene<'t> {
     pub(crate) spans: Vec<Span>,
     pub(crate) settings: Vec<Setting>,
     pub(crate) names: Vec<Naming<'t>>,
+    pub(crate) hops: Vec<Hop>,
     pub(crate) shapes: Vec<Shape>,
 }
 
@@ -234,6 +261,7 @@ impl<'t> Drop for Scene<'t> {
             time: _,
             caller: _,
             events: _,
+            rows: _,
             agent: _,
             closings: _,
             words: _,
@@ -241,6 +269,7 @@ impl<'t> Drop for Scene<'t> {
             spans: _,
             settings: _,
             names: _,
+            hops: _,
             shapes: _,
         } = self;
     }
@@ -258,6 +287,7 @@ impl<'t> Model for Scene<'t> {
       time = s.time;
       caller = s.caller;
       events = s.events;
+      rows = s.rows;
       agent = s.agent;
       closings = s.closings;
       words = s.words;
@@ -265,6 +295,7 @@ impl<'t> Model for Scene<'t> {
       spans = s.spans.items;
       settings = s.settings.items;
       names = s.names.items;
+      hops = s.hops.items;
       shapes = s.shapes.items;
     } };
 }

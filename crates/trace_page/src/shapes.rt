@@ -1,15 +1,16 @@
 // The text of what is drawn. Each function but those that answer a number or a word puts its part at the end of the bytes so far.
 ghost use Rattle.std.specs.Prelude.{◌≡◌, ◌≤◌, ◌+◌, ◌++◌, OnOk, codes};
 ghost use Rattle.std.specs.Fmt.{decimal};
-ghost use Rattle.trace_page.specs.Measures.{lane_height, most_down, most_right};
-ghost use Rattle.trace_page.specs.Shapes.{class_text, element_closed, group_closed, group_open, label_closed, posted_text, sign_open, tag_text, title_text, use_open, value_text, waits_text, arrow_text, band_text, bar_text, clock_text, closing_text, deep, due_text, escaped_text, escaped_byte, event_text, group_text, half, held_text, label_text, letter_text, named_text, path_text, rect_text, rule_text, said_text, shape_text, shapes_text, sign_of, tick_text, trap_text, use_text, wait_class, wait_text, wanted_text, way_class, x_of, y_of};
+ghost use Rattle.trace_page.specs.Measures.{below_rows, lane_height, middle, most_down, most_right};
+ghost use Rattle.trace_page.specs.Shapes.{class_text, element_closed, group_closed, group_open, label_closed, posted_text, sign_open, tag_text, title_text, use_open, value_text, waits_text, arrow_text, band_text, bar_text, clock_label, clock_text, closing_text, deep, due_class, due_text, escaped_text, escaped_byte, event_text, group_text, half, held_text, held_words, label_text, lane_waits, letter_text, named_text, path_text, posted_label, rect_text, rule_text, said_text, shape_text, shapes_text, sign_of, tick_text, trap_text, use_text, wait_class, wait_text, wanted_text, way_class, x_of, y_of};
 
 use crate::measures::{
-    BELOW_ROWS, CALL_WIDTH, FIRST_CALL, FIRST_LANE, FOOT, HALF_CALL, LANE_HEIGHT, MIDDLE,
+    BELOW_ROWS, CALL_WIDTH, DUE_GAP, FIRST_CALL, FIRST_LANE, FOOT, HALF_CALL, LANE_HEIGHT, MIDDLE,
     MOST_CALLS, MOST_LANES, TICK_SPOT, end_row, outside_row,
 };
 use crate::scene::{Kind, Lane, Moment, Need, Scene, Shape, Span, Way};
 use crate::steps::{need_of, place};
+use crate::waits::{awaited, is_stuck};
 use lwp_types::NoMemory;
 use trace_lines::{Gain, NOBODY};
 use trace_text::{add_number, add_text};
@@ -187,9 +188,9 @@ fn half(late: bool) -> u64
 #[tactic(auto, unfolding(crate::specs::Shapes::deep))]
 fn deep(level: u64) -> u64
     ensures value { result ≡ deep level }
-    ensures most { result ≤ 36 }
+    ensures most { result ≤ 46 }
 {
-    12 + 8 * level.min(3)
+    7 + 13 * level.min(3)
 }
 
 #[tactic(auto, unfolding(crate::specs::Shapes::wait_class))]
@@ -229,6 +230,8 @@ fn way_class(way: Way) -> &'static [u8]
         Way::Reply => b"replied",
         Way::Wake => b"woken",
         Way::Also => b"event",
+        Way::Blocked => b"blocked",
+        Way::Deadlock => b"deadlock",
     }
 }
 
@@ -269,13 +272,33 @@ fn add_named(out: &mut Vec<u8>, need: Need, target: u64) -> Result<(), NoMemory>
     add_counted(out, letter(need), target)
 }
 
+// Who holds a monitor.
+#[tactic(auto, unfolding(crate::specs::Shapes::held_words))]
+fn add_held_words(out: &mut Vec<u8>, need: Need, by: u64) -> Result<(), NoMemory>
+    ensures { OnOk result (out.new.items ≡ out.old.items ++ held_words need by) }
+{
+    match need {
+        Need::Monitor if by != NOBODY => add_counted(out, b", held by t", by),
+        _ => Ok(()),
+    }
+}
+
 #[tactic(auto, unfolding(crate::specs::Shapes::waits_text))]
-fn add_waits(out: &mut Vec<u8>, need: Need, target: u64) -> Result<(), NoMemory>
-    ensures { OnOk result (out.new.items ≡ out.old.items ++ waits_text need target) }
+fn add_waits(out: &mut Vec<u8>, need: Need, target: u64, by: u64) -> Result<(), NoMemory>
+    ensures { OnOk result (out.new.items ≡ out.old.items ++ waits_text need target by) }
 {
     add_text(out, b"waits for ")?;
     add_text(out, wanted(need))?;
-    add_named(out, need, target)
+    add_named(out, need, target)?;
+    add_held_words(out, need, by)
+}
+
+// A thread of a cycle is drawn in red, and no other.
+#[tactic(auto, unfolding(crate::specs::Shapes::due_class))]
+fn due_class(stuck: bool) -> &'static [u8]
+    ensures { result.now ≡ due_class stuck }
+{
+    if stuck { b"due" } else { b"idle" }
 }
 
 #[tactic(auto, unfolding(crate::specs::Shapes::posted_text))]
@@ -390,8 +413,8 @@ impl<'t> Scene<'t> {
     {
         let x = self.x_of(span.since);
         let y = self.y_of(span.tid) + deep(span.level);
-        add_rect(out, b"held", x, y, self.x_of(to).saturating_sub(x), 7)?;
-        add_tag(out, x + 3, y + 6, span.of)
+        add_rect(out, b"held", x, y, self.x_of(to).saturating_sub(x), 12)?;
+        add_tag(out, x + 3, y + 10, span.of)
     }
 
     #[tactic(auto, unfolding(crate::specs::Shapes::band_text))]
@@ -445,6 +468,40 @@ impl<'t> Scene<'t> {
         add_path(out, way_class(way), x, y, to_x, to_y)
     }
 
+    #[tactic(auto, unfolding(crate::specs::Shapes::posted_label))]
+    fn add_posted_label(
+        &self,
+        out: &mut Vec<u8>,
+        client: u64,
+        seq: u64,
+        nth: u64,
+        at: Moment,
+    ) -> Result<(), NoMemory>
+        ensures { OnOk result
+            (out.new.items ≡ out.old.items ++ posted_label self.now client seq nth at) }
+    {
+        add_label(out, b"event", self.x_of(at), outside_row(nth))?;
+        add_posted(out, client, seq)?;
+        add_label_closed(out)
+    }
+
+    // The line of an event, down to an agent.
+    fn add_event_line(&self, out: &mut Vec<u8>, agent: u64, at: Moment) -> Result<(), NoMemory>
+        ensures { OnOk result
+            (out.new.items
+            ≡ out.old.items
+            ++ path_text
+            (codes "event")
+            (x_of self.now at)
+            below_rows
+            (x_of self.now at)
+            (y_of self.now agent + middle)) }
+    {
+        let x = self.x_of(at);
+        let y = self.y_of(agent) + MIDDLE;
+        add_path(out, b"event", x, BELOW_ROWS, x, y)
+    }
+
     #[tactic(auto, unfolding(crate::specs::Shapes::event_text))]
     fn add_event(
         &self,
@@ -452,29 +509,49 @@ impl<'t> Scene<'t> {
         client: u64,
         seq: u64,
         nth: u64,
+        told: bool,
         agent: u64,
         at: Moment,
     ) -> Result<(), NoMemory>
         ensures { OnOk result
-            (out.new.items ≡ out.old.items ++ event_text self.now client seq nth agent at) }
+            (out.new.items ≡ out.old.items ++ event_text self.now client seq nth told agent at) }
     {
-        let x = self.x_of(at);
-        let y = self.y_of(agent) + MIDDLE;
-        add_label(out, b"event", x, outside_row(nth))?;
-        add_posted(out, client, seq)?;
-        add_label_closed(out)?;
-        add_path(out, b"event", x, BELOW_ROWS, x, y)
+        if told {
+            self.add_posted_label(out, client, seq, nth, at)?;
+        }
+        self.add_event_line(out, agent, at)
+    }
+
+    #[tactic(auto, unfolding(crate::specs::Shapes::clock_label))]
+    fn add_clock_label(
+        &self,
+        out: &mut Vec<u8>,
+        now: u64,
+        nth: u64,
+        at: Moment,
+    ) -> Result<(), NoMemory>
+        ensures { OnOk result (out.new.items ≡ out.old.items ++ clock_label self.now now nth at) }
+    {
+        add_label(out, b"clock", self.x_of(at), outside_row(nth))?;
+        add_number(out, now)?;
+        add_label_closed(out)
     }
 
     #[tactic(auto, unfolding(crate::specs::Shapes::clock_text))]
-    fn add_clock(&self, out: &mut Vec<u8>, now: u64, nth: u64, at: Moment) -> Result<(), NoMemory>
-        ensures { OnOk result (out.new.items ≡ out.old.items ++ clock_text self.now now nth at) }
+    fn add_clock(
+        &self,
+        out: &mut Vec<u8>,
+        now: u64,
+        nth: u64,
+        told: bool,
+        at: Moment,
+    ) -> Result<(), NoMemory>
+        ensures { OnOk result (out.new.items ≡ out.old.items ++ clock_text self.now now nth told at) }
     {
-        let x = self.x_of(at);
-        add_label(out, b"clock", x, outside_row(nth))?;
-        add_number(out, now)?;
-        add_label_closed(out)?;
-        add_use(out, b"#clock", x, TICK_SPOT)
+        if told {
+            self.add_clock_label(out, now, nth, at)?;
+        }
+        add_use(out, b"#clock", self.x_of(at), TICK_SPOT)
     }
 
     #[tactic(auto, unfolding(crate::specs::Shapes::trap_text))]
@@ -497,20 +574,28 @@ impl<'t> Scene<'t> {
         ensures { OnOk result
             (out.new.items ≡ out.old.items ++ closing_text self.now line.now nth at) }
     {
-        let x = self.x_of(at) + 24;
+        let x = self.x_of(at) + DUE_GAP;
         add_label(out, b"end", x, end_row(nth))?;
         add_escaped(out, line)?;
         add_label_closed(out)
+    }
+
+    /// What a lane waits for, and who has it.
+    pub(crate) fn add_lane_waits(&self, out: &mut Vec<u8>, lane: Lane) -> Result<(), NoMemory>
+        ensures { OnOk result (out.new.items ≡ out.old.items ++ lane_waits self.now lane) }
+    {
+        let by = awaited(lane, &self.spans);
+        add_waits(out, need_of(lane.verb), lane.target, by)
     }
 
     #[tactic(auto, unfolding(crate::specs::Shapes::due_text))]
     fn add_due(&self, out: &mut Vec<u8>, lane: Lane, at: Moment) -> Result<(), NoMemory>
         ensures { OnOk result (out.new.items ≡ out.old.items ++ due_text self.now lane at) }
     {
-        let x = self.x_of(at) + 6;
+        let x = self.x_of(at) + DUE_GAP;
         let y = self.y_of(lane.id) + FOOT;
-        add_label(out, b"due", x, y)?;
-        add_waits(out, need_of(lane.verb), lane.target)?;
+        add_label(out, due_class(is_stuck(lane.id, &self.hops)), x, y)?;
+        self.add_lane_waits(out, lane)?;
         add_label_closed(out)
     }
 
@@ -539,10 +624,11 @@ impl<'t> Scene<'t> {
                 client,
                 seq,
                 nth,
+                told,
                 agent,
                 at,
-            } => self.add_event(out, client, seq, nth, agent, at),
-            Shape::Clock { now, nth, at } => self.add_clock(out, now, nth, at),
+            } => self.add_event(out, client, seq, nth, told, agent, at),
+            Shape::Clock { now, nth, told, at } => self.add_clock(out, now, nth, told, at),
             Shape::Trap { tid, at } => self.add_trap(out, tid, at),
             Shape::Closing { nth, at } => self.add_closing(out, line, nth, at),
             Shape::Due { lane, at } => self.add_due(out, lane, at),

@@ -1,11 +1,11 @@
 // A trace is read, and its page is written.
 ghost use Rattle.std.specs.Prelude.{◌≡◌, ◌++◌, IfOk, OnOk, map, string_bytes};
-ghost use Rattle.trace_page.specs.View.{EndSays, ViewSays, fault_text, line_front, status_of};
-ghost use Rattle.trace_page.specs.Words.{window_of};
+ghost use Rattle.trace_page.specs.View.{EndSays, ViewSays, fault_text, line_front, status_of, window_of};
+ghost use Rattle.trace_page.specs.Words.{range_of};
 ghost use Rattle.streams.specs.Streams.{sides};
 
-use crate::page::{PageErr, add_page};
-use crate::words::{Window, window_of};
+use crate::page::{PageErr, add_page, count_calls};
+use crate::words::{Range, Window, range_of};
 use lwp_types::{NoMemory, Sink, Source};
 use std::alloc::Global;
 use streams::{ReadFailure, read_all, write_all};
@@ -51,7 +51,7 @@ fn add_fault(out: &mut Vec<u8>, end: ViewEnd) -> Result<(), NoMemory>
 {
     match end {
         ViewEnd::Shown => Ok(()),
-        ViewEnd::Usage => add_text(out, b"lwpview: usage: [FROM TO]\n"),
+        ViewEnd::Usage => add_text(out, b"lwpview: usage: [FROM TO | --last N]\n"),
         ViewEnd::ReadFault => add_text(out, b"lwpview: read fault\n"),
         ViewEnd::WriteFault => add_text(out, b"lwpview: write fault\n"),
         ViewEnd::Line(number) => {
@@ -72,9 +72,25 @@ pub fn fault_text(alloc: Global, end: ViewEnd) -> Result<Vec<u8>, NoMemory>
     Ok(out)
 }
 
+// The calls of a trace that are drawn.
+fn window_of(range: Range, text: &[u8]) -> Window
+    ensures { result ≡ window_of range text.now }
+{
+    match range {
+        Range::Calls { window } => window,
+        Range::Last { count } => {
+            let calls = count_calls(text);
+            Window {
+                base: calls.saturating_sub(count),
+                last: calls,
+            }
+        }
+    }
+}
+
 // The page of so many calls.
-fn show<S: Source, K: Sink>(alloc: Global, window: Window, source: &mut S, sink: &mut K) -> ViewEnd
-    ensures { EndSays window
+fn show<S: Source, K: Sink>(alloc: Global, range: Range, source: &mut S, sink: &mut K) -> ViewEnd
+    ensures { EndSays range
         (sides S.left S.faults source.old source.new)
         (sides K.written K.faults sink.old sink.new) result }
 {
@@ -83,6 +99,7 @@ fn show<S: Source, K: Sink>(alloc: Global, window: Window, source: &mut S, sink:
         Err(ReadFailure::Fault) => return ViewEnd::ReadFault,
         Err(ReadFailure::NoMemory) => return ViewEnd::NoMemory,
     };
+    let window = window_of(range, &text);
     let mut page = Vec::new(alloc);
     match add_page(alloc, &mut page, window.base, window.last, &text) {
         Ok(()) => {}
@@ -96,19 +113,19 @@ fn show<S: Source, K: Sink>(alloc: Global, window: Window, source: &mut S, sink:
 }
 
 /// Reads a trace and writes its page, by the program's words, which stand behind its name: none, or the numbers of the first call
-/// that is to be drawn and of the last. Other words are no command: nothing is read or written then.
+/// that is to be drawn and of the last, or `--last` and how many at the end are. Other words are no command: nothing is read or written then.
 pub fn view<S: Source, K: Sink>(
     alloc: Global,
     words: &Vec<String>,
     source: &mut S,
     sink: &mut K,
 ) -> ViewEnd
-    ensures { ViewSays (window_of (map string_bytes words.now.items))
+    ensures { ViewSays (range_of (map string_bytes words.now.items))
         (sides S.left S.faults source.old source.new)
         (sides K.written K.faults sink.old sink.new) result }
 {
-    match window_of(words) {
-        Some(window) => show(alloc, window, source, sink),
+    match range_of(words) {
+        Some(range) => show(alloc, range, source, sink),
         None => ViewEnd::Usage,
     }
 }

@@ -2,10 +2,13 @@
 ghost use Rattle.std.specs.Prelude.{◌≡◌, ◌++◌, ◌&&◌, OnOk};
 ghost use Rattle.trace_page.specs.Scene.{after_begin, after_draw, after_put, blank, lane_of, need_of, one_more, opening, place, together, with_lane};
 ghost use Rattle.trace_page.specs.Spans.{after_change, next_hold};
-ghost use Rattle.trace_page.specs.Steps.{after_act, after_also, after_answer, after_call, after_carry_out, after_count, after_create, after_die, after_entry, after_event, after_exit, after_finish, after_give_up, after_grant, after_leave, after_meet, after_name, after_note, after_park, after_report, after_say, after_send, after_set, after_settle, after_show_answer, after_speak, after_tick, after_trap, all_due, arrival_shapes, asking, drawable, due, has_waited, is_call, is_past, is_shown, may_wait, owner_of, room, wait_shapes, wake_shapes, with_agent, with_closing, words_of};
+ghost use Rattle.trace_page.specs.Steps.{after_act, after_also, after_answer, after_call, after_carry_out, after_count, after_create, after_die, after_entry, after_event, after_exit, after_finish, after_give_up, after_grant, after_leave, after_meet, after_name, after_note, after_park, after_report, after_row, after_say, after_send, after_set, after_settle, after_show_answer, after_speak, after_tick, after_trap, all_due, arrival_shapes, aside, asking, drawable, due, has_room, has_waited, hop_shape, hop_shapes, is_call, is_due, is_past, is_shown, may_wait, owner_of, room, toward, wait_shapes, wake_shapes, wide, with_agent, with_closing, words_of};
 
-use crate::scene::{Kind, Lane, Moment, Naming, Need, Scene, Setting, Shape, Span, Way, Words};
+use crate::scene::{
+    Hop, Kind, Lane, Moment, Naming, Need, Rows, Scene, Setting, Shape, Span, Way, Words,
+};
 use crate::spans::{Change, add_bars, add_kept, agent_of, level_of, monitor_at, top_level};
+use crate::waits::{awaited, deadlocks, place_awaited};
 use lwp_types::{NoMemory, is_text};
 use std::alloc::Global;
 use trace_lines::{Entry, Gain, NOBODY, Verb, rest, word};
@@ -127,26 +130,100 @@ fn add_woken(out: &mut Vec<Shape>, lane: Lane, caller: u64, now: Moment) -> Resu
     Ok(())
 }
 
-fn add_due(out: &mut Vec<Shape>, at: Moment, lane: Lane) -> Result<(), NoMemory>
-    ensures { OnOk result (out.new.items ≡ out.old.items ++ due at lane) }
+// So far right is whom somebody waits for.
+fn aside(at: Moment) -> Moment
+    ensures { result ≡ aside at }
 {
-    if lane.waits && may_wait(need_of(lane.verb)) {
-        out.push(Shape::Wait { lane, to: at })?;
-        out.push(Shape::Due { lane, at })?;
+    Moment {
+        call: one_more(one_more(at.call)),
+        ..at
+    }
+}
+
+fn add_toward(
+    out: &mut Vec<Shape>,
+    lanes: &[Lane],
+    at: Moment,
+    from: u64,
+    to: u64,
+) -> Result<(), NoMemory>
+    ensures { OnOk result (out.new.items ≡ out.old.items ++ toward lanes.now at from to) }
+{
+    if place_awaited(to, lanes) < lanes.len() {
+        out.push(Shape::Arrow {
+            way: Way::Blocked,
+            from,
+            left: at,
+            to,
+            at: aside(at),
+        })?;
     }
     Ok(())
 }
 
-fn add_all_due(out: &mut Vec<Shape>, at: Moment, lanes: &[Lane]) -> Result<(), NoMemory>
-    ensures { OnOk result (out.new.items ≡ out.old.items ++ all_due at lanes.now) }
+/// Whether a lane waits still.
+pub fn is_due(lane: Lane) -> bool
+    ensures { result ≡ is_due lane }
+{
+    lane.waits && may_wait(need_of(lane.verb))
+}
+
+fn add_due(
+    out: &mut Vec<Shape>,
+    lanes: &[Lane],
+    spans: &[Span],
+    at: Moment,
+    lane: Lane,
+) -> Result<(), NoMemory>
+    ensures { OnOk result (out.new.items ≡ out.old.items ++ due lanes.now spans.now at lane) }
+{
+    if !is_due(lane) {
+        return Ok(());
+    }
+    out.push(Shape::Wait { lane, to: at })?;
+    out.push(Shape::Due { lane, at })?;
+    add_toward(out, lanes, at, lane.id, awaited(lane, spans))
+}
+
+fn add_all_due(
+    out: &mut Vec<Shape>,
+    lanes: &[Lane],
+    spans: &[Span],
+    at: Moment,
+) -> Result<(), NoMemory>
+    ensures { OnOk result
+        (out.new.items ≡ out.old.items ++ all_due lanes.now spans.now at lanes.now) }
 {
     for lane in lanes {
-        add_due(out, at, *lane)?;
+        add_due(out, lanes, spans, at, *lane)?;
     }
     Ok(())
 }
 
-fn is_call(entry: Entry) -> bool
+fn add_hop_shape(out: &mut Vec<Shape>, at: Moment, hop: Hop) -> Result<(), NoMemory>
+    ensures { OnOk result (out.new.items ≡ out.old.items ++ hop_shape at hop) }
+{
+    out.push(Shape::Arrow {
+        way: Way::Deadlock,
+        from: hop.from,
+        left: at,
+        to: hop.to,
+        at: aside(at),
+    })?;
+    Ok(())
+}
+
+fn add_hop_shapes(out: &mut Vec<Shape>, at: Moment, hops: &[Hop]) -> Result<(), NoMemory>
+    ensures { OnOk result (out.new.items ≡ out.old.items ++ hop_shapes at hops.now) }
+{
+    for hop in hops {
+        add_hop_shape(out, at, *hop)?;
+    }
+    Ok(())
+}
+
+/// Whether a line makes a call.
+pub fn is_call(entry: Entry) -> bool
     ensures { result ≡ is_call entry }
 {
     match entry {
@@ -158,6 +235,13 @@ fn is_call(entry: Entry) -> bool
         } => true,
         _ => false,
     }
+}
+
+// How many calls the number of a line takes.
+fn wide(client: u64, seq: u64) -> u64
+    ensures { result ≡ wide client seq }
+{
+    if client < 10 && seq < 100 { 2 } else { 4 }
 }
 
 // What a call says, or the procedure that it names, in its line.
@@ -212,6 +296,11 @@ impl<'t> Scene<'t> {
             },
             caller: NOBODY,
             events: 0,
+            rows: Rows {
+                next: 0,
+                second: 0,
+                third: 0,
+            },
             agent: NOBODY,
             closings: 0,
             words: Words::new(&[]),
@@ -219,6 +308,7 @@ impl<'t> Scene<'t> {
             spans: Vec::new(alloc),
             settings: Vec::new(alloc),
             names: Vec::new(alloc),
+            hops: Vec::new(alloc),
             shapes: Vec::new(alloc),
         }
     }
@@ -653,21 +743,46 @@ impl<'t> Scene<'t> {
         self.put(lane);
     }
 
+    fn has_room(&self) -> bool
+        ensures { result ≡ has_room self.now }
+    {
+        self.rows.next <= self.time.call
+    }
+
+    // Another row's turn comes.
+    fn turn_row(&mut self, width: u64)
+        ensures { self.new ≡ after_row width self.old }
+    {
+        let third = if self.has_room() {
+            self.time.call.saturating_add(width)
+        } else {
+            self.rows.next
+        };
+        self.events = one_more(self.events);
+        self.rows = Rows {
+            next: self.rows.second,
+            second: self.rows.third,
+            third,
+        };
+    }
+
     fn take(&mut self, event: u64, client: u64, seq: u64) -> Result<(), NoMemory>
         ensures { OnOk result (self.new ≡ after_event event client seq self.old) }
     {
         let agent = agent_of(event, &self.spans);
         let nth = self.events;
+        let told = self.has_room();
         self.time = Moment {
             late: true,
             ..self.time
         };
-        self.events = one_more(nth);
+        self.turn_row(wide(client, seq));
         let at = self.time;
         self.draw(Shape::Event {
             client,
             seq,
             nth,
+            told,
             agent,
             at,
         })?;
@@ -700,14 +815,15 @@ impl<'t> Scene<'t> {
         ensures { OnOk result (self.new ≡ after_tick now self.old) }
     {
         let nth = self.events;
+        let told = self.has_room();
         self.time = Moment {
             late: true,
             ..self.time
         };
         self.caller = NOBODY;
-        self.events = one_more(nth);
+        self.turn_row(wide(0, now / 10));
         let at = self.time;
-        self.draw(Shape::Clock { now, nth, at })
+        self.draw(Shape::Clock { now, nth, told, at })
     }
 
     // A trap is raised in a thread.
@@ -834,7 +950,9 @@ impl<'t> Scene<'t> {
             late: false,
         };
         self.shapes.clear();
-        self.change(Change::Ends)?;
-        add_all_due(&mut self.shapes, self.time, &self.lanes)
+        self.hops = deadlocks(*self.spans.allocator(), &self.lanes, &self.spans)?;
+        add_bars(&mut self.shapes, Change::Ends, self.time, &self.spans)?;
+        add_all_due(&mut self.shapes, &self.lanes, &self.spans, self.time)?;
+        add_hop_shapes(&mut self.shapes, self.time, &self.hops)
     }
 }

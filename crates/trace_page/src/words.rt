@@ -1,6 +1,6 @@
 // What the words ask for.
 ghost use Rattle.std.specs.Prelude.{◌≡◌, ◌≤◌, IfSome, map, string_bytes};
-ghost use Rattle.trace_page.specs.Words.{call_of, from_to, window_of};
+ghost use Rattle.trace_page.specs.Words.{call_of, from_to, last_by, pair_of, range_by, range_of};
 
 use trace_lines::whole_number;
 
@@ -9,6 +9,14 @@ use trace_lines::whole_number;
 pub struct Window {
     pub base: u64,
     pub last: u64,
+}
+
+/// The calls of a trace that are asked for.
+#[derive(Clone, Copy)]
+pub enum Range {
+    Calls { window: Window },
+    /// So many at its end.
+    Last { count: u64 },
 }
 
 // The number of a call that a word writes.
@@ -39,20 +47,49 @@ fn from_to(from: u64, to: u64) -> Option<Window>
     })
 }
 
-/// The calls that the words ask for: without words the first 5,000, with two those from the one to the other.
-pub fn window_of(words: &Vec<String>) -> Option<Window>
-    ensures { result ≡ window_of (map string_bytes words.now.items) }
+fn range_by(from: &[u8], to: &[u8]) -> Option<Range>
+    ensures { result ≡ range_by (call_of from.now) (call_of to.now) }
+{
+    let from = call_of(from)?;
+    let to = call_of(to)?;
+    let window = from_to(from, to)?;
+    Some(Range::Calls { window })
+}
+
+fn last_by(count: &[u8]) -> Option<Range>
+    ensures { result ≡ last_by (call_of count.now) }
+{
+    let count = call_of(count)?;
+    Some(Range::Last {
+        count: count.min(5000),
+    })
+}
+
+#[tactic(auto, unfolding(crate::specs::Words::pair_of))]
+fn pair_of(first: &[u8], second: &[u8]) -> Option<Range>
+    ensures { result ≡ pair_of first.now second.now }
+{
+    if first == b"--last".as_slice() {
+        last_by(second)
+    } else {
+        range_by(first, second)
+    }
+}
+
+/// The calls that the words ask for: without words the first 5,000, with two numbers those from the one to the other, and with `--last`
+/// and a number so many at the end, of more than 5,000 the last 5,000.
+pub fn range_of(words: &Vec<String>) -> Option<Range>
+    ensures { result ≡ range_of (map string_bytes words.now.items) }
 {
     match words.as_slice() {
-        [] => Some(Window {
-            base: 0,
-            last: 5000,
-        }),
-        [from, to] => {
-            let from = call_of(from.as_bytes())?;
-            let to = call_of(to.as_bytes())?;
-            from_to(from, to)
+        [] => {
+            let window = Window {
+                base: 0,
+                last: 5000,
+            };
+            Some(Range::Calls { window })
         }
+        [first, second] => pair_of(first.as_bytes(), second.as_bytes()),
         _ => None,
     }
 }
