@@ -7,10 +7,10 @@ _loqzemar_lwpserve() {
   [ "$COMP_CWORD" -ne 1 ] || mapfile -t COMPREPLY < <(compgen -W 'plan run make batch answers replay --help --version' -- "$2")
 }
 
-# The options of lwpview; its other words are numbers.
+# The words of lwpview that are no numbers.
 _loqzemar_lwpview() {
   COMPREPLY=()
-  [ "$COMP_CWORD" -ne 1 ] || mapfile -t COMPREPLY < <(compgen -W '--help --version' -- "$2")
+  [ "$COMP_CWORD" -ne 1 ] || mapfile -t COMPREPLY < <(compgen -W '--last --help --version' -- "$2")
 }
 
 # The options of lwpcheck, of which it takes one.
