@@ -81,10 +81,10 @@ waiter_framed s was c calm h v waits blocked =
     let its = waiter_row s h v waits in
     let to = blocked_row s v blocked in
     step_framed s h v c (λ t chooses.
-        let run = chosen s was.nine t chooses in
-        calm_case s was.nine t h v its.row its.known its.waits
-        (not_the_caller s t h run.row its.row run.known run.eligible its.known its.blocked)
-        (not_the_caller s t v run.row to.row run.known run.eligible to.known to.waits) c calm)
+    let run = chosen s was.nine t chooses in
+    calm_case s was.nine t h v its.row its.known its.waits
+    (not_the_caller s t h run.row its.row run.known run.eligible its.known its.blocked)
+    (not_the_caller s t v run.row to.row run.known run.eligible to.known to.waits) c calm)
 
 pub their_waiters_stay : TheirWaitersStay
 their_waiters_stay s was c calm h v waits blocked = next_framed h v s (step s c).after (waiter_framed s was c calm h v waits blocked) waits

@@ -131,5 +131,5 @@ pub the_blocked_stay : TheBlockedStay
 the_blocked_stay s was c calm h blocked =
     let its = blocked_row s h blocked in
     (step_framed s h h c (λ t chooses.
-        let run = chosen s was.nine t chooses in
-        quiet_case s t h h its.row its.known (not_the_caller s t h run.row its.row run.known run.eligible its.known its.waits) c calm)).block
+    let run = chosen s was.nine t chooses in
+    quiet_case s t h h its.row its.known (not_the_caller s t h run.row its.row run.known run.eligible its.known its.waits) c calm)).block
