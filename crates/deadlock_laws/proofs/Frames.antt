@@ -1,7 +1,7 @@
 -- What a change of the state leaves as it is for a thread that waits: its block, its letter and the owners of monitors.
 use Rattle.deadlock_laws.specs.Deadlocks.{block_in}
 use Rattle.lwp_types.specs.Case.{Case, Check, unless}
-use Rattle.lwp_types.specs.Messages.{is_letter_of, with_reception}
+use Rattle.lwp_types.specs.Messages.{is_letter_of, with_reception, without_letter}
 use Rattle.lwp_types.specs.MonitorRelease.{is_lock, lock_of}
 use Rattle.lwp_types.specs.Monitors.{lock_with_depth, with_depth, with_entry}
 use Rattle.lwp_types.specs.State.{State, ThreadRow, is_number, is_thread, row_with_block, thread_of}
@@ -9,11 +9,11 @@ use Rattle.lwp_types.specs.declared.rows.Block.{Block}
 use Rattle.lwp_types.specs.declared.rows.Letter.{Letter}
 use Rattle.lwp_types.specs.declared.rows.Lock.{Lock}
 use Rattle.pod_laws.proofs.Checks.{Passed, unless_keeps}
-use Rattle.pod_laws.proofs.Elements.{find_map, find_push_some}
+use Rattle.pod_laws.proofs.Elements.{find_filter_same, find_push_some, not_of}
 use Rattle.pod_laws.proofs.Rows.{KeepsNumber, find_rowed, live_rowed, number_known}
 use Rattle.state_text.specs.Waiting.{awaited, awaited_by, named_thread, next_of, owner_of, receiver_of}
-use Rattle.std.proofs.Common.{Bool, List, None, Option, Some, [], ap, arith, cond, eqb, false, length, map, refl, sym, true, ℕ, ◌+◌, ◌++◌, ◌∙◌, ◌∷◌, ◌||◌, ◌≡◌, ◌≢◌, ◌≤◌}
-use Rattle.std.proofs.lemmas.Bool.{ne_eqb}
+use Rattle.std.proofs.Common.{Bool, List, None, Option, Some, [], ap, arith, cond, false, length, map, not, refl, sym, true, ℕ, ◌+◌, ◌++◌, ◌∙◌, ◌∷◌, ◌||◌, ◌≡◌, ◌≢◌, ◌≤◌}
+use Rattle.std.proofs.lemmas.Bool.{eqb-true, ne_eqb}
 use Rattle.std.proofs.lemmas.List.{length-append, length-map}
 use Rattle.std.proofs.lemmas.Option.{none-some}
 use Rattle.std.specs.List.{find}
@@ -25,7 +25,8 @@ use Rattle.lwp_types.specs.declared.rows.Block.TheVariants as block
 pub letter_pushed : (letters : List Letter) (h v : ℕ) (letter : Letter) → receiver_of letters h ≡ Some v → receiver_of (letters ++ letter ∷ []) h ≡ Some v
 letter_pushed letters h v letter e = by_letter (find (is_letter_of h) letters) refl e
   where
-    by_letter : (o : Option Letter) → find (is_letter_of h) letters ≡ o → option_map (λ (l : Letter). l.to) o ≡ Some v → receiver_of (letters ++ letter ∷ []) h ≡ Some v
+    by_letter : (o : Option Letter) → find (is_letter_of h) letters ≡ o → option_map (λ (l : Letter). l.to) o ≡ Some v
+        → receiver_of (letters ++ letter ∷ []) h ≡ Some v
     by_letter None found e = absurd (none-some v e)
     by_letter (Some l) found e = ap (option_map (λ (l : Letter). l.to)) (find_push_some (is_letter_of h) letters l letter found) ∙ e
 
@@ -33,9 +34,16 @@ pub letter_received : (x : ℕ) (letters : List Letter) (h : ℕ) → receiver_o
 letter_received x [] h = refl
 letter_received x (l ∷ ls) h = by_test (is_letter_of h l) (letter_received x ls h)
   where
-    by_test : (b : Bool) → receiver_of (with_reception x ls) h ≡ receiver_of ls h → option_map (λ (l : Letter). l.to) (cond b (Some (record l { received = is_letter_of x l || l.received })) (find (is_letter_of h) (with_reception x ls))) ≡ option_map (λ (l : Letter). l.to) (cond b (Some l) (find (is_letter_of h) ls))
+    by_test : (b : Bool) → receiver_of (with_reception x ls) h ≡ receiver_of ls h
+        → option_map (λ (l : Letter). l.to) (cond b (Some (record l { received = is_letter_of x l || l.received }))
+        (find (is_letter_of h) (with_reception x ls)))
+        ≡ option_map (λ (l : Letter). l.to) (cond b (Some l) (find (is_letter_of h) ls))
     by_test true rest = refl
     by_test false rest = rest
+
+pub letter_left : (u : ℕ) (letters : List Letter) (h : ℕ) → h ≢ u → receiver_of (without_letter u letters) h ≡ receiver_of letters h
+letter_left u letters h away = ap (option_map (λ (l : Letter). l.to)) (find_filter_same (is_letter_of h) (λ l. not (is_letter_of u l))
+    (λ l e. not_of _ (ne_eqb l.from u (λ f. away (sym (eqb-true l.from h e) ∙ f)))) letters)
 
 -- locks
 
@@ -50,7 +58,9 @@ pub owner_deepened : (k n : ℕ) (locks : List Lock) (m : ℕ) → owner_of (wit
 owner_deepened k n [] m = refl
 owner_deepened k n (l ∷ ls) m = by_test (is_lock m l) (owner_deepened k n ls m)
   where
-    by_test : (b : Bool) → owner_of (with_depth k n ls) m ≡ owner_of ls m → option_map (λ (l : Lock). l.owner) (cond b (Some (lock_with_depth k n l)) (find (is_lock m) (with_depth k n ls))) ≡ option_map (λ (l : Lock). l.owner) (cond b (Some l) (find (is_lock m) ls))
+    by_test : (b : Bool) → owner_of (with_depth k n ls) m ≡ owner_of ls m
+        → option_map (λ (l : Lock). l.owner) (cond b (Some (lock_with_depth k n l)) (find (is_lock m) (with_depth k n ls)))
+        ≡ option_map (λ (l : Lock). l.owner) (cond b (Some l) (find (is_lock m) ls))
     by_test true rest = refl
     by_test false rest = rest
 
@@ -100,21 +110,24 @@ module _ (h v : ℕ) where
     more = omega (arith, ap length rows, length-map s.threads g);
   }
     where
-      by_row : (o : Option ThreadRow) → thread_of s h ≡ o → option_map (λ (row : ThreadRow). row.block) (option_map g o) ≡ option_map (λ (row : ThreadRow). row.block) o
+      by_row : (o : Option ThreadRow) → thread_of s h ≡ o
+          → option_map (λ (row : ThreadRow). row.block) (option_map g o) ≡ option_map (λ (row : ThreadRow). row.block) o
       by_row None e = refl
       by_row (Some row) e = ap Some (same row (number_known s.threads h row e))
 
   -- letters and locks stay too
   pub mapped_lists : (s after : State) (g : ThreadRow → ThreadRow) → KeepsNumber g → ((row : ThreadRow) → row.number ≡ h → (g row).block ≡ row.block)
       → after.threads ≡ map g s.threads → after.letters ≡ s.letters → after.locks ≡ s.locks → Framed h v s after
-  mapped_lists s after g keeps same rows letters locks = mapped s after g keeps same rows (λ e. ap (λ ls. receiver_of ls h) letters ∙ e) (λ m e. ap (λ ls. owner_of ls m) locks ∙ e)
+  mapped_lists s after g keeps same rows letters locks =
+      mapped s after g keeps same rows (λ e. ap (λ ls. receiver_of ls h) letters ∙ e) (λ m e. ap (λ ls. owner_of ls m) locks ∙ e)
 
   -- another thread's block is put
   pub other_block : (t : ℕ) → h ≢ t → (b : Block) (row : ThreadRow) → row.number ≡ h → (row_with_block t b row).block ≡ row.block
   other_block t other b row same = rw (ne_eqb row.number t (λ e. other (sym same ∙ e))) refl
 
   -- a thread is born
-  pub pushed : (s after : State) (row : ThreadRow) → thread_of s h ≡ Some row → (new : ThreadRow) → after.threads ≡ s.threads ++ new ∷ [] → after.letters ≡ s.letters → after.locks ≡ s.locks → Framed h v s after
+  pub pushed : (s after : State) (row : ThreadRow) → thread_of s h ≡ Some row → (new : ThreadRow) → after.threads ≡ s.threads ++ new ∷ []
+      → after.letters ≡ s.letters → after.locks ≡ s.locks → Framed h v s after
   pushed s after row known new rows letters locks = record {
     block = ap (λ rows. option_map (λ (row : ThreadRow). row.block) (find (is_number h) rows)) rows
         ∙ ap (option_map (λ (row : ThreadRow). row.block)) (find_push_some (is_number h) s.threads row new known ∙ sym known);
@@ -140,7 +153,8 @@ module _ (h v : ℕ) where
   pub framed_end : (s after : State) (b : Bool) → Framed h v s after → Framed h v s (record after { ended = b })
   framed_end s after b f = record { block = f.block; letter = f.letter; owner = f.owner; lives = f.lives; more = f.more }
 
-  pub framed_unless : (s : State) (checks : List Check) (otherwise : Case) → (Passed checks → Framed h v s otherwise.after) → Framed h v s (unless s checks otherwise).after
+  pub framed_unless : (s : State) (checks : List Check) (otherwise : Case) → (Passed checks → Framed h v s otherwise.after)
+      → Framed h v s (unless s checks otherwise).after
   framed_unless s checks otherwise fine = unless_keeps (Framed h v s) s checks otherwise (framed_still s) fine
 
   pub framed_cond : (s : State) (b : Bool) (one two : Case) → Framed h v s one.after → Framed h v s two.after → Framed h v s (cond b one two).after
@@ -173,9 +187,13 @@ module _ (h v : ℕ) where
 
       by_rows : (o : Option ThreadRow) → thread_of s h ≡ o → (o' : Option ThreadRow) → thread_of after h ≡ o' → next_of after h ≡ Some v
       by_rows None e o' e' = absurd (none-some v (sym (ap (option_and_then (awaited s)) e) ∙ waits))
-      by_rows (Some row) e None e' = absurd (none-some row.block (sym (ap (option_map (λ (row : ThreadRow). row.block)) e') ∙ f.block ∙ ap (option_map (λ (row : ThreadRow). row.block)) e))
+      by_rows (Some row) e None e' = absurd
+          (none-some row.block (sym (ap (option_map (λ (row : ThreadRow). row.block)) e') ∙ f.block ∙ ap (option_map (λ (row : ThreadRow). row.block)) e))
       by_rows (Some row) e (Some row') e' =
-          let blocks : Some row'.block ≡ Some row.block = sym (ap (option_map (λ (row : ThreadRow). row.block)) e') ∙ f.block ∙ ap (option_map (λ (row : ThreadRow). row.block)) e in
+          let blocks : Some row'.block
+          ≡ Some row.block = sym (ap (option_map (λ (row : ThreadRow). row.block)) e') ∙ f.block ∙ ap (option_map (λ (row : ThreadRow). row.block)) e in
           let its : row'.block ≡ row.block = cc in
-          let now : awaited_by s h row.block ≡ Some v = ap (λ n. awaited_by s n row.block) (sym (number_known s.threads h row e)) ∙ sym (ap (option_and_then (awaited s)) e) ∙ waits in
-          ap (option_and_then (awaited after)) e' ∙ ap (λ n. awaited_by after n row'.block) (number_known after.threads h row' e') ∙ ap (awaited_by after h) its ∙ by_block row.block now
+          let now : awaited_by s h row.block
+          ≡ Some v = ap (λ n. awaited_by s n row.block) (sym (number_known s.threads h row e)) ∙ sym (ap (option_and_then (awaited s)) e) ∙ waits in
+          ap (option_and_then (awaited after)) e' ∙ ap (λ n. awaited_by after n row'.block) (number_known after.threads h row' e')
+          ∙ ap (awaited_by after h) its ∙ by_block row.block now

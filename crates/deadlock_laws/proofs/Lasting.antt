@@ -1,5 +1,5 @@
 -- Who waits for a blocked thread still waits for it after each call but those that can break a deadlock; so each cycle lasts.
-use Rattle.deadlock_laws.proofs.Cycles.{has_next, next_goes, round_lasts}
+use Rattle.deadlock_laws.proofs.Cycles.{has_next, next_goes, none_at_all, round_lasts}
 use Rattle.deadlock_laws.proofs.Frames.{Framed, next_framed}
 use Rattle.deadlock_laws.proofs.Loosening.{broadcast_framed, cond_send_framed, monitor_exit_framed, notify_framed, reply_framed, send_framed, wait_framed}
 use Rattle.deadlock_laws.proofs.Staying.{blocked_row, not_the_caller, quiet_case, step_framed}
@@ -21,13 +21,13 @@ use Rattle.lwp_types.specs.declared.call.Call.TheVariants as call
 use Rattle.lwp_types.specs.declared.rows.Block.TheVariants as block
 
 -- one that waits for v, and its row
-record Waiter (s : State) (h v : ℕ) : Type 0 where
-  row : ThreadRow
-  known : thread_of s h ≡ Some row
-  waits : awaited_by s h row.block ≡ Some v
-  blocked : is_not_blocked row.block ≡ false
+pub record Waiter (s : State) (h v : ℕ) : Type 0 where
+  pub row : ThreadRow
+  pub known : thread_of s h ≡ Some row
+  pub waits : awaited_by s h row.block ≡ Some v
+  pub blocked : is_not_blocked row.block ≡ false
 
-waiter_row : (s : State) (h v : ℕ) → next_of s h ≡ Some v → Waiter s h v
+pub waiter_row : (s : State) (h v : ℕ) → next_of s h ≡ Some v → Waiter s h v
 waiter_row s h v waits = by_row (thread_of s h) refl waits
   where
     blocked_so : (b : Block) → awaited_by s h b ≡ Some v → is_not_blocked b ≡ false
@@ -46,7 +46,7 @@ waiter_row s h v waits = by_row (thread_of s h) refl waits
         record { row = row; known = known; waits = now; blocked = blocked_so row.block now }
 
 -- whoever waits for somebody is blocked
-blocked_by : (s : State) (h v : ℕ) → next_of s h ≡ Some v → is_blocked_in s h ≡ true
+pub blocked_by : (s : State) (h v : ℕ) → next_of s h ≡ Some v → is_blocked_in s h ≡ true
 blocked_by s h v waits =
     let its = waiter_row s h v waits in
     ap (passes (λ (r : ThreadRow). not (is_not_blocked r.block))) its.known ∙ ap not its.blocked
@@ -69,14 +69,15 @@ module _ (s : State) (was : NineParts s None) (t h v : ℕ) (row : ThreadRow) (k
   freeing_case (call.MonBreak m) calm frees = differ calm
   freeing_case _ calm frees = differ (sym frees)
 
-  calm_case : (c : Call) → can_break c ≡ false → Framed h v s (case_of s t c).after
+  pub calm_case : (c : Call) → can_break c ≡ false → Framed h v s (case_of s t c).after
   calm_case c calm = by_free (can_free c) refl
     where
       by_free : (b : Bool) → can_free c ≡ b → Framed h v s (case_of s t c).after
       by_free true e = freeing_case c calm e
       by_free false e = quiet_case s t h v row known other c e
 
-waiter_framed : (s : State) → Lawful s None → (c : Call) → can_break c ≡ false → (h v : ℕ) → next_of s h ≡ Some v → is_blocked_in s v ≡ true → Framed h v s (step s c).after
+waiter_framed : (s : State) → Lawful s None → (c : Call) → can_break c ≡ false → (h v : ℕ) → next_of s h ≡ Some v → is_blocked_in s v ≡ true
+    → Framed h v s (step s c).after
 waiter_framed s was c calm h v waits blocked =
     let its = waiter_row s h v waits in
     let to = blocked_row s v blocked in
@@ -94,6 +95,6 @@ cycles_last s was c calm t us is =
     let first = has_next (next_of s) t (length s.threads) t us is in
     let second = next_goes (next_of s) t (length s.threads) t us first is first.to first.is in
     let framed = waiter_framed s was c calm t first.to first.is (blocked_by s first.to second.to second.is) in
-    round_lasts (next_of s) t (next_of (step s c).after) first
-    (λ h v w waits goes_on. their_waiters_stay s was c calm h v waits (blocked_by s v w goes_on))
-    (length s.threads) (length (step s c).after.threads) framed.more t us is
+    round_lasts (next_of s) t (next_of (step s c).after) first (λ u. false)
+    (λ h v w calm_here waits goes_on. their_waiters_stay s was c calm h v waits (blocked_by s v w goes_on))
+    (length s.threads) (length (step s c).after.threads) framed.more t us is (none_at_all us)

@@ -1,7 +1,6 @@
 -- The calls that free only those who wait for the caller, or for nobody, leave all others as they are.
-use Rattle.deadlock_laws.proofs.Frames.{Framed, framed_cond, framed_still, framed_then, framed_unless, letter_pushed, mapped, mapped_lists, other_block, owner_deepened, owner_pushed, same_threads}
-use Rattle.deadlock_laws.specs.Deadlocks.{block_in}
-use Rattle.lwp_types.specs.Case.{Case}
+use Rattle.deadlock_laws.proofs.Frames.{Framed, framed_still, framed_then, framed_unless, letter_left, mapped_lists, other_block, owner_deepened, owner_pushed, same_threads}
+use Rattle.deadlock_laws.proofs.Posting.{freed, not_taker, post_framed, taker}
 use Rattle.lwp_types.specs.Choice.{best_by}
 use Rattle.lwp_types.specs.Conditions.{after_wait, after_wake, after_wake_all, broadcast, cond_send, condition_of, notify, wait, waits_on}
 use Rattle.lwp_types.specs.CountLaws.{count_found_and, count_found_by, one}
@@ -9,10 +8,10 @@ use Rattle.lwp_types.specs.Counts.{is_entering, is_requested_well, is_sending, i
 use Rattle.lwp_types.specs.First.{IsFirstBest}
 use Rattle.lwp_types.specs.FirstLaws.{find-filter, finds_best}
 use Rattle.lwp_types.specs.Lawful.{NineParts}
-use Rattle.lwp_types.specs.Messages.{after_reply, as_answer, as_received, is_letter_of, is_to, letters_of, post, received_letter, reply, send, takes_from, with_holding, without_letter}
+use Rattle.lwp_types.specs.Messages.{after_reply, is_letter_of, is_to, letters_of, received_letter, reply, send, with_holding, without_letter}
 use Rattle.lwp_types.specs.MonitorRelease.{grant, is_owned_by, last_lock, lock_of, next_owner, release, requests_of, without_lock}
 use Rattle.lwp_types.specs.Monitors.{after_exit, depth_in, is_owner, monitor_exit, with_depth}
-use Rattle.lwp_types.specs.State.{Outcome, State, ThreadRow, is_agent, passes, priority_in, row_with_block, still, thread_of}
+use Rattle.lwp_types.specs.State.{State, ThreadRow, is_agent, passes, priority_in, row_with_block, still, thread_of}
 use Rattle.lwp_types.specs.Unblock.{after_block, unblock}
 use Rattle.lwp_types.specs.declared.rows.Block.{Block}
 use Rattle.lwp_types.specs.declared.rows.CondRow.{CondRow}
@@ -20,18 +19,18 @@ use Rattle.lwp_types.specs.declared.rows.Letter.{Letter}
 use Rattle.lwp_types.specs.declared.rows.Lock.{Lock}
 use Rattle.lwp_types.specs.declared.rows.Request.{Request}
 use Rattle.lwp_types.specs.declared.rows.WaitRow.{WaitRow}
-use Rattle.pod_laws.proofs.Elements.{all_at, all_counted, all_filter, false_of, find_filter_same, find_passes, not_none, not_of, true_of}
+use Rattle.pod_laws.proofs.Elements.{all_at, all_counted, all_filter, false_of, find_passes, not_of, true_of}
 use Rattle.pod_laws.proofs.LetterMoves.{letters_counted}
 use Rattle.pod_laws.proofs.LockLists.{dropped_other}
 use Rattle.pod_laws.proofs.LockMoves.{other_waiter, requester_enters}
 use Rattle.pod_laws.proofs.MessageCalls.{reply_sends, sender_row}
 use Rattle.pod_laws.proofs.Waking.{last_owner}
-use Rattle.state_text.specs.Waiting.{awaited_by, named_thread, owner_of, receiver_of}
+use Rattle.state_text.specs.Waiting.{awaited_by, owner_of, receiver_of}
 use Rattle.std.proofs.Common.{Bool, List, MatchOption, None, Option, Some, [], ap, arith, cond, count_by, eqb, false, not, refl, sym, true, ℕ, ◌&&◌, ◌++◌, ◌-◌, ◌∙◌, ◌∷◌, ◌≡◌, ◌≢◌, ◌≤◌}
 use Rattle.std.proofs.lemmas.Bool.{and_from, and_parts, eq-eqb, eqb-false, eqb-true, ne_eqb}
 use Rattle.std.proofs.lemmas.Option.{none-some}
-use Rattle.std.specs.List.{filter, find, fold, list_all}
-use Rattle.std.specs.Prelude.{is_none, is_some, nat_le, option_map, option_to_list}
+use Rattle.std.specs.List.{find, fold, list_all}
+use Rattle.std.specs.Prelude.{is_none, nat_le, option_map, option_to_list}
 use Rattle.lwp_types.specs.declared.call.Answer.TheVariants as answer
 use Rattle.lwp_types.specs.declared.rows.Block.TheVariants as block
 
@@ -57,29 +56,7 @@ away_from n h e same = eqb-false n h (false_of _ e) (sym same)
 
 module _ (s : State) (was : NineParts s None) (t h v : ℕ) (row : ThreadRow) (known : thread_of s h ≡ Some row)
     (waits : awaited_by s h row.block ≡ Some v) (other : h ≢ t) (apart : v ≢ t) where
-  -- another than h goes on
-  freed : (now after : State) (u : ℕ) → h ≢ u → after.threads ≡ (unblock (answer.Reply []) u now).after.threads
-      → (receiver_of now.letters h ≡ Some v → receiver_of after.letters h ≡ Some v)
-      → ((m : ℕ) → owner_of now.locks m ≡ Some v → owner_of after.locks m ≡ Some v) → Framed h v now after
-  freed now after u away same letter owner = mapped h v now after (row_with_block u block.Not) (λ r. refl) (other_block h v u away block.Not) same letter owner
-
   -- Send: a receiver of the caller's letter waits for the caller, or for nobody
-
-  taker : (b : Block) → awaited_by s h b ≡ Some v → takes_from t b ≡ true → v ≡ t
-  taker block.Not e takes = absurd (cc)
-  taker (block.Joining u) e takes = absurd (cc)
-  taker block.Sending e takes = absurd (cc)
-  taker (block.Receiving None) e takes = absurd (none-some v e)
-  taker (block.Receiving (Some y)) e takes = by_thread (is_some (thread_of s y)) e
-    where
-      by_thread : (b : Bool) → cond b (Some y) None ≡ Some v → v ≡ t
-      by_thread true e =
-          let same : y ≡ v = cc in
-          sym same ∙ eqb-true y t takes
-      by_thread false e = absurd (none-some v e)
-  taker (block.Entering m) e takes = absurd (cc)
-  taker (block.Waiting c) e takes = absurd (cc)
-  taker block.Sleeping e takes = absurd (cc)
 
   abbrev sending : State
   sending = after_block s t block.Sending
@@ -87,26 +64,11 @@ module _ (s : State) (was : NineParts s None) (t h v : ℕ) (row : ThreadRow) (k
   sends : Framed h v s sending
   sends = mapped_lists h v s sending (row_with_block t block.Sending) (λ r. refl) (other_block h v t other block.Sending) refl refl refl
 
-  not_taker : (u : ℕ) → passes (λ (r : ThreadRow). takes_from t r.block) (thread_of sending u) ≡ true → h ≢ u
-  not_taker u takes same = by_row (thread_of sending h) refl
-    where
-      by_row : (o : Option ThreadRow) → thread_of sending h ≡ o → ⊥
-      by_row None e = none-some row.block (sym (ap (option_map (λ (r : ThreadRow). r.block)) e) ∙ sends.block ∙ ap (option_map (λ (r : ThreadRow). r.block)) known)
-      by_row (Some r) e =
-          let blocks : Some r.block ≡ Some row.block = sym (ap (option_map (λ (r : ThreadRow). r.block)) e) ∙ sends.block ∙ ap (option_map (λ (r : ThreadRow). r.block)) known in
-          let its : r.block ≡ row.block = cc in
-          apart (taker row.block waits (ap (takes_from t) (sym its) ∙ ap (passes (λ (r : ThreadRow). takes_from t r.block)) (sym e) ∙ ap (λ n. passes (λ (r : ThreadRow). takes_from t r.block) (thread_of sending n)) same ∙ takes))
-
-  posted : (letter : Letter) → letter.from ≡ t → Framed h v sending (post letter sending).after
-  posted letter mine = by_test (passes (λ (r : ThreadRow). takes_from letter.from r.block) (thread_of sending letter.to)) refl
-    where
-      by_test : (b : Bool) → passes (λ (r : ThreadRow). takes_from letter.from r.block) (thread_of sending letter.to) ≡ b
-          → Framed h v sending (cond b (unblock (as_answer letter) letter.to (record sending { letters = sending.letters ++ as_received letter ∷ [] })) (still (record sending { letters = sending.letters ++ letter ∷ [] }))).after
-      by_test true takes = freed sending _ letter.to (not_taker letter.to (ap (λ n. passes (λ (r : ThreadRow). takes_from n r.block) (thread_of sending letter.to)) (sym mine) ∙ takes)) refl (letter_pushed s.letters h v (as_received letter)) (λ m e. e)
-      by_test false takes = same_threads h v sending _ refl (letter_pushed s.letters h v letter) (λ m e. e)
-
   pub send_framed : (u room : ℕ) (text : List ℕ) → Framed h v s (send s t u room text).after
-  send_framed u room text = framed_unless h v s _ _ (λ passed. framed_then h v s sending _ sends (posted (record { from = t; to = u; text = text; room = room; received = false }) refl))
+  send_framed u room text = framed_unless h v s _ _
+      (λ passed. framed_then h v s sending _ sends (post_framed h v (record { from = t; to = u; text = text; room = room; received = false }) sending
+      (not_taker sending h t row.block (sends.block ∙ ap (option_map (λ (r : ThreadRow). r.block)) known)
+      (λ takes. apart (taker s h v t row.block waits takes)) u)))
 
   -- Reply: whoever it is for has sent to the caller
 
@@ -114,7 +76,8 @@ module _ (s : State) (was : NineParts s None) (t h v : ℕ) (row : ThreadRow) (k
   sent_to b is e = ap (awaited_by s h) (sym is) ∙ e
 
   not_replied : (u : ℕ) → is_none (received_letter s.letters t u) ≡ false → h ≢ u
-  not_replied u some same = by_letter (find (is_letter_of h) s.letters) refl (sent_to row.block (sender_row s None was h row known (omega (arith, reply_sends s t u some, ap (letters_of s.letters) same))) waits)
+  not_replied u some same = by_letter (find (is_letter_of h) s.letters) refl
+      (sent_to row.block (sender_row s None was h row known (omega (arith, reply_sends s t u some, ap (letters_of s.letters) same))) waits)
     where
       few : (b : Bool) → one b ≤ 1
       few true = omega arith
@@ -123,33 +86,38 @@ module _ (s : State) (was : NineParts s None) (t h v : ℕ) (row : ThreadRow) (k
       counted : 1 ≤ count_by (λ letter. is_letter_of h letter && is_to t letter) s.letters
       counted = by_found (received_letter s.letters t u) refl some
         where
-          by_found : (o : Option Letter) → received_letter s.letters t u ≡ o → is_none o ≡ false → 1 ≤ count_by (λ letter. is_letter_of h letter && is_to t letter) s.letters
+          by_found : (o : Option Letter) → received_letter s.letters t u ≡ o → is_none o ≡ false
+              → 1 ≤ count_by (λ letter. is_letter_of h letter && is_to t letter) s.letters
           by_found None e none = absurd (cc)
           by_found (Some l) e none =
               let inner = sym (find-filter (λ letter. letter.received && is_letter_of u letter) (is_to t) s.letters) ∙ e in
               let passed = and_parts (is_to t l) _ (find_passes (λ letter. is_to t letter && (letter.received && is_letter_of u letter)) s.letters l inner) in
-              count_found_by (λ letter. is_to t letter && (letter.received && is_letter_of u letter)) (λ letter. is_letter_of h letter && is_to t letter) s.letters l inner
+              count_found_by (λ letter. is_to t letter && (letter.received && is_letter_of u letter))
+              (λ letter. is_letter_of h letter && is_to t letter) s.letters l inner
               (and_from _ _ (ap (λ n. is_letter_of n l) same ∙ (and_parts l.received _ passed.1).1) passed.0)
 
       by_letter : (o : Option Letter) → find (is_letter_of h) s.letters ≡ o → option_map (λ (l : Letter). l.to) o ≡ Some v → ⊥
       by_letter None e is = none-some v is
       by_letter (Some l) e is =
           let to : l.to ≡ v = cc in
-          by_test (is_to t l) refl to (omega (arith, counted, count_found_and (is_letter_of h) (is_to t) s.letters l e (omega (arith, letters_counted s None was h row known, few (is_sending row.block)))))
+          by_test (is_to t l) refl to (omega (
+            arith,
+            counted,
+            count_found_and (is_letter_of h) (is_to t) s.letters l e (omega (arith, letters_counted s None was h row known, few (is_sending row.block))),
+          ))
         where
           by_test : (b : Bool) → is_to t l ≡ b → l.to ≡ v → 1 ≤ one b → ⊥
           by_test true e to some = apart (sym to ∙ eqb-true l.to t e)
           by_test false e to some = omega (arith, some)
 
-  letter_left : (u : ℕ) → h ≢ u → receiver_of (without_letter u s.letters) h ≡ receiver_of s.letters h
-  letter_left u away = ap (option_map (λ (l : Letter). l.to)) (find_filter_same (is_letter_of h) (λ l. not (is_letter_of u l)) (λ l e. not_of _ (ne_eqb l.from u (λ f. away (sym (eqb-true l.from h e) ∙ f)))) s.letters)
-
   replied : (u : ℕ) (text : List ℕ) → h ≢ u → Framed h v s (after_reply u text s).after
   replied u text away = by_agent (is_agent s u)
     where
-      by_agent : (b : Bool) → Framed h v s (cond b (still (record s { letters = without_letter u s.letters; agents = with_holding u false s.agents })) (unblock (answer.Reply text) u (record s { letters = without_letter u s.letters }))).after
-      by_agent true = same_threads h v s _ refl (λ e. letter_left u away ∙ e) (λ m e. e)
-      by_agent false = freed s _ u away refl (λ e. letter_left u away ∙ e) (λ m e. e)
+      by_agent : (b : Bool)
+          → Framed h v s (cond b (still (record s { letters = without_letter u s.letters; agents = with_holding u false s.agents }))
+          (unblock (answer.Reply text) u (record s { letters = without_letter u s.letters }))).after
+      by_agent true = same_threads h v s _ refl (λ e. letter_left u s.letters h away ∙ e) (λ m e. e)
+      by_agent false = freed h v s _ u away refl (λ e. letter_left u s.letters h away ∙ e) (λ m e. e)
 
   pub reply_framed : (u : ℕ) (text : List ℕ) → Framed h v s (reply s t u text).after
   reply_framed u text = framed_unless h v s _ _ (λ passed. replied u text (not_replied u passed.1.0))
@@ -176,8 +144,11 @@ module _ (s : State) (was : NineParts s None) (t h v : ℕ) (row : ThreadRow) (k
       apart (sym same)
 
   requests_apart : (m : ℕ) → owner_of s.locks m ≡ Some t → list_all (λ (r : Request). not (eqb r.tid h)) (requests_of s.requests m) ≡ true
-  requests_apart m mine = all_filter (λ (r : Request). not (eqb r.tid h && eqb r.mon m)) (λ r. not (eqb r.tid h)) (λ r. eqb r.mon m) (λ r here e. left (eqb r.tid h) (eqb r.mon m) here e) s.requests
-      (all_counted (λ (r q : Request). eqb q.tid r.tid && eqb q.mon r.mon) (λ r. and_from _ _ (eq-eqb r.tid r.tid refl) (eq-eqb r.mon r.mon refl)) (is_requested_well s) (λ r. not (eqb r.tid h && eqb r.mon m)) s.requests (λ r some well. not_of _ (by_both (eqb r.tid h && eqb r.mon m) r refl some)) was.locks.2)
+  requests_apart m mine = all_filter (λ (r : Request). not (eqb r.tid h && eqb r.mon m)) (λ r. not (eqb r.tid h)) (λ r. eqb r.mon m)
+      (λ r here e. left (eqb r.tid h) (eqb r.mon m) here e) s.requests
+      (all_counted (λ (r q : Request). eqb q.tid r.tid && eqb q.mon r.mon) (λ r. and_from _ _ (eq-eqb r.tid r.tid refl) (eq-eqb r.mon r.mon refl))
+      (is_requested_well s) (λ r. not (eqb r.tid h && eqb r.mon m)) s.requests
+      (λ r some well. not_of _ (by_both (eqb r.tid h && eqb r.mon m) r refl some)) was.locks.2)
     where
       left : (a b : Bool) → b ≡ true → not (a && b) ≡ true → not a ≡ true
       left true true e h = h
@@ -187,11 +158,19 @@ module _ (s : State) (was : NineParts s None) (t h v : ℕ) (row : ThreadRow) (k
       by_both : (b : Bool) (r : Request) → (eqb r.tid h && eqb r.mon m) ≡ b → 1 ≤ requests_by s r.tid r.mon → b ≡ false
       by_both true r e some =
           let both = and_parts (eqb r.tid h) (eqb r.mon m) e in
-          absurd (owner_is m mine (enters m row.block waits (omega (arith, some, ap (λ n. requests_by s n r.mon) (eqb-true r.tid h both.0), ap (requests_by s h) (eqb-true r.mon m both.1), requester_enters s None was h row known m))))
+          absurd (owner_is m mine (enters m row.block waits (omega (
+            arith,
+            some,
+            ap (λ n. requests_by s n r.mon) (eqb-true r.tid h both.0),
+            ap (requests_by s h) (eqb-true r.mon m both.1),
+            requester_enters s None was h row known m,
+          ))))
       by_both false r e some = refl
 
   owner_dropped : (m k : ℕ) → owner_of s.locks m ≡ Some t → owner_of s.locks k ≡ Some v → owner_of (without_lock m s.locks) k ≡ Some v
-  owner_dropped m k mine its = ap (option_map (λ (l : Lock). l.owner)) (dropped_other m s.locks k (λ same. owner_is m mine (ap (owner_of s.locks) (sym same) ∙ its))) ∙ its
+  owner_dropped m k mine its =
+      ap (option_map (λ (l : Lock). l.owner)) (dropped_other m s.locks k (λ same. owner_is m mine (ap (owner_of s.locks) (sym same) ∙ its)))
+      ∙ its
 
   -- of a state with these requests and locks
   released : (m : ℕ) (now : State) → now.locks ≡ s.locks → now.requests ≡ s.requests → owner_of s.locks m ≡ Some t → Framed h v now (release m now).after
@@ -202,8 +181,9 @@ module _ (s : State) (was : NineParts s None) (t h v : ℕ) (row : ThreadRow) (k
 
       by_next : (o : Option Request) → next_owner now m ≡ o → Framed h v now (grant o (record now { locks = without_lock m now.locks })).after
       by_next None e = same_threads h v now _ refl (λ e. e) dropped
-      by_next (Some r) e = freed now _ r.tid
-          (away_from r.tid h (best_all (λ (r : Request). priority_in now r.tid) (λ r. not (eqb r.tid h)) (requests_of now.requests m) (ap (λ rs. list_all (λ (r : Request). not (eqb r.tid h)) (requests_of rs m)) requests ∙ requests_apart m mine) r e))
+      by_next (Some r) e = freed h v now _ r.tid
+          (away_from r.tid h (best_all (λ (r : Request). priority_in now r.tid) (λ r. not (eqb r.tid h)) (requests_of now.requests m)
+          (ap (λ rs. list_all (λ (r : Request). not (eqb r.tid h)) (requests_of rs m)) requests ∙ requests_apart m mine) r e))
           refl (λ e. e) (λ k its. owner_pushed (without_lock m now.locks) k v _ (dropped k its))
 
   owner_known : (m : ℕ) → is_owner s.locks t m ≡ true → owner_of s.locks m ≡ Some t
@@ -227,8 +207,10 @@ module _ (s : State) (was : NineParts s None) (t h v : ℕ) (row : ThreadRow) (k
   waited c None e = framed_still h v s
   waited c (Some lock) e =
       let now = after_block (record s { waits = s.waits ++ record { cond = c; tid = t; depth = lock.depth } ∷ [] }) t (block.Waiting c) in
-      framed_then h v s now _ (mapped_lists h v s now (row_with_block t (block.Waiting c)) (λ r. refl) (other_block h v t other (block.Waiting c)) refl refl refl)
-      (released lock.mon now refl refl (owner_known lock.mon (last_owner s None was t lock.mon (ap (passes (λ (l : Lock). eqb lock.mon l.mon)) e ∙ eq-eqb lock.mon lock.mon refl))))
+      framed_then h v s now _ (mapped_lists h v s now (row_with_block t (block.Waiting c)) (λ r. refl) (other_block h v t other (block.Waiting c))
+      refl refl refl)
+      (released lock.mon now refl refl
+      (owner_known lock.mon (last_owner s None was t lock.mon (ap (passes (λ (l : Lock). eqb lock.mon l.mon)) e ∙ eq-eqb lock.mon lock.mon refl))))
 
   pub wait_framed : (c : ℕ) → Framed h v s (wait s t c).after
   wait_framed c = framed_unless h v s _ _ (λ passed. waited c (last_lock s.locks t) refl)
@@ -245,17 +227,20 @@ module _ (s : State) (was : NineParts s None) (t h v : ℕ) (row : ThreadRow) (k
   on_none block.Sleeping e c = refl
 
   waits_apart : list_all (λ (w : WaitRow). not (eqb w.tid h)) s.waits ≡ true
-  waits_apart = all_counted (λ (w q : WaitRow). eqb q.tid w.tid && eqb q.cond w.cond) (λ w. and_from _ _ (eq-eqb w.tid w.tid refl) (eq-eqb w.cond w.cond refl)) (is_waited_well s) (λ w. not (eqb w.tid h)) s.waits
+  waits_apart = all_counted (λ (w q : WaitRow). eqb q.tid w.tid && eqb q.cond w.cond)
+      (λ w. and_from _ _ (eq-eqb w.tid w.tid refl) (eq-eqb w.cond w.cond refl)) (is_waited_well s) (λ w. not (eqb w.tid h)) s.waits
       (λ w some well. not_of _ (ne_eqb w.tid h (λ same. other_waiter s None was h row known (on_none row.block waits) w some (sym same)))) was.locks.3
 
   listed_apart : (c : ℕ) → list_all (λ (w : WaitRow). not (eqb w.tid h)) (waits_on s.waits c) ≡ true
   listed_apart c = all_filter (λ (w : WaitRow). not (eqb w.tid h)) (λ w. not (eqb w.tid h)) (λ w. eqb w.cond c) (λ w here e. e) s.waits waits_apart
 
-  woken : (m : ℕ) (ws : List WaitRow) → list_all (λ (w : WaitRow). not (eqb w.tid h)) ws ≡ true → (now : State) → Framed h v now (fold (λ now w. after_wake m w now) now ws)
+  woken : (m : ℕ) (ws : List WaitRow) → list_all (λ (w : WaitRow). not (eqb w.tid h)) ws ≡ true → (now : State)
+      → Framed h v now (fold (λ now w. after_wake m w now) now ws)
   woken m [] all now = framed_still h v now
   woken m (w ∷ ws) all now =
       let parts = and_parts _ _ all in
-      framed_then h v now (after_wake m w now) _ (mapped_lists h v now (after_wake m w now) (row_with_block w.tid (block.Entering m)) (λ r. refl) (other_block h v w.tid (away_from w.tid h parts.0) (block.Entering m)) refl refl refl)
+      framed_then h v now (after_wake m w now) _ (mapped_lists h v now (after_wake m w now) (row_with_block w.tid (block.Entering m)) (λ r. refl)
+      (other_block h v w.tid (away_from w.tid h parts.0) (block.Entering m)) refl refl refl)
       (woken m ws parts.1 (after_wake m w now))
 
   woken_all : (o : Option CondRow) (ws : List WaitRow) → list_all (λ (w : WaitRow). not (eqb w.tid h)) ws ≡ true → Framed h v s (after_wake_all o ws s)
@@ -263,10 +248,12 @@ module _ (s : State) (was : NineParts s None) (t h v : ℕ) (row : ThreadRow) (k
   woken_all (Some r) ws all = woken r.mon ws all s
 
   pub notify_framed : (c : ℕ) → Framed h v s (notify s t c).after
-  notify_framed c = framed_unless h v s _ _ (λ passed. woken_all (condition_of s.conditions c) _ (best_listed (λ (w : WaitRow). priority_in s w.tid) (λ w. not (eqb w.tid h)) (waits_on s.waits c) (listed_apart c)))
+  notify_framed c = framed_unless h v s _ _ (λ passed. woken_all (condition_of s.conditions c) _
+      (best_listed (λ (w : WaitRow). priority_in s w.tid) (λ w. not (eqb w.tid h)) (waits_on s.waits c) (listed_apart c)))
 
   pub broadcast_framed : (c : ℕ) → Framed h v s (broadcast s t c).after
   broadcast_framed c = framed_unless h v s _ _ (λ passed. woken_all (condition_of s.conditions c) _ (listed_apart c))
 
   pub cond_send_framed : (c u : ℕ) → Framed h v s (cond_send s t c u).after
-  cond_send_framed c u = framed_unless h v s _ _ (λ passed. woken_all (condition_of s.conditions c) _ (all_filter (λ (w : WaitRow). not (eqb w.tid h)) (λ w. not (eqb w.tid h)) (λ w. eqb w.tid u) (λ w here e. e) (waits_on s.waits c) (listed_apart c)))
+  cond_send_framed c u = framed_unless h v s _ _ (λ passed. woken_all (condition_of s.conditions c) _
+      (all_filter (λ (w : WaitRow). not (eqb w.tid h)) (λ w. not (eqb w.tid h)) (λ w. eqb w.tid u) (λ w here e. e) (waits_on s.waits c) (listed_apart c)))

@@ -1,11 +1,10 @@
 -- Every call but those that can free somebody leaves the blocked as they are.
-use Rattle.deadlock_laws.proofs.Frames.{Framed, framed_cond, framed_end, framed_still, framed_unless, letter_received, mapped, mapped_lists, other_block, owner_entered, pushed, same_lists, same_threads}
+use Rattle.deadlock_laws.proofs.Frames.{Framed, framed_cond, framed_end, framed_still, framed_unless, letter_received, mapped_lists, other_block, owner_entered, pushed, same_lists, same_threads}
 use Rattle.deadlock_laws.specs.Deadlocks.{TheBlockedStay}
 use Rattle.deadlock_laws.specs.Freeing.{can_free}
 use Rattle.lwp_types.specs.Case.{answer_case, refusal_case, silent_case, value_case}
 use Rattle.lwp_types.specs.Choice.{choice, is_eligible}
-use Rattle.lwp_types.specs.Exceptions.{handler_of, with_mark, with_match}
-use Rattle.lwp_types.specs.Lawful.{Lawful}
+use Rattle.lwp_types.specs.Exceptions.{handler_of, with_match}
 use Rattle.lwp_types.specs.Messages.{next_letter, receive_by}
 use Rattle.lwp_types.specs.Monitors.{after_request, enter_case, is_owned_by_other}
 use Rattle.lwp_types.specs.State.{State, ThreadRow, is_blocked_in, is_not_blocked, passes, row_with_block, row_with_marks, row_with_priority, row_with_suspension, still, thread_of}
@@ -18,10 +17,9 @@ use Rattle.lwp_types.specs.declared.call.Mode.{Mode}
 use Rattle.lwp_types.specs.declared.rows.Block.{Block}
 use Rattle.lwp_types.specs.declared.rows.Found.{Found}
 use Rattle.lwp_types.specs.declared.rows.Letter.{Letter}
-use Rattle.lwp_types.specs.declared.rows.Mark.{Mark}
 use Rattle.pod_laws.proofs.Chosen.{chosen}
 use Rattle.pod_laws.proofs.Elements.{differ}
-use Rattle.std.proofs.Common.{Bool, None, Option, Some, ap, cond, eqb, false, not, refl, sym, true, ℕ, ◌&&◌, ◌∙◌, ◌≡◌, ◌≢◌}
+use Rattle.std.proofs.Common.{Bool, None, Option, Some, ap, eqb, false, not, refl, sym, true, ℕ, ◌∙◌, ◌≡◌, ◌≢◌}
 use Rattle.std.proofs.lemmas.Bool.{and_parts}
 use Rattle.lwp_types.specs.declared.call.Call.TheVariants as call
 use Rattle.lwp_types.specs.declared.call.LwpErr.TheVariants as error
@@ -29,7 +27,8 @@ use Rattle.lwp_types.specs.declared.call.Mode.TheVariants as mode
 use Rattle.lwp_types.specs.declared.rows.Block.TheVariants as block
 
 -- who may run isn't blocked
-pub not_the_caller : (s : State) (t h : ℕ) (x row : ThreadRow) → thread_of s t ≡ Some x → is_eligible x ≡ true → thread_of s h ≡ Some row → is_not_blocked row.block ≡ false → h ≢ t
+pub not_the_caller : (s : State) (t h : ℕ) (x row : ThreadRow) → thread_of s t ≡ Some x → is_eligible x ≡ true → thread_of s h ≡ Some row
+    → is_not_blocked row.block ≡ false → h ≢ t
 not_the_caller s t h x row known eligible here blocked same =
     let one_row : Some row ≡ Some x = sym here ∙ ap (thread_of s) same ∙ known in
     let its : row ≡ x = cc in
@@ -65,7 +64,8 @@ module _ (s : State) (t h v : ℕ) (row : ThreadRow) (known : thread_of s h ≡ 
   received from mode.Poll (Some letter) = same_threads h v s _ refl (λ e. letter_received letter.from s.letters h ∙ e) (λ m e. e)
   received from mode.Block None = caller_waits (block.Receiving from)
   received from mode.Block (Some letter) = same_threads h v s _ refl (λ e. letter_received letter.from s.letters h ∙ e) (λ m e. e)
-  received from (mode.Until ticks) None = framed_cond h v s (eqb ticks 0) (refusal_case s error.Timeout) (silent_case (still (after_block_for s t (block.Receiving from) ticks))) (framed_still h v s) (caller_waits_for (block.Receiving from) ticks)
+  received from (mode.Until ticks) None = framed_cond h v s (eqb ticks 0) (refusal_case s error.Timeout)
+      (silent_case (still (after_block_for s t (block.Receiving from) ticks))) (framed_still h v s) (caller_waits_for (block.Receiving from) ticks)
   received from (mode.Until ticks) (Some letter) = same_threads h v s _ refl (λ e. letter_received letter.from s.letters h ∙ e) (λ m e. e)
 
   entered : (m : ℕ) → Framed h v s (enter_case s t m).after
@@ -81,10 +81,13 @@ module _ (s : State) (t h v : ℕ) (row : ThreadRow) (known : thread_of s h ≡ 
   quiet_case (call.Destroy u) calm = differ calm
   quiet_case (call.Ping u) calm = framed_unless h v s _ _ (λ passed. framed_still h v s)
   quiet_case (call.SetPri u p) calm = framed_unless h v s _ _ (λ passed. mapped_lists h v s _ (row_with_priority u p) (λ r. refl) (λ r e. refl) refl refl refl)
-  quiet_case (call.Suspend u) calm = framed_unless h v s _ _ (λ passed. mapped_lists h v s _ (row_with_suspension u true) (λ r. refl) (λ r e. refl) refl refl refl)
-  quiet_case (call.Resume u) calm = framed_unless h v s _ _ (λ passed. mapped_lists h v s _ (row_with_suspension u false) (λ r. refl) (λ r e. refl) refl refl refl)
+  quiet_case (call.Suspend u) calm =
+      framed_unless h v s _ _ (λ passed. mapped_lists h v s _ (row_with_suspension u true) (λ r. refl) (λ r e. refl) refl refl refl)
+  quiet_case (call.Resume u) calm =
+      framed_unless h v s _ _ (λ passed. mapped_lists h v s _ (row_with_suspension u false) (λ r. refl) (λ r e. refl) refl refl refl)
   quiet_case (call.Join u) calm = framed_unless h v s _ _ (λ passed. caller_waits (block.Joining u))
-  quiet_case (call.Sleep ticks) calm = framed_cond h v s (eqb ticks 0) (value_case s 0) (silent_case (still (after_block_for s t block.Sleeping ticks))) (framed_still h v s) (caller_waits_for block.Sleeping ticks)
+  quiet_case (call.Sleep ticks) calm = framed_cond h v s (eqb ticks 0) (value_case s 0)
+      (silent_case (still (after_block_for s t block.Sleeping ticks))) (framed_still h v s) (caller_waits_for block.Sleeping ticks)
   quiet_case call.Me calm = framed_still h v s
   quiet_case call.GetExit calm = framed_still h v s
   quiet_case call.Threads calm = framed_still h v s
@@ -93,7 +96,9 @@ module _ (s : State) (t h v : ℕ) (row : ThreadRow) (known : thread_of s h ≡ 
   quiet_case (call.Reply u text) calm = differ calm
   quiet_case call.Senders calm = framed_still h v s
   quiet_case call.Receivers calm = framed_still h v s
-  quiet_case (call.Enter m) calm = framed_unless h v s _ _ (λ passed. framed_cond h v s (is_owned_by_other s.locks t m) (silent_case (still (after_request s t m))) (enter_case s t m) (mapped_lists h v s _ (row_with_block t (block.Entering m)) (λ r. refl) (other_block h v t other (block.Entering m)) refl refl refl) (entered m))
+  quiet_case (call.Enter m) calm =
+      framed_unless h v s _ _ (λ passed. framed_cond h v s (is_owned_by_other s.locks t m) (silent_case (still (after_request s t m))) (enter_case s t
+      m) (mapped_lists h v s _ (row_with_block t (block.Entering m)) (λ r. refl) (other_block h v t other (block.Entering m)) refl refl refl) (entered m))
   quiet_case (call.CondEnter m) calm = framed_unless h v s _ _ (λ passed. entered m)
   quiet_case (call.MonExit m) calm = differ calm
   quiet_case (call.MonBreak m) calm = differ calm
@@ -105,9 +110,11 @@ module _ (s : State) (t h v : ℕ) (row : ThreadRow) (known : thread_of s h ≡ 
   quiet_case (call.CvSend c u) calm = differ calm
   quiet_case call.Conds calm = framed_still h v s
   quiet_case (call.CvWaiters c) calm = framed_unless h v s _ _ (λ passed. framed_still h v s)
-  quiet_case (call.CallProc number) calm = framed_unless h v s _ _ (λ passed. mapped_lists h v s _ (row_with_marks t _) (λ r. refl) (λ r e. refl) refl refl refl)
+  quiet_case (call.CallProc number) calm =
+      framed_unless h v s _ _ (λ passed. mapped_lists h v s _ (row_with_marks t _) (λ r. refl) (λ r e. refl) refl refl refl)
   quiet_case call.Return calm = differ calm
-  quiet_case (call.Handle pat func arg) calm = framed_unless h v s _ _ (λ passed. mapped_lists h v s _ (row_with_marks t _) (λ r. refl) (λ r e. refl) refl refl refl)
+  quiet_case (call.Handle pat func arg) calm =
+      framed_unless h v s _ _ (λ passed. mapped_lists h v s _ (row_with_marks t _) (λ r. refl) (λ r e. refl) refl refl refl)
   quiet_case call.Unhandle calm = framed_unless h v s _ _ (λ passed. mapped_lists h v s _ (row_with_marks t _) (λ r. refl) (λ r e. refl) refl refl refl)
   quiet_case (call.OnExit x) calm = framed_unless h v s _ _ (λ passed. mapped_lists h v s _ (row_with_marks t _) (λ r. refl) (λ r e. refl) refl refl refl)
   quiet_case (call.Raise p) calm = differ calm

@@ -3,16 +3,16 @@ use Rattle.lwp_types.specs.declared.call.Call.{Call}
 use Rattle.std.specs.Prelude.{Bool, false, true}
 use Rattle.lwp_types.specs.declared.call.Call.TheVariants as call
 
--- the call ends a thread or cuts its stack, and so runs exit procedures; or it takes a monitor from its owner
+-- the call can break a deadlock that its caller isn't in
 abbrev pub can_break : Call → Bool
--- who joined the thread goes on, who sent to it, who waits for its letter or its monitor
+-- a thread of the deadlock dies, and who waits for it goes on
 can_break (call.Destroy t) = true
--- the same where it returns from its last procedure; else its exit procedures may break a monitor
+-- who waits to enter the monitor has it
+can_break (call.MonBreak m) = true
+-- an exit procedure of a frame that goes does the same
 can_break call.Return = true
 can_break (call.Raise p) = true
 can_break (call.ExcNotify p) = true
--- who waits to enter the monitor
-can_break (call.MonBreak m) = true
 can_break _ = false
 
 -- the call can end the wait of another thread
