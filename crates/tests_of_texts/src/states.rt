@@ -255,6 +255,10 @@ fn add_parts(state: &mut StateCopy) -> Result<(), NoMemory> {
     state.agents.push(agent(5, 6, 3, true))
 }
 
+fn set_pending(pending: &mut Option<u8>) {
+    *pending = Some(31);
+}
+
 fn every_kind(alloc: Global) -> Result<Vec<u8>, NoMemory> {
     let mut snap = no_session(alloc);
     snap.calls = 41;
@@ -267,7 +271,7 @@ fn every_kind(alloc: Global) -> Result<Vec<u8>, NoMemory> {
     add_notes(&mut snap.threads)?;
     snap.pod.trapped[0] = true;
     snap.pod.trapped[31] = true;
-    snap.pod.pending = Some(31);
+    set_pending(&mut snap.pod.pending);
     snap.pod.reports.push(13)?;
     snap.pod.reports.push(14)?;
     snap.taken.push(2)?;
