@@ -17,8 +17,6 @@ mod servers;
 #[cfg(test)]
 mod spoken;
 #[cfg(test)]
-mod states;
-#[cfg(test)]
 mod traces;
 #[cfg(test)]
 mod words;
