@@ -1,7 +1,7 @@
 # Completion for bash: the words and options of lwpserve, lwpview, lwpcheck and lwpstate. tools/install puts it where bash-completion looks
 # for it; without that, `source tools/completion.bash`.
 
-# The words of lwpserve; behind them stand numbers alone, which nothing can complete.
+# The words of lwpserve; only numbers follow them, which nothing can complete.
 _loqzemar_lwpserve() {
   COMPREPLY=()
   [ "$COMP_CWORD" -ne 1 ] || mapfile -t COMPREPLY < <(compgen -W 'plan run make batch answers replay --help --version' -- "$2")

@@ -1,4 +1,4 @@
--- The index: what stands before a place and what behind it, what is read there, and what each change leaves.
+-- The index: what comes before and after a place, what is read there, and what each change leaves.
 use Rattle.agents.specs.Index.{AreOrdered, IsBefore, IsCut, IsPastLesser, Puts, is_before, is_below, is_under, is_up_to, numbers_under}
 use Rattle.agents.specs.declared.index.Entry.{Entry}
 use Rattle.lwp_types.specs.State.{all_below, member, without}
@@ -49,7 +49,7 @@ cut p es i within point = record { within = within; before = All-front (λ e. p 
 pub below_down : (k : ℕ) (e f : Entry) → IsBefore e f → is_below k f ≡ true → is_below k e ≡ true
 below_down k e f before passed = grind (arith, nat_tests, before.key)
 
--- the entries of a key begin where one of it stands behind one of a lesser key
+-- the entries of a key begin where one of it comes after one of a lesser key
 pub start_there : (es : List Entry) (k i : ℕ) (e : Entry) → AreOrdered es → i < length es → e ≡ get_or es i e → e.key ≡ k → IsPastLesser k es i → IsCut (is_below k) es i
 start_there es k i e ordered within here same past = cut (is_below k) es i (omega (arith, within)) (
   (λ j d least lt. parted (is_below k) (below_down k) es ordered j (i - 1) d (omega (arith, lt)) (omega (arith, lt, within)) (lt-ltb (get_or es (i - 1) d).key k (past (i - 1) d (omega (arith, lt))))),
@@ -81,7 +81,7 @@ none_above k (e ∷ es) above =
     let other : eqb e.key k ≡ false = grind (arith, nat_tests, above.0) in
     rw other (none_above k es above.1)
 
--- behind the lesser keys
+-- after the lesser keys
 nth_top : (k : ℕ) (es : List Entry) (i : ℕ) → AreOrdered es → AllByRecursion (λ e. is_below k e ≡ false) es → slice_get (numbers_under k es) i ≡ number_if k (slice_get es i)
 nth_top k [] i ordered above = refl
 nth_top k (e ∷ es) i ordered above = by_test (is_under k e) refl i (λ j. nth_top k es j ordered.1 above.1)
@@ -103,7 +103,7 @@ nth_top k (e ∷ es) i ordered above = by_test (is_under k e) refl i (λ j. nth_
     by_test false here zero rest = rw (here, none_above k es (all_above es here ordered.0)) refl
     by_test false here (suc j) rest = rw (here, none_above k es (all_above es here ordered.0)) (sym (nowhere es j (all_above es here ordered.0)))
 
--- at so many places behind the lesser keys
+-- at so many places after the lesser keys
 pub nth_under : (k : ℕ) (es : List Entry) (start i : ℕ) → AreOrdered es → AllByRecursion (λ e. is_below k e ≡ true) (take start es) → AllByRecursion (λ e. is_below k e ≡ false) (drop start es)
     → slice_get (numbers_under k es) i ≡ number_if k (slice_get (drop start es) i)
 nth_under k es zero i ordered below above = nth_top k es i ordered above

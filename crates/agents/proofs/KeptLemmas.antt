@@ -1,4 +1,4 @@
--- Each call keeps what `Agents` keeps of its fields.
+-- Each call keeps the invariant of the fields of `Agents`.
 use Rattle.agents.proofs.Standing.{count-holding, count-without, listed_under, numbers-holding, numbers-others, numbers-push, numbers-without}
 use Rattle.agents.proofs.Words.{tally-none}
 use Rattle.agents.specs.Board.{is_ready, no_tally, tally_at}

@@ -20,7 +20,7 @@ number_at test [] i d all within = absurd (omega arith)
 number_at test (row ∷ rows) zero d all within = (and_parts (test row.number) (list_all test (agent_numbers rows)) all).0
 number_at test (row ∷ rows) (suc i) d all within = number_at test rows i d (and_parts (test row.number) (list_all test (agent_numbers rows)) all).1 (omega arith)
 
--- of agents in birth order: the first, and those behind it, which are born later
+-- of agents in birth order: the first, and those after it, which are born later
 module _ (row : AgentRow) (rows : List AgentRow) (up : rises (agent_numbers (row ∷ rows)) ≡ true) where
   pub behind_rise : rises (agent_numbers rows) ≡ true
   behind_rise = (and_parts (list_all (λ n. ltb row.number n) (agent_numbers rows)) (rises (agent_numbers rows)) up).1
@@ -31,11 +31,11 @@ module _ (row : AgentRow) (rows : List AgentRow) (up : rises (agent_numbers (row
   later_at : (i : ℕ) (d : AgentRow) → i < length rows → row.number < (get_or rows i d).number
   later_at i d within = ltb-true row.number (get_or rows i d).number (number_at (λ n. ltb row.number n) rows i d all_later within)
 
-  -- whoever has the number of the first
+  -- an agent that has the number of the first
   pub later_than : (a : ℕ) → row.number ≡ a → list_all (λ n. ltb a n) (agent_numbers rows) ≡ true
   later_than a same = ap (λ m. list_all (λ n. ltb m n) (agent_numbers rows)) (sym same) ∙ all_later
 
--- of two agents the one behind has the greater number
+-- of two agents the later in the list has the greater number
 rising : (rows : List AgentRow) (i j : ℕ) (d : AgentRow) → rises (agent_numbers rows) ≡ true → i < j → j < length rows → (get_or rows i d).number < (get_or rows j d).number
 rising [] i j d up lt within = absurd (omega arith)
 rising (row ∷ rows) zero zero d up lt within = absurd (omega arith)

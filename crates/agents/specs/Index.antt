@@ -21,7 +21,7 @@ pub record IsBefore (e f : Entry) : Type 0 where
   pub key : e.key ≤ f.key
   pub number : e.key ≡ f.key → e.number < f.number
 
--- each entry stands before all behind it
+-- each entry stands before all that come after it
 abbrev pub AreOrdered : List Entry → Type 0
 AreOrdered [] = Unit {0}
 AreOrdered (e ∷ es) = AllByRecursion (IsBefore e) es × AreOrdered es

@@ -14,6 +14,7 @@ pub struct Entry {
     pub number: u64,
 }
 
+// One list and not one for each event: each of those would need room for all agents, since all may have one event.
 /// The numbers of the agents under each key.
 #[derive(Drop)]
 pub struct Index {
@@ -59,7 +60,8 @@ fn start_by_halves(entries: &[Entry], key: u64) -> usize
     entries.partition_point(|entry| entry.key < key)
 }
 
-// The same: at a look where each key from the least on has one entry, and else by halving.
+// How many entries stand under lesser keys: at a look where each key from the least on has one entry, and else by
+// halving.
 #[inline(always)]
 fn start_of(entries: &[Entry], key: u64) -> usize
     requires { AreOrdered entries.now }

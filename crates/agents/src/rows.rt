@@ -80,7 +80,7 @@ pub fn set_holding(rows: &mut Vec<AgentRow>, agent: Tid, holding: bool) -> Optio
     Some(row)
 }
 
-// Takes the agent out. Those behind it move up in one piece.
+// Takes the agent out. Those after it move up in one piece.
 pub fn take_out(rows: &mut Vec<AgentRow>, agent: Tid) -> Option<AgentRow>
     requires { IsTrue (rises (agent_numbers rows.old.items)) }
     ensures value { result ≡ agent_of rows.old.items agent }
@@ -102,7 +102,7 @@ pub fn numbers(alloc: Global, rows: &[AgentRow]) -> Result<IdList, NoMemory>
     Ok(ids)
 }
 
-// The same rows once more.
+// A copy of the rows.
 pub fn copied(alloc: Global, rows: &[AgentRow]) -> Result<Sequence<AgentRow>, NoMemory>
     ensures { IfOk result (λ copies. copies ≡ rows.now) }
 {

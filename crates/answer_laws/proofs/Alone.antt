@@ -64,7 +64,7 @@ pub record AloneAt (s k : ℕ) (st : State) (kb : StoreBody) (kz : Answer) : Typ
   pub table : table_of s kb.tables ≡ []
   pub apart : stands s kb.place stand ≡ true
 
--- whoever waits for anybody has heard something that isn't a letter of s
+-- a waiting thread has heard something that isn't a letter of s
 abbrev FitsApart : ℕ → Option ℕ → Answer → Type 0
 FitsApart s from heard = is_apart s heard ≡ true
 
@@ -115,7 +115,7 @@ heard_then : (z : Answer) (xs ys : List Answer) → last_heard z (xs ++ ys) ≡ 
 heard_then z [] ys = refl
 heard_then z (x ∷ xs) ys = heard_then x xs ys
 
--- with the report behind it
+-- with the report after it
 alone_said : (s k : ℕ) (after : State) (es : List Effect) (reports : List ℕ) (kb : StoreBody) (kz : Answer) → Lawful after None → is_agent after s ≡ false → AloneAt s k after kb (last_heard kz (answers_to k es))
     → AloneAt s k (after_rites after es reports).state kb (last_heard kz (answers_to k (after_rites after es reports).effects))
 alone_said s k after es reports kb kz was away h = by_armed (is_event_armed after rites_event) reports
@@ -232,7 +232,7 @@ module _ (s k : ℕ) (st : State) (was : Lawful st None) (kb : StoreBody) (kz : 
       by_checks (Struck e is) = stood (call.Reply v text) body (Hears (answer.Refused e)) (answer.Refused e ∷ []) (keeps_refused k st turn k_seen v text e is) refl refl refl table refl
       by_checks (Free passed is) = stood (call.Reply v text) body (Hears zero_answer) (zero_answer ∷ []) (keeps_replied k st turn k_seen v text (replied_other k Never k st (off k st turn k_seen) v passed.1.0) is) refl refl refl table refl
 
-  -- the talk behind its turn
+  -- the talk after its turn
   turned : Inv s (store_turn s None names before before.keeper)
   turned = inv_store s 0 None names before inv_before
 

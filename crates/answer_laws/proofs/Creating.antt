@@ -325,9 +325,9 @@ module _ {B : Type 0} (bodies : List B) (u p : ℕ) (st : State) (was : Lawful s
       by_given false true = none_bears (step st (call.ExcNotify e)).after (effect.Trapped t e ∷ drop 1 (step st (call.ExcNotify e)).effects) (but_bears (call.ExcNotify e))
       by_given false false = none_bears (step st (call.Destroy t)).after (effect.Trapped t e ∷ drop 1 (step st (call.Destroy t)).effects) (but_bears (call.Destroy t))
 
-  -- ---- and the report behind it
+  -- ---- and the report after it
 
-  -- what is told behind a call is no birth by it
+  -- what is told after a call is no birth by it
   bears_before : (es ys : List Effect) → is_rites_head ys ≡ true → born_in u (es ++ ys) ≡ Some p → born_in u es ≡ Some p
   bears_before [] [] head so = absurd (cc)
   bears_before [] (effect.Rites a d ∷ ys) head so = absurd (cc)

@@ -66,7 +66,7 @@ destroyed_is_gone st was t u turn lives = gone_by st was t u turn (call.Destroy 
     by_tests true true d e f = absurd (cc)
     by_tests false c d e f = absurd (cc)
 
--- so who is there behind a call wasn't destroyed by it
+-- so a thread that is there after a call wasn't destroyed by it
 pub not_destroyed : (st : State) → Lawful st None → (t u v : ℕ) → choice st ≡ Some t → is_thread st u ≡ true → (c : Call) → c ≡ call.Destroy v → is_thread (step st c).after u ≡ true → eqb v u ≡ false
 not_destroyed st was t u v turn lives c e alive = by_test (eqb v u) refl
   where
@@ -93,7 +93,7 @@ no_notice st t e marks = (ap (λ ms. passes is_given (noticed ms)) marks ∙ by_
     by_test2 true = refl
     by_test2 false = refl
 
--- and it is gone behind a report
+-- and it is gone after a report
 pub gone_said : (u : ℕ) (after : State) (es : List Effect) (reports : List ℕ) → IsGone after u → IsGone (after_rites after es reports).state u
 gone_said u after es reports gone = by_armed (is_event_armed after rites_event) reports
   where

@@ -100,7 +100,7 @@ module _ (u t : ℕ) (Fits : Option ℕ → Answer → Type 0) (s : State) (was 
       by_ticks None = refl
       by_ticks (Some ticks) = rw (ne_eqb t u apart) refl
 
-  -- the call spares it and those to whom it has written; or it is there behind the call, and has written to nobody
+  -- the call spares it and those to whom it has written; or it is there after the call, and has written to nobody
   abbrev Fine : Call → State → Type 0
   Fine c after = Spares s u c ⊎ ((is_thread after u ≡ true) × ((v : ℕ) → open_letters s u v ≡ 0))
 
@@ -124,7 +124,7 @@ module _ (u t : ℕ) (Fits : Option ℕ → Answer → Type 0) (s : State) (was 
   after_but : (c : Call) → After (step s c).after (step s c).effects → After (but_call (step s c)).after (but_call (step s c)).effects
   after_but c calls = record { turn = turn_as u Fits s (step s c) (drop 1 (step s c).effects) (but_same u s c) calls.turn; lawful = calls.lawful; timers = calls.timers }
 
-  -- behind a trap
+  -- after a trap
   after_trapped : (e : ℕ) (after : State) (es : List Effect) → After after es → After after (effect.Trapped t e ∷ es)
   after_trapped e after es calls = record { turn = turn_as u Fits s (record { after = after; effects = es }) (effect.Trapped t e ∷ es) refl calls.turn; lawful = calls.lawful; timers = calls.timers }
 
@@ -200,7 +200,7 @@ module _ (es : EventState) (was : Lawful es.state None) (t u : ℕ) (turn : choi
 pub pods_leave_it : PodsLeaveIt
 pods_leave_it es was t u turn other attentive none away c spared = fine_leave_it es was t u turn other attentive none away c (inl spared)
 
--- who is there behind the call, and has written to nobody, was spared
+-- a thread that is there after the call, and has written to nobody, was spared
 pub living_is_left : (es : EventState) → Lawful es.state None → (t u : ℕ) → choice es.state ≡ Some t → eqb t u ≡ false → attends es.state u ≡ true → timers_of es.state.timers u ≡ 0 → ((v : ℕ) → open_letters es.state u v ≡ 0)
     → (c : Call) → is_thread (event_step es c).after.state u ≡ true → IsLeft u es.state (machine_of (event_step es c)) ⊎ IsWoken u (IsSentOrReported t u c) es.state (machine_of (event_step es c))
 living_is_left es was t u turn other attentive none away c lives = fine_leave_it es was t u turn other attentive none (away t) c (inr (lives, away))

@@ -1,4 +1,4 @@
--- Whom the names of a script's threads stand for, from the opening on.
+-- Which threads the names of a script's threads mean, from the opening on.
 use Rattle.answer_laws.proofs.Fadings.{event_fades, take_fades}
 use Rattle.answer_laws.proofs.Openings.{sessions_are_reached}
 use Rattle.answer_laws.proofs.Phases.{born_below}
@@ -296,7 +296,7 @@ module _ (setting : Setting ThreadBody) (scripts : setting.next ≡ body_next) w
   tells_gone [] session can was h = h
   tells_gone (m ∷ ms) session can was h = tells_gone ms (after_move setting session m) can.1 (moved_lawful setting session m can.0 was) (tells_moved session m was h)
 
--- whoever has known names at the opening
+-- it holds at an opening whose names are known
 pub tells_opening : (bodies : List ThreadBody) (params : PodParams) (names : Names) → KnowsItsNames (opening_session (script_setting bodies params names)) → Tells (opening_session (script_setting bodies params names)).live
 tells_opening bodies params names known = record { rows = rows_opened (opening_session (script_setting bodies params names)).live.pod.state.births 0 0 (slice_get bodies 0); names = known }
 

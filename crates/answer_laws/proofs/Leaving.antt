@@ -51,7 +51,7 @@ module _ (u : ℕ) (Fits : Option ℕ → Answer → Type 0) where
   abbrev T : State → Outcome → Type 0
   T s out = Turn u Fits s out
 
-  -- whoever is another goes on
+  -- an outcome that lets another thread go on
   turn_other : (s : State) → Attends u Fits s → (a : Answer) (v : ℕ) → v ≢ u → (out : Outcome) → out.after.threads ≡ with_block v block.Not s.threads → out.after.letters ≡ s.letters → out.effects ≡ effect.Answered v a ∷ [] → T s out
   turn_other s was a v other out threads letters told = turn_wake u Fits s was out a v other threads (ap (filter (is_letter_of u)) letters) told
 

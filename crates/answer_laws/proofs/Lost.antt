@@ -158,7 +158,7 @@ no_zero_said s dead after = told_any s (map (as_rites dead) (deliver after rites
 -- ---- a reply to an agent that is gone
 
 module _ (s b : ℕ) where
-  -- whatever is told behind these effects, but no zero for s, a reply of s isn't among them
+  -- whatever is told after these effects, but no zero for s, a reply of s isn't among them
   abbrev Unheard : List Effect → Type 0
   Unheard es = (ys : List Effect) → list_any (is_told s is_zero) ys ≡ false → replies_of_step s b ys ≡ [] → replies_of_step s b (es ++ ys) ≡ []
 

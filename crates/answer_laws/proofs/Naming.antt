@@ -1,4 +1,4 @@
--- The first step of a session that names a thread, and the session behind it.
+-- The first step of a session that names a thread, and the session after it.
 use Rattle.answer_laws.proofs.Creating.{call_bears, none_opened, none_settled, none_with, take_bears}
 use Rattle.answer_laws.proofs.Knowing.{Tells, null_names_are_known, sends_next, tells_moved, tells_opening}
 use Rattle.answer_laws.proofs.Meetings.{gone_lawful, gone_push}
@@ -193,7 +193,7 @@ module _ {B : Type 0} (setting : Setting B) (server : LineServer setting.next) (
   lines_of (Some took ∷ ms) session = ap (λ b. line_is_short (Some took) && b) (lines_of ms (after_move setting session (Some took)))
 
   module _ (moves : List (Option Took)) (can : CanGoOn setting moves (opening_session setting)) where
-    -- a thread that begins in a procedure begins with its body behind the move that bears it
+    -- a thread that begins in a procedure begins with its body after the move that bears it
     born_at : (u p : ℕ) (n : Named setting u p moves (opening_session setting)) → Birth setting u p (after_moves setting n.before (opening_session setting)).live (after_move setting (after_moves setting n.before (opening_session setting)) n.birth).live
     born_at u p n = move_bears setting u p (after_moves setting n.before (opening_session setting)) n.birth
         (gone_lawful setting n.before (opening_session setting) (can_before setting n.before (n.birth ∷ n.later) (opening_session setting) (subst (λ ms. CanGoOn setting ms (opening_session setting)) n.is can)) (Lawful-opening setting.params least most)) n.bears
@@ -411,7 +411,7 @@ in_every_session B setting server = in_every_by setting server IsUnsentTill (λ 
 
 -- ---- scripts
 
--- whoever sends to its store alone, by names that it knows, sends nothing before that is born
+-- a session that sends to its store alone, by names that it knows, sends nothing before that is born
 module _ (setting : Setting ThreadBody) (scripts : setting.next ≡ body_next) (server : LineServer setting.next) (s k : ℕ) (s_k : eqb s k ≡ false) (few : k < null_id) where
   quiet_at : (session : Session ThreadBody) → Tells session.live → session.live.pod.state.births ≤ k → all_sends_to s k (steps_of (after_move setting session None).steps) ≡ true → IsQuiet setting server s session.live
   quiet_at session h low sends turn free b z row = by_sent (sent_of c)

@@ -183,7 +183,7 @@ module _ {B : Type 0} (setting : Setting B) (server : LineServer setting.next) (
   moves_silent (m ∷ ms) session was can low silent = moves_silent ms (after_move setting session m) (moved_lawful setting session m can.0 was) can.1 low
       (move_silent session m was (omega (arith, low, (gone_fades setting s (m ∷ ms) session).births)) silent)
 
--- ---- moves behind moves
+-- ---- moves after moves
 
 module _ {B : Type 0} (setting : Setting B) where
   pub gone_append : (one two : List (Option Took)) (session : Session B) → after_moves setting (one ++ two) session ≡ after_moves setting two (after_moves setting one session)

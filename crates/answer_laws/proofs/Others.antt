@@ -331,7 +331,7 @@ module _ (u : ℕ) (Fits : Option ℕ → Answer → Type 0) where
       by_clock true = tick_turn s none here
       by_clock false = turn_all (λ row. not (is_agent_row u row)) (deliver_to text) (delivered_turn text fits) (event_agents s.agents e) (all_filter _ _ (is_for e) (λ row kept h. h) s.agents (none_all (is_agent_row u) s.agents (no_rows s None nine u here.row here.known))) s here
 
--- the same, where v is no agent of the list
+-- a delivery to other agents than v: only their letters have to fit
 module _ (u v : ℕ) (Fits : Option ℕ → Answer → Type 0) where
   delivered_but : (text : List ℕ) → ((agent : ℕ) → agent ≢ v → (from : Option ℕ) → takes_from agent (block.Receiving from) ≡ true → Fits from (answer.Letter agent text 240)) → (row : AgentRow) (s : State) → (not (is_agent_row u row) && not (is_agent_row v row)) ≡ true → Attends u Fits s → Turn u Fits s (deliver_to text row s)
   delivered_but text fits row s h here =

@@ -52,7 +52,7 @@ use Rattle.lwp_types.specs.declared.call.LwpErr.TheVariants as error
 use Rattle.lwp_types.specs.declared.rows.Block.TheVariants as block
 use Rattle.lwp_types.specs.declared.rows.Mark.TheVariants as mark
 
--- the machine after a call, with the report behind it
+-- the machine after a call, with the report after it
 abbrev pub done_by : EventState → Trapping → Outcome
 done_by es out = let said = after_rites out.state out.effects (reports_after es.state out.state es.reports out.effects) in record { after = said.state; effects = said.effects }
 
@@ -63,7 +63,7 @@ event_is es t c turn = ap (λ o. machine_of (event_step_if es c o)) turn
 -- ---- replies
 
 module _ (s a : ℕ) where
-  -- whatever is told behind these effects, a reply of s isn't among them
+  -- whatever is told after these effects, a reply of s isn't among them
   abbrev pub Mute : List Effect → Type 0
   Mute es = (ys : List Effect) → replies_of_step s a ys ≡ [] → replies_of_step s a (es ++ ys) ≡ []
 
@@ -117,7 +117,7 @@ module _ (s a : ℕ) where
           mute_then made.others (own_effects t made.own ++ end_effects made.after) (mute_tame made.others (case_toll st t c).tame)
           (mute_then (own_effects t made.own) (end_effects made.after) (own_mute t made.own) (end_mute made.after (ends made.after)))
 
-  -- a call that is no reply of s to a, whatever is told behind it
+  -- a call that is no reply of s to a, whatever is told after it
   module _ (t : ℕ) (c : Call) (none : (es : List Effect) → Mute (effect.Called t c ∷ es)) where
     mute_step : (st : State) → choice st ≡ Some t → Mute (step st c).effects
     unfolding step step_by
@@ -363,7 +363,7 @@ module _ (s a : ℕ) where
   replied_more st c turn ys none = subst (λ o. replies_of_step s a ((step_if st c o).effects ++ ys) ≡ replies_of_step s a (step_if st c o).effects) (sym turn)
       (ap (λ b. cond (eqb s s && b) (reply_to a c) []) (any_append (is_told s is_zero) (drop 1 (step_by st s c).effects) ys none))
 
-  -- so a reply is told of behind a report as before it
+  -- so a reply is told of after a report as before it
   replied_said : (st : State) (c : Call) → choice st ≡ Some s → Lawful (step st c).after None → (b : Block) → (sight (step st c).after s).waits ≡ Some b → is_attentive b ≡ true → timers_of (step st c).after.timers s ≡ 0 → (reports : List ℕ)
       → replies_of_step s a (after_rites (step st c).after (step st c).effects reports).effects ≡ replies_of_step s a (step st c).effects
   replied_said st c turn was b seen attentive none reports = by_armed (is_event_armed (step st c).after rites_event) reports

@@ -1,4 +1,4 @@
--- Who owns an agent: whoever asked for it, as long as it is there.
+-- Who owns an agent: the thread that asked for it, as long as it is there.
 use Rattle.answer_laws.proofs.Fadings.{event_fades, take_fades}
 use Rattle.lwp_types.specs.Choice.{choice}
 use Rattle.lwp_types.specs.Counts.{goes_well, is_owners}

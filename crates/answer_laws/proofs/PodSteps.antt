@@ -177,7 +177,7 @@ module _ (s k a : ℕ) (talk : Talk) (waiting : List (List ℕ)) where
   heard_then : (before middle after : Stand) (xs ys : List Answer) → IsHeard before middle xs → IsHeard middle after ys → IsHeard before after (xs ++ ys)
   heard_then before middle after xs ys one two = λ z h. subst (HeardAs after) (sym (heard_append z xs ys)) (two (last_heard z xs) (one z h))
 
-  -- a delivery behind it
+  -- a step, and a delivery after it
   pub becomes_then : (session : SessionBody) (store : StoreBody) (one_texts two_texts replies : List (List ℕ)) (one : Outcome) (es : List Effect) (after : State) (b : Becomes s k a talk session store waiting one_texts replies one)
       → Becomes s k a (after_events s a talk b.events) (after_events s a talk b.events).session (after_events s a talk b.events).store b.waits two_texts [] (record { after = after; effects = es }) → Becomes s k a talk session store waiting (one_texts ++ two_texts) replies (record { after = after; effects = one.effects ++ es })
   becomes_then session store one_texts two_texts replies one es after b d = record {
@@ -201,7 +201,7 @@ module _ (s k a : ℕ) (talk : Talk) (waiting : List (List ℕ)) where
   said_same : (es sent : List Effect) (u dead : ℕ) → answers_to u (es ++ map (as_rites dead) sent) ≡ answers_to u (es ++ sent)
   said_same es sent u dead = answers_append u es (map (as_rites dead) sent) ∙ ap (λ x. answers_to u es ++ x) (rites_same u dead sent) ∙ sym (answers_append u es sent)
 
-  -- and so it is with the report behind it
+  -- a step, and the report after it
   pub becomes_said : (session : SessionBody) (store : StoreBody) (replies : List (List ℕ)) (after : State) (es : List Effect) (reports : List ℕ) → Lawful after None → texts_in a None es ≡ []
       → Becomes s k a talk session store waiting [] replies (record { after = after; effects = es })
       → Becomes s k a talk session store waiting (texts_in a None (after_rites after es reports).effects) replies (record { after = (after_rites after es reports).state; effects = (after_rites after es reports).effects })
@@ -234,7 +234,7 @@ pub record Rests (s : ℕ) (heard : List Answer) (out : Outcome) : Type 0 where
   pub told : answers_to s out.effects ≡ heard
 
 module _ (s : ℕ) (heard : List Answer) where
-  -- a text behind it leaves it
+  -- a text after it leaves it
   rests_then : (one : Outcome) → Lawful one.after None → (e : ℕ) (text : List ℕ) → Rests s heard one → Rests s heard (record { after = (deliver one.after e text).after; effects = one.effects ++ (deliver one.after e text).effects })
   rests_then one was e text l = by_fate (deliveries_leave_it one.after was s (attends_seen one.after s block.Not (ap (λ x. x.waits) l.client) refl) l.untimed e text)
     where
@@ -294,7 +294,7 @@ module _ (s k a : ℕ) (st : State) (was : Lawful st None) (talk : Talk) (waitin
       by_comes (inl b) = inl (becomes_same s k a talk waiting talk.session talk.store [] [] (record { after = after; effects = es }) fs same same_k b)
       by_comes (inr l) = inr (leaves_same s k a talk waiting (record { after = after; effects = es }) fs same l)
 
-  -- the call destroys neither of the two, or both are there behind it
+  -- the call destroys neither of the two, or both are there after it
   abbrev Fine : Call → State → Type 0
   Fine c after = (spares_agent s k c ≡ true) ⊎ ((is_thread after s ≡ true) × (is_thread after k ≡ true))
 
@@ -414,7 +414,7 @@ module _ (s k a : ℕ) (es : EventState) (was : Lawful es.state None) (talk : Ta
 pub pods_calls_are_events : PodsCallsAreEvents
 pods_calls_are_events s k a es was talk waiting h t turn t_s t_k c spared low = calls_fine s k a es was talk waiting h t turn t_s t_k c (inl spared) low
 
--- the same, where both are there behind it
+-- a call of another after which both are there
 pub living_calls_are_events : LivingCallsAreEvents
 living_calls_are_events s k a es was talk waiting h t turn t_s t_k c lives lives_k low = calls_fine s k a es was talk waiting h t turn t_s t_k c (inr (lives, lives_k)) low
 

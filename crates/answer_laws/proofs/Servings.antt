@@ -62,7 +62,7 @@ use Rattle.lwp_types.specs.declared.rows.Block.TheVariants as block
 
 -- ---- one step of a pod
 
--- whoever is there behind it hasn't died in it
+-- a thread that is there after it hasn't died in it
 pub alive_then : (s after : State) (es : List Effect) → Moved s after es → (u : ℕ) → is_thread after u ≡ true → count_by (is_died u) es ≡ 0
 alive_then s after es moved u lives = by_count (count_by (is_died u) es) refl
   where
@@ -169,7 +169,7 @@ module _ {B : Type 0} (setting : Setting B) (server : LineServer setting.next) (
       ∙ flat_map-append (λ (step : Step). replies_of_step s a step.effects) (steps_of steps) (step_of made ∷ [])
       ∙ ap (λ xs. said_in steps a ++ xs) (append-nil (replies_of_step s a made.effects)))
 
-  -- a phase behind a step more
+  -- a phase after one more step
   stood_push : (steps : List Made) (made : Made) (live : Live B) → Phase s k live.pod.state (S_of live.rows) (K_of live.rows) (λ b. got_in steps b ++ texts_in b (option_map (λ (took : Took). took.line.text) made.take) made.effects) (λ b. said_in steps b ++ replies_of_step s b made.effects)
       → Stood (record { live = live; steps = steps ++ made ∷ [] })
   stood_push steps made live phase = subst (λ g. Phase s k live.pod.state (S_of live.rows) (K_of live.rows) g (said_in (steps ++ made ∷ []))) (λ i b. got_push steps made b i)
@@ -301,7 +301,7 @@ module _ {B : Type 0} (setting : Setting B) (server : LineServer setting.next) (
           (polled_other k s s_k (server.serving next_s.1) next_s.0 live.rows ∙ is) (alive_then live.pod.state out_s.after out_s.effects (call_moved live.pod was next_s.0) k lives))
           short (λ free. sends_so s k next_s.0 (eqb s k) s_k (sends_named s k live.pod turn next_s.0 free sends)) low stood
 
-    -- ---- a call, whoever makes it
+    -- ---- a call of any thread
 
     abbrev Behind : Option Took → Live B → List Effect → Type 0
     Behind took after fs = is_thread after.pod.state k ≡ true → list_all (sends_only s k) fs ≡ true → Stood (record { live = after; steps = steps ++ record { take = took; effects = fs } ∷ [] })

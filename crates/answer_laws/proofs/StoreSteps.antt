@@ -188,7 +188,7 @@ agent_sends s a st talk later waiting sends same lives2 (Made row there owns liv
 agent_sends s a st talk later waiting sends same lives2 (Gone off below lives known) = Gone off below (lives2 ∙ lives)
     (subst (λ p. knows a later.session.agent p later.client ≡ true) (sym sends ∙ sym (ap (λ x. x.place) same)) (ap (λ x. eqb x.agent a) same ∙ subst (λ p. knows a talk.session.agent p talk.client ≡ true) sends known))
 
--- ---- the store's turn, whoever else is there
+-- ---- the store's turn, with others there or not
 
 module _ (k : ℕ) (st : State) (turn : choice st ≡ Some k) (k_seen : sight st k ≡ record { waits = Some block.Not; marks = mark.Frame ∷ []; letters = [] }) where
   k_row : At st k block.Not

@@ -340,7 +340,7 @@ module _ (s k a : ℕ) (st : State) (was : Lawful st None) (talk : Talk) (waitin
         by_store true same = keeper_left s k a st talk waiting out h (none_left s k st out same)
         by_store false s_k = by_fate s_k (k_fate s_k)
 
-    -- whoever isn't there and was born stays away
+    -- an agent that isn't there and was born stays away
     away_after : is_thread st a ≡ false → a < st.births → agent_sight out.after a ≡ no_agent → is_id out.after a ≡ false
     away_after off below none = neither (is_thread out.after a) (is_agent out.after a) ((step_fades a st c).threads below off) (ap (λ x. is_some x.row) none)
 

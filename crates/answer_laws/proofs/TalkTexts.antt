@@ -123,7 +123,7 @@ module _ where
       by_clock true = births_tick s
       by_clock false = births_each (deliver_to text) (births_to text) (event_agents s.agents e) s
 
--- whoever takes a letter of nobody but a
+-- a thread that receives from nobody but a takes no letter of another
 only_a : (a : ℕ) (stand : Stand) (n : ℕ) → n ≢ a → takes_from n (block_of (Some a) stand) ≡ false
 only_a a (Hears x) n other = refl
 only_a a AwaitsLetter n other = ne_eqb a n (λ e. other (sym e))

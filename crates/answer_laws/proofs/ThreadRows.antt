@@ -1,4 +1,4 @@
--- What a step makes of the row of a thread that is there behind it.
+-- What a step makes of the row of a thread that is there after it.
 use Rattle.std.specs.Prelude.{option_map}
 use Rattle.lwp_types.specs.declared.call.Call.{Call}
 use Rattle.answer_laws.specs.Served.{IsPolledWith, polled_with}
@@ -61,7 +61,7 @@ module _ {B : Type 0} (u : ℕ) where
       by_test true e rest = head_own (change r) rs (ap (λ n. eqb n u) (keeps r) ∙ e) ∙ ap (λ x. Some (change x)) (found_head r row rs (eqb r.tid u) e found)
       by_test false e rest = head_other r (with_row u change rs) e ∙ rest (found_later r row rs (eqb r.tid u) e found)
 
-  -- other rows come behind it
+  -- other rows come after it
   row_before : (xs ys : List (Row B)) (row : Row B) → row_of u xs ≡ Some row → row_of u (xs ++ ys) ≡ Some row
   row_before [] ys row found = absurd (cc)
   row_before (r ∷ rs) ys row found = by_test (eqb r.tid u) refl (λ later. row_before rs ys row later)

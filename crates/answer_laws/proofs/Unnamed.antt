@@ -43,7 +43,7 @@ abbrev pub Below : ℕ → Option ℕ → Type 0
 Below n None = Unit {0}
 Below n (Some t) = t < n
 
--- whoever is named by an answer is
+-- a thread that an answer names is below n
 abbrev pub NamedIn : ℕ → Effect → Type 0
 NamedIn n (effect.Answered t a) = Below n (thread_in a)
 NamedIn n _ = Unit {0}

@@ -183,7 +183,7 @@ alone_at s event place a st was seen low = record {
   told = refl;
 }
 
--- whoever sends nothing sends nothing
+-- a call that sends nothing sends well
 sends_none : (s : ℕ) (c : Call) (b : Bool) → b ≡ true → sends_nothing c ≡ true → cond b (sends_nothing c) (names_only s c) ≡ true
 sends_none s c true e none = none
 sends_none s c false e none = absurd (cc)
@@ -263,7 +263,7 @@ module _ {B : Type 0} (setting : Setting B) (server : LineServer setting.next) (
           (polled_own s (server.serving next_s.1) next_s.0 live.rows (server.serving its.body) its.answer its.row) (alive_then live.pod.state out_s.after out_s.effects (call_moved live.pod was next_s.0) s lives))
           (λ b z is. is) short (λ free. sends_none s next_s.0 (eqb s s) (eq-eqb s s refl) (quiet turn free its.body its.answer its.row)) low lone
 
-    -- ---- a call, whoever makes it
+    -- ---- a call of any thread
 
     module _ (quiet : IsQuiet setting server s live) (short : (b : ℕ) → list_all is_short (got_in setting server s k s_k steps b) ≡ true) (low : eqb null_id live.pod.state.births ≡ false) where
       abbrev Behind : Live B → List Effect → Type 0

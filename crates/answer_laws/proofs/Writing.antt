@@ -1,4 +1,4 @@
--- What is written of a client: a step's call, as it is told of, and the replies of whoever makes it.
+-- What is written of a client: a step's call, as it is told of, and the replies of the thread that makes it.
 use Rattle.answer_laws.proofs.AgentTexts.{At, at_of}
 use Rattle.answer_laws.proofs.Events.{rites_same}
 use Rattle.answer_laws.proofs.Others.{deliveries_leave_it}
@@ -129,7 +129,7 @@ heard_call m (effect.Ended status ∷ es) = heard_call m es
 heard_call m (effect.Trapped t e ∷ es) = heard_call m es
 heard_call m (effect.Rites a d ∷ es) = heard_call m es
 
--- behind a call no other is taken
+-- after a call no other is taken
 pub call_stays : (m : Made) (es : List Effect) → fold call_by_effect (Some m) es ≡ Some (fold call_after_effect m es)
 call_stays m [] = refl
 call_stays m (e ∷ es) = call_stays (call_after_effect m e) es
@@ -195,7 +195,7 @@ callless_said after es reports callless = by_armed (is_event_armed after rites_e
     by_armed false rs = callless_whole es callless
     by_armed true (dead ∷ later) = let sent = (deliver after rites_event (report_text dead)).effects in callless_whole (es ++ map (as_rites dead) sent) (callless_then es (map (as_rites dead) sent) callless (callless_rites dead sent (tame_deliver after rites_event (report_text dead))))
 
--- ---- whoever is at rest
+-- ---- threads at rest
 
 free_is : (b : Block) → is_not_blocked b ≡ true → b ≡ block.Not
 free_is block.Not e = refl
@@ -250,7 +250,7 @@ pub record Says (t : ℕ) (st : State) (c : Call) (after : State) (es : List Eff
   pub is : es ≡ effect.Called t c ∷ rest
   pub heard : Heard t st c after (answers_to t rest)
 
--- what becomes of a step: its call is told, perhaps behind a trap, or none is
+-- what becomes of a step: its call is told, perhaps after a trap, or none is
 pub data Form (t : ℕ) (st : State) (c : Call) (after : State) (es : List Effect) : Type 0 where
   Plain : Says t st c after es → Form t st c after es
   Behind : (e : ℕ) (fs : List Effect) → es ≡ effect.Trapped t e ∷ fs → Says t st c after fs → Form t st c after es
@@ -681,7 +681,7 @@ module _ (s e a : ℕ) (st after : State) (was : Lawful st None) (t : ℕ) where
 
 -- ---- over a session
 
--- some more behind these
+-- some more after these
 record More (xs ys : List ℕ) : Type 0 where
   rest : List ℕ
   is : ys ≡ xs ++ rest

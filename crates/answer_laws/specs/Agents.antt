@@ -93,7 +93,7 @@ abbrev pub DeliveriesReachAgents : Type 0
 DeliveriesReachAgents = (s : State) → Lawful s None → (a : ℕ) (row : AgentRow)
     → agent_of s.agents a ≡ Some row → (text : List ℕ) → Reaches s a row text (deliver s row.event text)
 
--- A text for an event passes by whoever is no agent of it.
+-- A text for an event passes by anyone who is no agent of it.
 abbrev pub DeliveriesPassOthersBy : Type 0
 DeliveriesPassOthersBy = (s : State) → Lawful s None → (a e : ℕ) (text : List ℕ)
     → passes (is_for e) (agent_of s.agents a) ≡ false → IsPassedBy a s (deliver s e text)

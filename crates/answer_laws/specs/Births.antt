@@ -82,7 +82,7 @@ abbrev pub InEverySession : Type 0 → Type 0
 InEverySession B = (setting : Setting B) (server : LineServer setting.next)
     → IsAnsweredAlways setting server.serving server.storing IsUnsentTill
 
--- And in every session of every script, where at the opening each name is null, or stands for somebody born; or else by
+-- And in every session of every script, where at the opening each name is null, or means somebody born; or else by
 -- the same premise.
 abbrev pub InEveryScript : Type 0
 InEveryScript = (bodies : List ThreadBody) (params : PodParams) (names : Names)

@@ -41,7 +41,7 @@ asked_and_quit = calls (effect.Called 2 (call.Agent 1) ∷ effect.Answered 2 (an
     ∷ calls (effect.Called 2 call.Return ∷ effect.Died 2 ∷ [])
     ∷ []
 
--- a report to the agent, a line of another event that is trapped, a reply behind the trap, a reply to an agent that has
+-- a report to the agent, a line of another event that is trapped, a reply after the trap, a reply to an agent that has
 -- gone, and a Send to another than the store
 abbrev pub trapped_and_gone : List Step
 trapped_and_gone = calls (effect.Called 0 (call.Destroy 7) ∷ effect.Died 7
@@ -64,7 +64,7 @@ call_made es = record { take = None; effects = es }
 abbrev pub plain : Flags
 plain = record { suspended = false; nolastrites = false; server = false }
 
--- thread 0 creates a thread of procedure 5, which asks who it is; a Create is refused, and behind a trap another thread
+-- thread 0 creates a thread of procedure 5, which asks who it is; a Create is refused, and after a trap another thread
 -- begins in procedure 6
 abbrev pub two_created : List Made
 two_created = call_made (effect.Called 0 (call.Create 5 2 plain) ∷ effect.Answered 0 (answer.Thread 1) ∷ [])

@@ -1,5 +1,5 @@
--- The same in a pod with its own events: with traps before a call and reports behind it, and with lines that are
--- trapped.
+-- What others do to a thread that attends, in a pod with its own events: with traps before a call and reports after it,
+-- and with lines that are trapped.
 use Rattle.answer_laws.specs.Sights.{IsDelivered, IsLeft, IsSent, IsWoken, Spares, attends, open_letters}
 use Rattle.lwp_types.specs.Choice.{choice}
 use Rattle.lwp_types.specs.Counts.{timers_of}
@@ -21,7 +21,7 @@ abbrev pub IsSentOrReported : ℕ → ℕ → Call → Option ℕ → Answer →
 IsSentOrReported t u c from heard = IsSent t u c from heard ⊎ ((dead : ℕ) × IsDelivered (report_text dead) from heard)
 
 -- What a call of another does to a thread that attends and has no timer, the trap that is raised before it and the
--- report behind it among that: nothing, unless it waits for a letter, and gets one, or learns that whom it waits for
+-- report after it among that: nothing, unless it waits for a letter, and gets one, or learns that whom it waits for
 -- isn't there.
 abbrev pub PodsLeaveIt : Type 0
 PodsLeaveIt = (es : EventState) → Lawful es.state None → (t u : ℕ) → choice es.state ≡ Some t

@@ -1,4 +1,4 @@
--- Whom the names of a script's threads stand for.
+-- Which threads the names of a script's threads mean.
 use Rattle.answer_laws.specs.Served.{IsPolledWith}
 use Rattle.line_server.specs.Sessions.{SessionBody, session_next}
 use Rattle.lwp_types.specs.Names.{Names, id_at, null_id, null_names, names_for_poll}
@@ -19,7 +19,7 @@ use Rattle.std.specs.Prelude.{List, ℕ, ◌<◌, ◌≡◌, ◌≤◌, ◌⊎�
 abbrev pub IsKnown : State → ℕ → Type 0
 IsKnown s n = (n ≡ null_id) ⊎ (n < s.births)
 
--- so is what each name of a thread stands for
+-- so is what each name of a thread means
 abbrev pub KnowsItsNames : {B : Type 0} → Session B → Type 0
 KnowsItsNames session = (place : ℕ) → IsKnown session.live.pod.state (id_at session.live.names.threads place)
 

@@ -1,4 +1,4 @@
--- The calls of the two themselves, in a pod with its own events: with the trap before a call, and the report behind it.
+-- The calls of the two themselves, in a pod with its own events: with the trap before a call, and the report after it.
 use Rattle.answer_laws.specs.Clients.{replies_of_step, sends_well}
 use Rattle.answer_laws.specs.Events.{machine_of}
 use Rattle.answer_laws.specs.Stands.{Becomes, Leaves, OpensInVain, Stands, is_short_reply, is_short_to, texts_in}
@@ -27,7 +27,7 @@ OthersReplyNothing = (s a : ℕ) (es : EventState)
     → replies_of_step s a (event_step es c).effects ≡ [])
     × ((e : ℕ) (text : List ℕ) → replies_of_step s a (take_event es e text).effects ≡ [])
 
--- A call of another, if the two are there behind it: it is a letter to the store, or the end of the agent, or nothing,
+-- A call of another, if the two are there after it: it is a letter to the store, or the end of the agent, or nothing,
 -- and the report.
 abbrev pub LivingCallsAreEvents : Type 0
 LivingCallsAreEvents = (s k a : ℕ) (es : EventState) → Lawful es.state None
@@ -39,7 +39,7 @@ LivingCallsAreEvents = (s k a : ℕ) (es : EventState) → Lawful es.state None
     [] (machine_of (event_step es c))
     ⊎ Leaves s talk (machine_of (event_step es c))
 
--- The store's call, if the store is still there behind it, and its reply to a letter of the session is short: as the
+-- The store's call, if the store is still there after it, and its reply to a letter of the session is short: as the
 -- talk says, and a letter with it if there is one, and the report.
 abbrev pub PodsStoresCallsAreEvents : Type 0
 PodsStoresCallsAreEvents = (s k a : ℕ) (es : EventState) → Lawful es.state None

@@ -21,7 +21,7 @@ alone text = Line text ∷ session ∷ session ∷ []
 abbrev pub store_line : List ℕ → List Event
 store_line text = Line text ∷ session ∷ OwnLetter ∷ store ∷ session ∷ session ∷ store ∷ []
 
--- behind these events the session has received these lines, and its client was told so
+-- after these events the session has received these lines, and its client was told so
 abbrev pub Comes : List Event → List (List ℕ) → List (List ℕ) → Type 0
 Comes events lines told = ((after_events 2 3 (opening_talk 1 0) events).lines ≡ lines)
     × ((after_events 2 3 (opening_talk 1 0) events).told ≡ told)

@@ -105,8 +105,8 @@ ClientsAreAnsweredInTurn B = (setting : Setting B) (server : LineServer setting.
     → TextsAreShort (after_moves setting moves (session_from live))
     → (a : ℕ) → IsAnsweredInTurn s a (steps_of (after_moves setting moves (session_from live)).steps)
 
--- So it is where the session begins by a move behind some others since the store began, before which it wasn't born;
--- whoever else the store has served till then.
+-- So it is where the session begins by a move after some others since the store began, before which it wasn't born, and
+-- whichever threads the store has served till then.
 abbrev pub LaterClientsAreAnsweredInTurn : Type 0 → Type 0
 LaterClientsAreAnsweredInTurn B = (setting : Setting B) (server : LineServer setting.next) (s k event place : ℕ)
     → (first : Live B) → Lawful first.pod.state None → Begins k (server.storing store_opening) first
@@ -127,7 +127,7 @@ abbrev pub line_is_short : Option Took → Bool
 line_is_short None = true
 line_is_short (Some took) = is_short took.line.text
 
--- At the opening of a session and from there on: the store begins behind some moves, and the client's session behind
+-- At the opening of a session and from there on: the store begins after some moves, and the client's session after
 -- some more, the last of which bears it; then the rest follows. Of all steps from the opening on: what the session's
 -- client is told is a first part of the answers to its lines.
 abbrev pub IsAnsweredInIt : {B : Type 0} → Setting B → (SessionBody → B) → (StoreBody → B) → Type 0

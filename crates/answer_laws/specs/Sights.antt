@@ -37,7 +37,7 @@ sight_by row letters = record {
 abbrev pub sight : State → ℕ → Sight
 sight s u = sight_by (thread_of s u) (filter (is_letter_of u) s.letters)
 
--- the same thread, as one that goes on
+-- a thread that goes on, with its marks and letters
 abbrev pub going_on : Sight → Sight
 going_on seen = record seen { waits = Some block.Not }
 

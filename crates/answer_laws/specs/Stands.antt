@@ -58,7 +58,7 @@ is_posted AwaitsReply (Sent text) = true
 is_posted AwaitsReply (Received text) = true
 is_posted _ _ = false
 
--- it waits for a line or a reply only behind such a call
+-- it waits for a line or a reply only after such a call
 abbrev pub is_placed : Stand → SessionPlace → Bool
 is_placed AwaitsLetter at.Recv = true
 is_placed AwaitsLetter _ = false
@@ -234,13 +234,13 @@ SessionsCallsAreEvents = (s k a : ℕ) (state : State) → Lawful state None
     (step state (session_next talk.session names x).0)
     ⊎ OpensInVain s talk (step state (session_next talk.session names x).0)
 
--- ---- the same in a pod with its own events
+-- ---- a talk in a pod with its own events
 
 -- the texts that the agent gets by the effects of a step, with that of a line that was taken, if one was
 abbrev pub texts_in : ℕ → Option (List ℕ) → List Effect → List (List ℕ)
 texts_in a text es = flat_map (text_to a text) es
 
--- A call of another, with the trap before it and the report behind it: a report is a line of the agent, if that is one
+-- A call of another, with the trap before it and the report after it: a report is a line of the agent, if that is one
 -- of event 32.
 abbrev pub PodsCallsAreEvents : Type 0
 PodsCallsAreEvents = (s k a : ℕ) (es : EventState) → Lawful es.state None

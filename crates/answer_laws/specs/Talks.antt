@@ -147,7 +147,7 @@ abbrev pub mail_comes : ℕ → Talk → Mail → Talk
 mail_comes s talk (Sent text) = record talk { keeper = Hears (answer.Letter s text 240); mail = Received text }
 mail_comes s talk _ = talk
 
--- the same, if it waits for one
+-- the store receives the session's letter, if it waits for one
 abbrev pub letter_comes : ℕ → Talk → Stand → Talk
 letter_comes s talk AwaitsLetter = mail_comes s talk talk.mail
 letter_comes s talk _ = talk

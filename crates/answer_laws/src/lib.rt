@@ -5,13 +5,13 @@
 //! |---|---|
 //! | in every session of every script, with names that are null at the opening, whenever lines are taken and whatever the other clients do: of a client's session and a store, whichever of the two is born first, the accepted replies to the session's agent are a first part of the answers to the lines delivered to that | `FromNullNames`, of any names `InEveryScript`, and of any bodies `InEverySession` (`specs/Births.antt`) |
 //! | what `answers` writes of a client are the accepted replies to the agent of its event, if that has had one alone and one thread alone has replied to it, as its owner alone does; so of a client's session and a store it is a first part of the answers to the client's lines | `OwnersAloneReply`, `RepliesAreWritten`, `ClientsAreWritten`, and of plans `PlansAreSessions` (`specs/Written.antt`) |
-//! | so it is from any point of a session on at which the two begin, or the session behind a store that has served others | `ClientsAreAnsweredInTurn`, `LaterClientsAreAnsweredInTurn`, and by moves from the opening on `InWholeSessions`, `SessionsAreReached` (`specs/Served.antt`) |
+//! | so it is from any point of a session on at which the two begin, or the session after a store that has served others | `ClientsAreAnsweredInTurn`, `LaterClientsAreAnsweredInTurn`, and by moves from the opening on `InWholeSessions`, `SessionsAreReached` (`specs/Served.antt`) |
 //! | in every session of every script each name of a thread is null, or the number of somebody who was born; so a client's session sends to nobody else | `NullNamesAreKnown`, `NamesAreOfTheBorn`, `SessionsSendToTheBorn` (`specs/Known.antt`) |
-//! | a session and a store that talk, whatever others send to the store and whoever ends: what the client is told is a first part of the answers to its lines | `TalksAreAnswers` (`specs/Talks.antt`) |
+//! | a session and a store that talk, whatever others send to the store and whichever of them end: what the client is told is a first part of the answers to its lines | `TalksAreAnswers` (`specs/Talks.antt`) |
 //! | the answers to lines that have room in a letter have room in one | `ShortLinesHaveShortAnswers` (`specs/Lengths.antt`) |
-//! | a sender has one letter at most; whoever receives it is handed it as it was sent; and what is replied to it is what its sender is answered | `EachHasOneLetter`, `ReceivesAreTheLetters`, `RepliesAreTheAnswers`, `ReadersLeaveTheRest` (`specs/Replies.antt`) |
+//! | a sender has one letter at most; its receiver is handed it as it was sent; and what is replied to it is what its sender is answered | `EachHasOneLetter`, `ReceivesAreTheLetters`, `RepliesAreTheAnswers`, `ReadersLeaveTheRest` (`specs/Replies.antt`) |
 //! | nobody but its owner touches an agent or its letter, unless by destroying one of the two; and of an agent that is destroyed nothing is left | `OthersLeaveAgents`, `DestroyedAgentsAreGone` (`specs/Agents.antt`) |
-//! | a text for its event reaches an agent, and passes by whoever is none; its owner is handed it as it was delivered, and a reply to it frees the agent | `DeliveriesReachAgents`, `DeliveriesPassOthersBy` (`specs/Agents.antt`), `OwnersReceive`, `OwnersReply`, `OwnersOfNoneAreRefused` (`specs/Owners.antt`) |
+//! | a text for its event reaches an agent, and passes by those that are none; its owner is handed it as it was delivered, and a reply to it frees the agent | `DeliveriesReachAgents`, `DeliveriesPassOthersBy` (`specs/Agents.antt`), `OwnersReceive`, `OwnersReply`, `OwnersOfNoneAreRefused` (`specs/Owners.antt`) |
 //! | who sends a letter waits for the reply, and who waits for the letter goes on with it | `SendsAreLetters` (`specs/Owners.antt`) |
 //! | nobody else touches a thread that waits for a reply, or who waits for a letter but by sending it one | `OthersLeaveIt`, `DeliveriesLeaveIt` (`specs/Sights.antt`), and with traps and reports `PodsLeaveIt`, `TakesLeaveIt` (`specs/Events.antt`) |
 //! | in a pod that stands as a talk, each step is some events of the talk, and the two bodies are those of the talk: a call of another, a delivery, the store's call and the session's; the texts delivered to the agent are its lines, and its accepted replies those of the talk | `OthersCallsAreEvents`, `DeliveriesAreEvents`, `StoresCallsAreEvents`, `SessionsCallsAreEvents`, and with traps and reports `PodsCallsAreEvents`, `TakesAreEvents` (`specs/Stands.antt`), `LivingCallsAreEvents`, `PodsStoresCallsAreEvents`, `PodsSessionsCallsAreEvents` (`specs/Owns.antt`) |
@@ -30,7 +30,7 @@
 //! taken have room in a letter, and that fewer were born than there are numbers. Where the client's session is born before its store, it must
 //! send nothing till that is born; so it is if each name is null at the opening, since it can't name its store before. That a trap may be
 //! raised in either, that somebody may destroy the session or its agent, and what reports and other agents of the event there are, makes no
-//! difference: a trap is the end of whoever has no handler, and a store that lives in the end has met none.
+//! difference: a trap is the end of a thread that has no handler, and a store that lives in the end has met none.
 //!
 //! It stands on the bodies of `line_server`, on the laws of the machine in `pod_laws`, on the events of `pod_events`, and on the sessions of
 //! `pod_runner` with their laws in `session_laws`; that scripts are such sessions it takes from `script_body`, and what is written of a client from
@@ -61,7 +61,7 @@ pub fn every_client<B: Body>()
     ensures { InEverySession B }
 {}
 
-/// So it is in every session of every script; and where each name at the opening is null or stands for somebody born, whatever the session
+/// So it is in every session of every script; and where each name at the opening is null or means somebody born, whatever the session
 /// does before the birth of its store.
 pub fn every_client_of_a_script()
     ensures { InEveryScript }
@@ -93,7 +93,7 @@ pub fn every_plan_written()
     ensures { PlansAreSessions }
 {}
 
-/// Names that are null at the opening of a script's session stand for nobody who isn't born.
+/// Names that are null at the opening of a script's session mean nobody who isn't born.
 pub fn every_opening()
     ensures { NullNamesAreKnown }
 {}
@@ -108,8 +108,8 @@ pub fn every_send_of_a_session()
     ensures { SessionsSendToTheBorn }
 {}
 
-/// From where a store and a client's session begin, the one born before the other or behind it, and neither polled yet: so it is in whatever
-/// comes behind that.
+/// From where a store and a client's session begin, the one born before the other or after it, and neither polled yet: so it is in whatever
+/// follows.
 pub fn every_beginning<B: Body>()
     ensures { ClientsAreAnsweredInTurn B }
 {}
@@ -119,7 +119,7 @@ pub fn every_later_beginning<B: Body>()
     ensures { LaterClientsAreAnsweredInTurn B }
 {}
 
-/// The same by the moves of a session from its opening on.
+/// So it is of the moves of a session from its opening on.
 pub fn every_session_of_moves<B: Body>()
     ensures { InWholeSessions B }
 {}
@@ -129,7 +129,7 @@ pub fn every_session_reached<B: Body>()
     ensures { SessionsAreReached B }
 {}
 
-/// A session and a store that talk, whatever else is sent to the store and whoever ends: the accepted replies to the session's client
+/// A session and a store that talk, whatever else is sent to the store and whichever threads end: the accepted replies to the session's client
 /// are a first part of the answers to its lines.
 pub fn every_talk()
     ensures { TalksAreAnswers }
@@ -166,7 +166,7 @@ pub fn every_call_of_a_reader()
     ensures { ReadersLeaveTheRest }
 {}
 
-/// The same of every call of another in a pod with its own events, with the trap before it and the report behind it.
+/// So it is of every call of another in a pod with its own events, with the trap before it and the report after it.
 pub fn every_call_in_a_pod()
     ensures { PodsLeaveIt }
 {}
@@ -186,7 +186,7 @@ pub fn every_end_of_an_agent()
     ensures { DestroyedAgentsAreGone }
 {}
 
-/// A text that is delivered for an event passes by whoever is no agent of it.
+/// A text that is delivered for an event passes by anyone who is no agent of it.
 pub fn every_delivery_beside_an_agent()
     ensures { DeliveriesPassOthersBy }
 {}
@@ -237,7 +237,7 @@ pub fn every_call_of_the_session()
     ensures { SessionsCallsAreEvents }
 {}
 
-/// A call of another in such a pod with its own events, the trap before it and the report behind it among that.
+/// A call of another in such a pod with its own events, the trap before it and the report after it among that.
 pub fn every_pod_call_beside_a_talk()
     ensures { PodsCallsAreEvents }
 {}
@@ -247,7 +247,7 @@ pub fn every_take_in_a_talk()
     ensures { TakesAreEvents }
 {}
 
-/// So it is of a call of another behind which the two are there, whatever it is.
+/// So it is of a call of another after which the two are there, whatever it is.
 pub fn every_call_that_spares_a_talk()
     ensures { LivingCallsAreEvents }
 {}
@@ -257,7 +257,7 @@ pub fn every_reply_of_others()
     ensures { OthersReplyNothing }
 {}
 
-/// A call of the store in such a pod, the trap before it and the report behind it among that.
+/// A call of the store in such a pod, the trap before it and the report after it among that.
 pub fn every_call_of_the_store_in_a_pod()
     ensures { PodsStoresCallsAreEvents }
 {}

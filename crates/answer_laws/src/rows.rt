@@ -21,7 +21,7 @@ pub fn steps_of_a_client()
         (codes "none" ∷ codes "bye" ∷ []) true }
 {}
 
-/// A report is a text delivered to the agent, and a trapped line is none; a reply counts behind a trap, and not where it is refused.
+/// A report is a text delivered to the agent, and a trapped line is none; a reply counts after a trap, and not where it is refused.
 pub fn steps_with_a_trap()
     ensures in_turn { IsAnsweredInTurn 2 4 trapped_and_gone }
     ensures tells { Tells trapped_and_gone (codes "t7" ∷ codes "what" ∷ []) (codes "bad" ∷ []) false }

@@ -33,7 +33,7 @@ fit-unset (w ∷ ws) [] n fit = absurd fit
 fit-unset (w ∷ ws) (s ∷ ss) zero fit = (tt, fit.1)
 fit-unset (w ∷ ws) (s ∷ ss) (suc n) fit = (fit.0, fit-unset ws ss n fit.1)
 
--- what stands in a slot is wanted there
+-- what is in a slot is wanted there
 pub fit-at : {A : Type 0} (wanted : List (List ℕ)) (slots : List (Option (Vec ℕ A))) (n : ℕ) (d : Option (Vec ℕ A)) (answer : Vec ℕ A) → Fit wanted slots → n < length slots
     → get_or slots n d ≡ Some answer → answer.items ≡ get_or wanted n []
 fit-at [] [] n d answer fit lt is = absurd (omega (arith, lt))

@@ -1,4 +1,4 @@
--- The parts of a text: each stands behind a line that says how many bytes it has.
+-- The parts of a text: each comes after a line that says how many bytes it has.
 use Rattle.batch.specs.declared.part.Part.{Part}
 use Rattle.std.specs.Prelude.{Bool, Err, List, None, Ok, Option, Result, Some, [], bytes_eq, codes, drop, false, if◌then◌else◌, length, nat_le, nat_lt, suc, take, true, zero, ℕ, ◌&&◌, ◌*◌, ◌+◌, ◌-◌, ◌==◌, ◌∷◌, ◌≤◌}
 use Rattle.std.specs.Str.{all_ascii_digits}
@@ -10,10 +10,10 @@ abbrev pub line_length : List ℕ → ℕ
 line_length [] = 0
 line_length (b ∷ bs) = if b == 10 then 0 else suc (line_length bs)
 
--- the value of digits that come behind a number
-abbrev pub value_behind : ℕ → List ℕ → ℕ
-value_behind n [] = n
-value_behind n (d ∷ ds) = value_behind (10 * n + (d - 48)) ds
+-- the value of digits that come after a number
+abbrev pub value_from : ℕ → List ℕ → ℕ
+value_from n [] = n
+value_from n (d ∷ ds) = value_from (10 * n + (d - 48)) ds
 
 -- no digit at all, or a zero that could be left out
 abbrev pub is_misshapen : List ℕ → Bool
@@ -23,22 +23,22 @@ is_misshapen (d ∷ e ∷ ds) = d == 48
 
 -- the value of digits, up to what a part may have
 abbrev pub value_at_most : List ℕ → Option ℕ
-value_at_most ds = if all_ascii_digits ds && nat_le (value_behind 0 ds) 16777216 then Some (value_behind 0 ds) else None
+value_at_most ds = if all_ascii_digits ds && nat_le (value_from 0 ds) 16777216 then Some (value_from 0 ds) else None
 
 -- how many bytes a word says that a part has, in decimal
 abbrev pub size_of : List ℕ → Option ℕ
 size_of word = if is_misshapen word then None else value_at_most word
 
--- how many bytes a line says that the part behind it has: `script N`
+-- how many bytes a line says that the part after it has: `script N`
 abbrev pub length_told : List ℕ → Option ℕ
 length_told line = if bytes_eq (take 7 line) (codes "script ") then size_of (drop 7 line) else None
 
 -- ---- where parts lie
 
--- the part of so many bytes behind a line that begins at a place, if the text, of so many bytes, has them all
-abbrev pub part_behind : ℕ → ℕ → Option ℕ → ℕ → Option Part
-part_behind at line None len = None
-part_behind at line (Some size) len =
+-- the part of so many bytes after a line that begins at a place, if the text, of so many bytes, has them all
+abbrev pub part_after : ℕ → ℕ → Option ℕ → ℕ → Option Part
+part_after at line None len = None
+part_after at line (Some size) len =
     if nat_le (at + line + 1 + size) len then Some (record { from = at + line + 1; to = at + line + 1 + size })
     else None
 
@@ -46,14 +46,14 @@ part_behind at line (Some size) len =
 abbrev pub part_at : List ℕ → ℕ → Option Part
 part_at bytes at =
     let line = line_length (drop at bytes) in
-    part_behind at line (length_told (take line (drop at bytes))) (length bytes)
+    part_after at line (length_told (take line (drop at bytes))) (length bytes)
 
 -- one more part in front of these, or of a bad one
 abbrev pub in_front : Part → Result (List Part) ℕ → Result (List Part) ℕ
 in_front part (Ok parts) = Ok (part ∷ parts)
 in_front part (Err bad) = Err (suc bad)
 
--- a part, if there is one, and those behind it
+-- a part, if there is one, and those after it
 abbrev pub part_and_others : Option Part → (Part → Result (List Part) ℕ) → Result (List Part) ℕ
 part_and_others None behind = Err 0
 part_and_others (Some part) behind = in_front part (behind part)

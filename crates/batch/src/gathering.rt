@@ -48,7 +48,7 @@ fn fill(slots: &mut Vec<Option<Vec<u8>>>, done: Vec<Done>)
     }
 }
 
-/// Puts all that the threads have brought back into the slots; or memory was wanting in one of them.
+/// Puts all that the threads have brought back into the slots, unless one of them ran out of memory.
 pub(crate) fn fill_all(
     slots: &mut Vec<Option<Vec<u8>>>,
     brought: Vec<Result<Vec<Done>, NoMemory>>,

@@ -51,7 +51,7 @@ fn size_of(word: &[u8]) -> Option<u32>
     }
 }
 
-// How many bytes a line says that the part behind it has.
+// How many bytes a line says that the part after it has.
 pub(crate) fn length_told(line: &[u8]) -> Option<u32>
     ensures value { result ≡ length_told line.now }
     ensures most { IfSome result (λ size. size ≤ 16777216) }

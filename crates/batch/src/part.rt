@@ -53,9 +53,10 @@ fn part_at(bytes: &[u8], at: usize) -> Option<Part>
     })
 }
 
-/// Where the parts of a text lie, of which there may be none, or the number of the first bad one: one whose line isn't `script N`,
-/// ended by a newline, with N in decimal without leading zeros; or whose N is above 16,777,216; or that has fewer than N bytes; or
-/// that comes behind 1,000 others. A text of more than 33,554,432 bytes is bad from its first part on.
+/// Where the parts of a text lie, of which there may be none, or the number of the first bad one: one whose line isn't
+/// `script N`, ended by a newline, with N in decimal without leading zeros; or whose N is above 16,777,216; or that has
+/// fewer than N bytes; or that comes after 1,000 others. A text of more than 33,554,432 bytes is bad from its first
+/// part on.
 pub fn split(alloc: Global, bytes: &[u8]) -> Result<Vec<Part>, BatchErr>
     ensures parts { IfOk result (λ parts. parts_of bytes.now ≡ Ok parts.items) }
     ensures bad { (part : ℕ) → IsErrOf result (BatchErr.Bad part) → parts_of bytes.now ≡ Err part }

@@ -29,7 +29,7 @@ pub record Buffer : Type 0 where
 
 -- ---- what it does with a letter
 
--- a reply is put behind those to be made
+-- a reply is appended to those to be made
 abbrev pub after_reply : ℕ → List ℕ → Buffer → Buffer
 after_reply to text buffer = record buffer { replies = buffer.replies ++ (to, text) ∷ [] }
 
@@ -41,7 +41,7 @@ after_thank producer buffer = after_reply producer [] buffer
 abbrev pub after_hand : ℕ → List ℕ → Buffer → Buffer
 after_hand consumer item buffer = after_reply consumer item (record buffer { left = buffer.left - 1 })
 
--- an item is put behind the others
+-- an item is appended to the others
 abbrev pub after_store : List ℕ → Buffer → Buffer
 after_store item buffer = record buffer { items = buffer.items ++ item ∷ [] }
 
@@ -99,15 +99,15 @@ abbrev pub rests : Buffer → Call × Buffer
 rests buffer = (if buffer.left == 0 then call.Return else call.Recv None mode.Block, buffer)
 
 -- the first reply is made, if there is one
-abbrev pub speaks : Buffer → List Letter → Call × Buffer
-speaks buffer [] = rests buffer
-speaks buffer (letter ∷ others) = (call.Reply letter.0 letter.1, record buffer { replies = others })
+abbrev pub replies_or_rests : Buffer → List Letter → Call × Buffer
+replies_or_rests buffer [] = rests buffer
+replies_or_rests buffer (letter ∷ others) = (call.Reply letter.0 letter.1, record buffer { replies = others })
 
--- first it creates the others, one of each procedure behind its own
+-- first it creates the others, one of each procedure in turn
 abbrev pub calls : Buffer → Call × Buffer
 calls buffer = if nat_lt buffer.created buffer.crew
     then (call.Create (buffer.created + 1) 1 plain, record buffer { created = buffer.created + 1 })
-    else speaks buffer buffer.replies
+    else replies_or_rests buffer buffer.replies
 
 -- its next call, and what it holds then
 abbrev pub buffer_next : Buffer → Answer → Call × Buffer

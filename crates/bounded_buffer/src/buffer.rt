@@ -1,5 +1,5 @@
 // The thread that keeps items.
-ghost use Rattle.bounded_buffer.specs.Buffer.{after_answer, after_get, after_hand, after_keep, after_put, after_refill, after_reply, after_store, after_take_letter, after_thank, buffer_next, calls, opening, rests, speaks};
+ghost use Rattle.bounded_buffer.specs.Buffer.{after_answer, after_get, after_hand, after_keep, after_put, after_refill, after_reply, after_store, after_take_letter, after_thank, buffer_next, calls, opening, replies_or_rests, rests};
 ghost use Rattle.std.specs.Prelude.{◌≡◌, OnOk};
 
 use lwp_types::{Answer, Call, Flags, Mode, NoMemory, Text, Tid};
@@ -177,8 +177,8 @@ impl<'s> Buffer<'s> {
         }
     }
 
-    fn speak(&mut self, call: &mut Call<'s>)
-        ensures { (call.new, self.new) ≡ speaks self.old self.old.replies }
+    fn reply_or_rest(&mut self, call: &mut Call<'s>)
+        ensures { (call.new, self.new) ≡ replies_or_rests self.old self.old.replies }
     {
         match self.replies.pop_front() {
             Some((to, text)) => *call = Call::Reply { to, text },
@@ -190,7 +190,7 @@ impl<'s> Buffer<'s> {
         ensures { (call.new, self.new) ≡ calls self.old }
     {
         if self.created >= self.crew {
-            self.speak(call);
+            self.reply_or_rest(call);
             return;
         }
         self.created += 1;

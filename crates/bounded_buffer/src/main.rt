@@ -65,7 +65,7 @@ fn play<'s>(
 ) -> Result<(), RunErr>
     requires sound { played.old.failed ≡ false }
 {
-    // A local: the check of borrows doesn't cover an empty list that is lent in the call itself.
+    // PROVER: a local, since the check of borrows doesn't cover an empty list that is lent in the call itself.
     let posts = [];
     let mut gate = ListGate::new(alloc, &[], &posts)?;
     run(played, &mut gate, sink)?;

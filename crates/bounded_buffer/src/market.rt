@@ -27,7 +27,7 @@ impl<'s> Program<Actor<'s>> for Market {
 
     ghost proc_names = { λ market. cast_names };
 
-    // The market has no `'s`, so the methods that don't name it state their clauses themselves.
+    // PROVER: the market has no `'s`, so the methods that don't name it state their clauses themselves.
     fn procs(&self) -> u32
         ensures { result ≡ length cast }
     {

@@ -15,7 +15,7 @@ pub record ConditionTable : Type 0 where
   -- how many were ever born, and how many may be
   pub births : ℕ
   pub limit : ℕ
-  -- who waits on a condition, first come first
+  -- who waits on a condition, in FIFO order
   pub waits : List WaitRec
   -- how many may wait without asking for memory
   pub places : ℕ
@@ -72,7 +72,7 @@ has_waits s m = list_any (λ row. is_of_monitor m row && is_waited_in s.waits ro
 abbrev pub is_waiting : ConditionTable → ℕ → Bool
 is_waiting s t = list_any (is_wait_of t) s.waits
 
--- who waits on a condition, first come first
+-- who waits on a condition, in FIFO order
 abbrev pub waits_on : ConditionTable → ℕ → List WaitRec
 waits_on s c = filter (is_on c) s.waits
 
@@ -115,11 +115,11 @@ after_destroy s c = record s { conditions = without_condition c s.conditions }
 abbrev pub after_destroy_of : ConditionTable → ℕ → ConditionTable
 after_destroy_of s m = record s { conditions = without_conditions_of m s.conditions }
 
--- one more waits, behind all others
+-- one more waits, after all others
 abbrev pub after_wait : ConditionTable → WaitRec → ConditionTable
 after_wait s w = record s { waits = s.waits ++ w ∷ [] }
 
--- whoever was chosen waits no more
+-- the thread that was chosen waits no more
 abbrev pub after_wake : ConditionTable → Option WaitRec → ConditionTable
 after_wake s None = s
 after_wake s (Some w) = record s { waits = without_wait w.tid s.waits }

@@ -1,5 +1,5 @@
 -- The conditions of a pod as the machine has them. The machine looks up the priorities that waits keep here, and says
--- beside what becomes of the conditions what becomes of the threads and of who asks for monitors.
+-- not only what becomes of the conditions but also what becomes of the threads and of those that ask for monitors.
 use Rattle.conditions.specs.ConditionTable as table
 use Rattle.conditions.specs.ConditionTable.{ConditionTable, is_on, is_wait_of, machine_row}
 use Rattle.conditions.specs.declared.waits.WaitRec.{WaitRec}
@@ -26,7 +26,7 @@ AreRanked priority ws = AllByRecursion (λ w. w.prio ≡ priority w.tid) ws
 abbrev pub IsWaitedOnce : ConditionTable → ℕ → Type 0
 IsWaitedOnce t c = (u : ℕ) → count_by (λ w. is_on c w && is_wait_of u w) t.waits ≤ 1
 
--- Whoever asks the conditions is answered as by the machine.
+-- The conditions answer each question as the machine does.
 
 -- somebody waits on a condition, or on one of a monitor, if somebody does there
 abbrev pub WaitedAgrees : Type 0
@@ -59,7 +59,7 @@ WaitOfAgrees = (t : ConditionTable) (s : State) (c u : ℕ) → IsWaitedOnce t c
 
 -- What is done to the conditions is what the machine does to them.
 
--- whoever is woken waits no more, as there
+-- a thread that is woken waits no more, as there
 abbrev pub WakingAgrees : Type 0
 WakingAgrees = (t : ConditionTable) (s : State) (w : WaitRec)
     → with_conditions (table.after_wake t (Some w)) s
@@ -71,7 +71,7 @@ ForgettingAgrees = (t : ConditionTable) (s : State) (u : ℕ)
     → with_conditions (table.after_forget t u) s
     ≡ record (with_conditions t s) { waits = machine.without_wait u (with_conditions t s).waits }
 
--- one more waits behind all others, as there
+-- one more waits after all others, as there
 abbrev pub WaitingAgrees : Type 0
 WaitingAgrees = (t : ConditionTable) (s : State) (w : WaitRec)
     → with_conditions (table.after_wait t w) s

@@ -24,7 +24,7 @@ pub struct Conds {
     waits: WaitingList,
 }
 
-// By hand, so that whoever drops one calls this.
+// PROVER: written by hand, so that a function that drops one calls this instead of repeating its proof.
 impl Drop for Conds {
     fn drop(self) {
         let Conds {
@@ -135,7 +135,7 @@ impl Conds {
         take_out_of(&mut self.rows, mon);
     }
 
-    /// A thread waits, behind all others, on a live condition.
+    /// A thread waits, after all others, on a live condition.
     pub fn wait(&mut self, wait: WaitRec)
         requires live { IsTrue (is_live self.old wait.cond) }
         requires waits_nowhere { is_waiting self.old wait.tid ≡ false }

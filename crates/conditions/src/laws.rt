@@ -1,7 +1,7 @@
-// The conditions say what the machine says.
+// The conditions refine the machine's.
 ghost use Rattle.conditions.specs.Machine.{AllAreWoken, FirstIsWoken, ForgettingAgrees, HasWaitsAgrees, NextAgrees, NoneIsWoken, RanksLast, RequeuesAgree, WaitOfAgrees, WaitedAgrees, WaitersAgree, WaitingAgrees, WaitsAgree, WakingAgrees};
 
-/// Whoever asks the conditions is answered as by the machine.
+/// The conditions answer each question as the machine does.
 pub fn every_question()
     ensures waited { WaitedAgrees }
     ensures has_waits { HasWaitsAgrees }

@@ -21,7 +21,7 @@ fn place_by_halves(rows: &[CondRow], cond: Cid) -> Option<usize>
     }
 }
 
-// The same. Whoever asks mostly asks for the last.
+// Where the condition stands. Most ask for the last.
 #[inline(always)]
 fn place_of(rows: &[CondRow], cond: Cid) -> Option<usize>
     requires { AreRising rows.now }
@@ -53,7 +53,8 @@ pub fn take_out(rows: &mut Vec<CondRow>, cond: Cid)
     }
 }
 
-// Takes all conditions of the monitor out.
+// Takes all conditions of the monitor out. It goes over all: with the conditions listed by monitors too, one of an early
+// monitor would move those of later ones.
 pub fn take_out_of(rows: &mut Vec<CondRow>, mon: Mid)
     ensures { rows.new.items ≡ without_conditions_of mon rows.old.items }
 {
@@ -71,7 +72,7 @@ pub fn list(alloc: Global, rows: &[CondRow]) -> Result<IdList, NoMemory>
     Ok(ids)
 }
 
-// The same rows once more.
+// A copy of the rows.
 pub fn copied(alloc: Global, rows: &[CondRow]) -> Result<Sequence<CondRow>, NoMemory>
     ensures { IfOk result (λ copies. copies ≡ rows.now) }
 {

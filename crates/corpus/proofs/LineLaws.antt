@@ -49,7 +49,7 @@ pub first_is : (t : List ℕ) → first_of (lines t) ≡ take (line_end t) t
 first_is [] = refl
 first_is (b ∷ bs) = ap first_of (lines_split b bs)
 
--- what stands behind it has the others
+-- the others are the lines after it
 others_are : (t : List ℕ) → drop 1 (lines t) ≡ lines (drop (line_end t) t)
 others_are [] = refl
 others_are (b ∷ bs) = ap (λ ls. drop 1 ls) (lines_split b bs)
@@ -85,7 +85,7 @@ pub one_more_same : (n : ℕ) → (found wanted : List (List ℕ)) → (s t : Li
     take (line_end s) s ≡ take (line_end t) t → take (suc n) found ≡ take (suc n) wanted
 one_more_same n found wanted s t same left other line = rw (take_next n found, take_next n wanted, left, other, one_is s, one_is t, same, line) refl
 
--- and the lines behind are those of what stands behind
+-- and the later lines are those of the rest of the text
 pub one_more_left : (n : ℕ) → (found : List (List ℕ)) → (s : List ℕ) → drop n found ≡ lines s → drop (suc n) found ≡ lines (drop (line_end s) s)
 one_more_left n found s left = rw (drop_next n found, left) (others_are s)
 

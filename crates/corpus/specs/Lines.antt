@@ -6,7 +6,7 @@ abbrev pub onto_first : ℕ → List (List ℕ) → List (List ℕ)
 onto_first b [] = (b ∷ []) ∷ []
 onto_first b (l ∷ ls) = (b ∷ l) ∷ ls
 
--- the lines of a text, each with the newline that ends it; what stands behind the last newline is a line too, if there
+-- the lines of a text, each with the newline that ends it; what follows the last newline is a line too, if there
 -- is any
 abbrev pub lines : List ℕ → List (List ℕ)
 lines [] = []
@@ -22,7 +22,7 @@ abbrev pub first_of : List (List ℕ) → List ℕ
 first_of [] = []
 first_of (l ∷ ls) = l
 
--- the line behind so many
+-- the line after so many
 abbrev pub line_behind : ℕ → List (List ℕ) → List ℕ
 line_behind n ls = first_of (drop n ls)
 

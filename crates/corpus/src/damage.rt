@@ -6,7 +6,7 @@ use lwp_types::NoMemory;
 use std::alloc::Global;
 use std::fmt;
 
-/// What is done to a file: it ends after so many bytes, or the byte behind so many becomes zero.
+/// What is done to a file: it ends after so many bytes, or the byte after so many becomes zero.
 #[derive(Clone, Copy, Debug, PartialEq, Eq)]
 pub enum Damage {
     Cut(usize),

@@ -23,7 +23,7 @@ fn line_end(text: &[u8]) -> usize
     text.len()
 }
 
-// The first line, with the newline that ends it, and what stands behind it.
+// The first line, with the newline that ends it, and the text after it.
 fn first_line(text: &[u8]) -> (&[u8], &[u8])
     ensures line { result.0.now ≡ take (line_end text.now) text.now }
     ensures rest { result.1.now ≡ drop (line_end text.now) text.now }
@@ -34,7 +34,7 @@ fn first_line(text: &[u8]) -> (&[u8], &[u8])
 
 /// Compares two texts line by line, each line with the byte that ends it.
 pub fn first_difference<'t>(found: &'t [u8], wanted: &'t [u8]) -> Option<Difference<'t>>
-    // Texts without a difference are the same, to the last byte.
+    // Texts without a difference are equal, to the last byte.
     ensures same { IfNone result (found.now ≡ wanted.now) }
     // The lines before it are the same in both, and it is not.
     ensures first { IfSome result

@@ -4,7 +4,7 @@ use lwp_types::NoMemory;
 use std::io;
 use std::io::{ErrorKind, Write};
 
-/// Want of memory as an error of the streams.
+/// Out of memory, as an error of the streams.
 pub fn io_error(_: NoMemory) -> io::Error {
     ErrorKind::OutOfMemory.into()
 }

@@ -4,7 +4,7 @@ ghost use Rattle.corpus.specs.Rows.{Says, ending};
 
 use crate::difference::{Difference, first_difference};
 
-/// The text and the status are those that are wanted; or the first line that differs; or, where all lines are the same, the
+/// The text and the status are those that are wanted; or the first line that differs; or, where all lines are equal, the
 /// status that came in place of the wanted one.
 #[derive(Clone, Copy, Debug, PartialEq, Eq)]
 pub enum Verdict<'t> {

@@ -1,4 +1,4 @@
--- A delivery leaves whoever waits for a blocked thread as it is, but for a tick that makes its timer due.
+-- A delivery leaves a thread that waits for a blocked one as it is, but for a tick that makes its timer due.
 use Rattle.deadlock_laws.proofs.Cycles.{has_next, is_head, next_goes, round_lasts}
 use Rattle.deadlock_laws.proofs.Frames.{Framed, framed_still, framed_then, next_framed, same_lists}
 use Rattle.deadlock_laws.proofs.Lasting.{Waiter, blocked_by, waiter_row}

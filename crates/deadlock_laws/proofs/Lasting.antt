@@ -45,7 +45,7 @@ waiter_row s h v waits = by_row (thread_of s h) refl waits
         let now : awaited_by s h row.block ≡ Some v = ap (λ n. awaited_by s n row.block) (sym (number_known s.threads h row known)) ∙ e in
         record { row = row; known = known; waits = now; blocked = blocked_so row.block now }
 
--- whoever waits for somebody is blocked
+-- a thread that waits for another is blocked
 pub blocked_by : (s : State) (h v : ℕ) → next_of s h ≡ Some v → is_blocked_in s h ≡ true
 blocked_by s h v waits =
     let its = waiter_row s h v waits in

@@ -70,7 +70,7 @@ module _ (s : State) (was : NineParts s None) (t h v : ℕ) (row : ThreadRow) (k
       (not_taker sending h t row.block (sends.block ∙ ap (option_map (λ (r : ThreadRow). r.block)) known)
       (λ takes. apart (taker s h v t row.block waits takes)) u)))
 
-  -- Reply: whoever it is for has sent to the caller
+  -- Reply: the thread that it is for has sent to the caller
 
   sent_to : (b : Block) → b ≡ block.Sending → awaited_by s h b ≡ Some v → receiver_of s.letters h ≡ Some v
   sent_to b is e = ap (awaited_by s h) (sym is) ∙ e
@@ -122,7 +122,7 @@ module _ (s : State) (was : NineParts s None) (t h v : ℕ) (row : ThreadRow) (k
   pub reply_framed : (u : ℕ) (text : List ℕ) → Framed h v s (reply s t u text).after
   reply_framed u text = framed_unless h v s _ _ (λ passed. replied u text (not_replied u passed.1.0))
 
-  -- MonExit and Wait: whoever waits for the monitor waits for the caller
+  -- MonExit and Wait: a thread that waits for the monitor waits for the caller
 
   enters : (m : ℕ) (b : Block) → awaited_by s h b ≡ Some v → 1 ≤ one (is_entering m b) → owner_of s.locks m ≡ Some v
   enters m block.Not e some = absurd (omega (arith, some))

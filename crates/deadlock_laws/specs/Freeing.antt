@@ -9,7 +9,7 @@ abbrev pub can_break : Call → Bool
 can_break (call.Destroy t) = true
 -- who waits to enter the monitor has it
 can_break (call.MonBreak m) = true
--- an exit procedure of a frame that goes does the same
+-- an exit procedure of a frame that goes does what one of these does
 can_break call.Return = true
 can_break (call.Raise p) = true
 can_break (call.ExcNotify p) = true

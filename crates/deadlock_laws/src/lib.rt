@@ -9,7 +9,7 @@
 //! | who waits for a blocked thread still waits for it after each call that can't break a deadlock | `TheirWaitersStay` (`specs/Deadlocks.antt`) |
 //! | so each cycle is a cycle still | `CyclesLast` (`specs/Deadlocks.antt`) |
 //! | it is so after each step in which nobody dies and no MonBreak is made | `OnlyBreachesBreak` (`specs/Deadlocks.antt`) |
-//! | the same of a delivery, but for a tick that makes a timer of one of them due | `TheirWaitersStayInDeliveries`, `CyclesLastInDeliveries` (`specs/Deadlocks.antt`) |
+//! | so it is with a delivery, but for a tick that makes a timer of one of them due | `TheirWaitersStayInDeliveries`, `CyclesLastInDeliveries` (`specs/Deadlocks.antt`) |
 //! | each call that is named does end a wait | `Breaks`, `Frees` (`specs/Rows.antt`) |
 //!
 //! The laws are said of every lawful state, and each state of a pod is lawful. It stands on `lwp_types`, on `pod_laws` for what holds in

@@ -118,7 +118,7 @@ entering-is k (block.Entering m) = refl
 entering-is k (block.Waiting c) = refl
 entering-is k block.Sleeping = refl
 
--- whoever waits to enter stands among the requests, once
+-- a thread that waits to enter stands among the requests, once
 pub requests_stand : (s : State) (d : Option ℕ) → NineParts s d → Stand (λ (r : Request). r.tid) (λ r. r.mon) is_to_enter goal_of s.threads s.requests
 requests_stand s d was = record { here = λ t k. by_row t k (machine.thread_of s t) refl }
   where

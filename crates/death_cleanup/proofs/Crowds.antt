@@ -8,7 +8,7 @@ use Rattle.std.proofs.lemmas.List.Sums.{count_by-le-length}
 use Rattle.std.specs.List.{filter, find, list_any}
 
 module _ {X : Type 0} (key place : X → ℕ) where
-  -- whoever stands at no other place than m stands there or nowhere
+  -- one that stands at no other place than m stands there or nowhere
   elsewhere : (t m : ℕ) (xs : List X) → ((k : ℕ) → k ≢ m → count_by (λ x. eqb (key x) t && eqb (place x) k) xs ≡ 0) → count_by (λ x. eqb (key x) t) xs ≡ count_by (λ x. eqb (key x) t && eqb (place x) m) xs
   elsewhere t m [] none = refl
   elsewhere t m (x ∷ xs) none =

@@ -23,7 +23,7 @@ use Rattle.std.proofs.Common.{Bool, List, None, Option, Some, [], ap, append_ass
 use Rattle.std.proofs.lemmas.List.{append-nil}
 use Rattle.std.specs.Prelude.{nat_le, unwrap_or}
 
--- a call that tells nothing tells nothing behind other effects either
+-- a call that tells nothing tells nothing after other effects either
 pub answers_behind : (old new : Parts) (effects : List Effect) (made : Case) (a : Answer) → Answers old new [] [] made a → Answers old new effects effects made a
 answers_behind old new effects made a quiet = record {
   came = record { state = quiet.came.state; effects = sym (append-nil effects) ∙ ap (λ es. effects ++ es) quiet.came.effects; step = quiet.came.step; dying = quiet.came.dying };
@@ -73,7 +73,7 @@ few_others s t (exit.SetExit code) = few_unless s _ _ (omega arith)
 few_others s t (exit.Note text) = omega arith
 
 module _ (old new : Parts) (lawful : LawfulParts old) (t : ℕ) (x : ExitMark) (before after : List Effect) (a : Answer) (made : Answers old new before after (exit_case (state_of old) t x.call) a) where
-  -- its result comes behind what it did to others
+  -- its result comes after what it did to others
   pub came_exited : CameTo old new before (after ++ effect.Exited t x.reg x.call a ∷ []) (run_exit t x (state_of old))
   came_exited = record {
     state = made.came.state;

@@ -21,7 +21,7 @@ pub record AtMost (o : Option ℕ) (n : ℕ) : Type 0 where
   pub is : o ≡ Some found
   pub low : found ≤ n
 
--- what stands first among the living, if one passes that isn't younger than any that passes
+-- the first among the living, if one passes that isn't younger than any that passes
 first-is : (p : Kind → Bool) (o : Option ℕ) (living : List (ℕ × Kind)) → AreRising living → ((m : ℕ) → o ≡ Some m → passes p (value_of m living) ≡ true)
     → ((n : ℕ) (k : Kind) → value_of n living ≡ Some k → p k ≡ true → AtMost o n) → o ≡ option_map (λ (live : ℕ × Kind). live.0) (find (λ live. p live.1) living)
 first-is p None [] rising sound most = refl
@@ -64,7 +64,7 @@ module _ (what : Awaited) (t : ℕ) (living : List (ℕ × Kind)) (waits : List 
   abbrev Ahead : ℕ → NamedWait → Type 0
   Ahead n d = record { place : ℕ; from : at ≤ place; within : place < length waits; tid : (get_or waits place d).tid ≡ n; own : run_of (get_or waits place d) ≡ run_number what t }
 
-  -- that of whoever waits for t so and is noted does
+  -- the wait of a thread that waits for t so and is noted does
   covered-ahead : (n : ℕ) (k : Kind) (d : NamedWait) → covers waits n (kind_name k) ≡ true → waits_for what t k ≡ true → Ahead n d
   covered-ahead n k d covered here =
       let some : list_any (is_wait (run_number what t) n) waits ≡ true = (rw (named-by what t k here) at covered) in
@@ -112,7 +112,7 @@ module _ (what : Awaited) (t : ℕ) (living : List (ℕ × Kind)) (waits : List 
   reached-none none = none-first none living reached.noted
 
 module _ (what : Awaited) (t : ℕ) (living : List (ℕ × Kind)) (rising : AreRising living) (waits : List NamedWait) (at : ℕ) (reached : Reached what t living waits at) where
-  -- whoever waits for t so is noted from this place on
+  -- a thread that waits for t so is noted from this place on
   noted-ahead : (n : ℕ) (k : Kind) (d : NamedWait) → value_of n living ≡ Some k → waits_for what t k ≡ true → Ahead what t living waits at reached n d
   noted-ahead n k d is here = covered-ahead what t living waits at reached n k d (looked (λ m l. covers waits m (kind_name l)) living reached.noted n k is) here
 

@@ -1,4 +1,4 @@
--- What keeps the parts in step.
+-- How the invariant between the parts is kept.
 use Rattle.death_cleanup.proofs.Notes.{noted-block}
 use Rattle.death_cleanup.proofs.Looks.{IsRanked-waked, IsRoomy-waked, IsTied-waked, waked-is}
 use Rattle.death_cleanup.specs.Comes.{CameTo}

@@ -1,4 +1,4 @@
--- Monitors that become free, and whoever holds them next.
+-- Monitors that become free, and the threads that hold them next.
 use Rattle.death_cleanup.specs.Ties.{InStep, LawfulParts}
 use Rattle.death_cleanup.specs.View.{state_of}
 use Rattle.death_cleanup.specs.declared.parts.Parts.{Parts}

@@ -92,7 +92,7 @@ module _ (note : NameNote) where
     room = omega (arith, count-filter-le (λ (live : ℕ × Kind). is_one live.1) (λ (live : ℕ × Kind). not (eqb live.0 t)) living, was.room);
   }
 
-  -- whoever is born doesn't wait; there is room for the waits of a thread more
+  -- a newborn doesn't wait; there is room for the waits of a thread more
   pub noted-born : (n : ℕ) (k : Kind) → covers note.waits n (kind_name k) ≡ true → (living : List (ℕ × Kind)) → IsNoteOf note living → 2 * (threads_in living + one (is_one k)) ≤ note.places → IsNoteOf note (living ++ (n, k) ∷ [])
   noted-born n k here living was room = record {
     noted = all_push noted_live living (n, k) was.noted here;
@@ -103,7 +103,7 @@ module _ (note : NameNote) where
 pub noted-roomier : (note : NameNote) (places : ℕ) (living : List (ℕ × Kind)) → note.places ≤ places → IsNoteOf note living → IsNoteOf (record note { places = places }) living
 noted-roomier note places living more was = record { noted = was.noted; room = omega (arith, was.room, more) }
 
--- whoever is found passes what all pass, and the other way round
+-- one that is found passes what all pass, and the other way round
 pub looked : (p : ℕ → Kind → Bool) (living : List (ℕ × Kind)) → list_all (λ live. p live.0 live.1) living ≡ true → (n : ℕ) (k : Kind) → value_of n living ≡ Some k → p n k ≡ true
 looked p [] all n k is = absurd (cc)
 looked p (live ∷ living) all n k is =

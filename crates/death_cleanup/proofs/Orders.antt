@@ -22,7 +22,7 @@ same-run awaited.Death awaited.Letter x y e = absurd (omega (arith, e))
 same-run awaited.Letter awaited.Death x y e = absurd (omega (arith, e))
 same-run awaited.Letter awaited.Letter x y e = (refl, omega (arith, e))
 
--- ---- what stands before what
+-- ---- which waits stand before which
 
 pub before-holds : (w : NamedWait) (r n : ℕ) → run_of w ≤ r → (run_of w ≡ r → w.tid < n) → is_before r n w ≡ true
 before-holds w r n low younger = elim (cases_lt (run_of w) r) [
@@ -197,7 +197,7 @@ parted ws r n ordered i j d le within passes = elim (cases_lt i j) [
   | inr more ↦ ap (λ k. is_before r n (get_or ws k d)) (let e : i ≡ j = omega (arith, le, more) in e) ∙ passes
 ]
 
--- what stands behind the last stands behind all
+-- a wait that comes after the last comes after all
 pub behind_last : (ws : List NamedWait) (r n : ℕ) (last : NamedWait) → AreOrdered ws → ((d : NamedWait) → last ≡ get_or ws (length ws - 1) d) → is_before r n last ≡ true → IsGap r n ws (length ws)
 behind_last ws r n last ordered is passes = record {
   within = omega arith;
@@ -205,7 +205,7 @@ behind_last ws r n last ordered is passes = record {
   above = λ j d ge lt. absurd (omega (arith, ge, lt));
 }
 
--- what stands behind the one before the last, and not behind the last
+-- a wait that comes after the one before the last, and not after the last
 pub behind_others : (ws : List NamedWait) (r n : ℕ) → AreOrdered ws → IsBeforeLast r n ws → 2 ≤ length ws → ((d : NamedWait) → is_before r n (get_or ws (length ws - 2) d) ≡ true) → IsGap r n ws (length ws - 1)
 behind_others ws r n ordered before two passes = record {
   within = omega arith;

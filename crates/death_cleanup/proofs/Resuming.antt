@@ -45,7 +45,7 @@ rows-length t b [] = refl
 rows-length t b (row ∷ rows) = omega (arith, rows-length t b rows)
 
 module _ (p t : ℕ) where
-  -- the row of a thread, whoever is resumed
+  -- the row of a thread, where any is resumed
   row-resumed : (known : List Known) (n : ℕ) (rec : ThreadRec) → row_of (known_of p (sched.with_suspension t false known) n) n rec ≡ machine.row_with_suspension t false (row_of (known_of p known n) n rec)
   row-resumed known n rec = ap (λ o. row_of (unwrap_or o (newcomer n p false)) n rec) (find-suspended t n false known) ∙ by_found (find (sched.is_of n) known) refl
     where
@@ -164,7 +164,7 @@ pub exit-low : (s : State) (code : ℕ) → code ≤ 99 → set_exit s code ≡ 
 unfolding unless
 exit-low s code low = rw (le-ltb 99 code low) refl
 
--- another status keeps the parts in step
+-- another status keeps the invariant between the parts
 pub InStep-exit : (parts : Parts) (code : ℕ) → InStep parts → InStep (record parts { exit = code })
 InStep-exit parts code step = record {
   tied = record { known = step.tied.known; waits = step.tied.waits };

@@ -1,4 +1,4 @@
--- Whoever waits for a thread or an agent that ends goes on.
+-- The threads that wait for a thread or an agent that ends go on.
 use Rattle.death_cleanup.proofs.Draining.{Draining, done, fewer, first_room, goes_on}
 use Rattle.death_cleanup.proofs.Keeping.{InStep-noted}
 use Rattle.death_cleanup.specs.Named.{IsNoteOf, NameNote}

@@ -13,15 +13,15 @@ use Rattle.std.specs.Prelude.{List, Some, length, ◌++◌, ◌+◌, ◌≡◌, 
 abbrev pub HasRoom : List Effect → Outcome → ℕ → Type 0
 HasRoom effects out more = length effects + (length out.effects + more) ≤ effect_places
 
--- the parts are in the machine's state after this outcome, its effects are told, and they keep step; who is dying stays
--- so
+-- the parts are in the machine's state after this outcome, its effects are told, and their invariant holds; who is
+-- dying stays so
 pub record CameTo (old new : Parts) (before after : List Effect) (out : Outcome) : Type 0 where
   pub state : state_of new ≡ out.after
   pub effects : after ≡ before ++ out.effects
   pub step : InStep new
   pub dying : new.dying ≡ old.dying
 
--- the same of a call that is answered at once
+-- what a call comes to that is answered at once
 pub record Answers (old new : Parts) (before after : List Effect) (made : Case) (answer : Answer) : Type 0 where
   pub came : CameTo old new before after (record { after = made.after; effects = made.others })
   pub own : made.own ≡ Some answer

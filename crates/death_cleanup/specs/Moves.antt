@@ -51,7 +51,7 @@ after_withdraw parts t = record parts {
 abbrev pub after_bury : Parts → ℕ → Parts
 after_bury parts t = record parts { ids = after_remove parts.ids t; dying = None }
 
--- an agent that is listed no more ends: whoever waits for it by name goes on, and its letter goes
+-- an agent that is listed no more ends: the threads that wait for it by name go on, and its letter goes
 abbrev pub agent_over : ℕ → State → Outcome
 agent_over a s = and_then (for_each (unblock nonexist) (receivers_of s a) s)
     (λ now. still (record now { letters = without_letter a now.letters }))

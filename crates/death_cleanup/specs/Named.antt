@@ -79,7 +79,7 @@ pub record IsBefore (wait later : NamedWait) : Type 0 where
   pub low : run_of wait ≤ run_of later
   pub tid : run_of wait ≡ run_of later → wait.tid < later.tid
 
--- each stands before those behind it, so that none stands there twice
+-- each stands before those after it, so that none stands there twice
 abbrev pub AreOrdered : List NamedWait → Type 0
 AreOrdered [] = Unit {0}
 AreOrdered (wait ∷ waits) = AllByRecursion (IsBefore wait) waits × AreOrdered waits
@@ -91,11 +91,11 @@ abbrev pub covers : List NamedWait → ℕ → Option (Awaited × ℕ) → Bool
 covers waits n None = true
 covers waits n (Some name) = list_any (is_wait (run_number name.0 name.1) n) waits
 
--- whoever waits by name is noted; who no longer waits may be noted too
+-- each thread that waits by name is noted; who no longer waits may be noted too
 abbrev pub are_all_noted : List NamedWait → List (ℕ × Kind) → Bool
 are_all_noted waits living = list_all (λ live. covers waits live.0 (kind_name live.1)) living
 
--- the note of these: whoever waits by name is noted, and there is room for two waits of each thread
+-- the note of these: each thread that waits by name is noted, and there is room for two waits of each thread
 pub record IsNoteOf (note : NameNote) (living : List (ℕ × Kind)) : Type 0 where
   pub noted : IsTrue (are_all_noted note.waits living)
   pub room : 2 * threads_in living ≤ note.places

@@ -1,4 +1,4 @@
--- What ties the parts together, and which parts are lawful.
+-- The invariant between the parts, and which parts are lawful.
 use Rattle.death_cleanup.specs.Named.{IsNoteOf}
 use Rattle.death_cleanup.specs.View.{state_of}
 use Rattle.death_cleanup.specs.declared.parts.Parts.{Parts}
@@ -25,7 +25,7 @@ pub record IsRoomy (parts : Parts) : Type 0 where
   pub requests : length (state_of parts).threads ≤ parts.mons.places
   pub waits : length (state_of parts).threads ≤ parts.conds.places
 
--- the parts keep step with one another; this holds after each change of the machine's state
+-- the invariant between the parts, which holds after each change of the machine's state
 pub record InStep (parts : Parts) : Type 0 where
   pub tied : IsTied parts
   pub ranked : IsRanked parts
@@ -34,7 +34,7 @@ pub record InStep (parts : Parts) : Type 0 where
   pub conditions : parts.conds.limit ≡ parts.ids.limit
   pub noted : IsNoteOf parts.named parts.ids.live
 
--- lawful parts: they keep step, and are a lawful state
+-- lawful parts: their invariant holds, and they are a lawful state
 pub record LawfulParts (parts : Parts) : Type 0 where
   pub nine : NineParts (state_of parts) parts.dying
   pub step : InStep parts

@@ -24,7 +24,7 @@ pub fn is_last(mons: &Monitors, tid: Tid, mon: Mid) -> bool
     }
 }
 
-// Whoever waited on a condition of the monitor waits to enter it again, behind all others.
+// A thread that waited on a condition of the monitor waits to enter it again, after all others.
 fn ask_again(parts: &mut Parts, mon: Mid, wait: WaitRec)
     requires { MayAsk parts.old.mons mon wait }
     ensures { parts.new ≡ after_ask parts.old mon wait }

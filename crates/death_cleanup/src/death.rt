@@ -60,7 +60,8 @@ fn bury<'s>(parts: &mut Parts<'s>, tid: Tid, effects: &mut Effects<'s>)
     tell_death(tid, effects);
 }
 
-/// A thread dies. Its exit procedures run, its monitors go to whoever is next, its agents end, and whoever waits for it goes on.
+/// A thread dies. Its exit procedures run, its monitors go to the threads that are next, its agents end, and all that
+/// wait for it go on.
 pub fn die<'s>(parts: &mut Parts<'s>, tid: Tid, effects: &mut Effects<'s>)
     requires lawful { LawfulParts parts.old }
     requires alone { parts.old.dying ≡ None }

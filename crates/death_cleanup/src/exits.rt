@@ -126,7 +126,7 @@ fn tell_exit<'s>(
     });
 }
 
-/// An exit procedure of the thread is carried out, and its result told behind what it did to others.
+/// An exit procedure of the thread is carried out, and its result told after what it did to others.
 pub fn exit_call<'s>(
     parts: &mut Parts<'s>,
     tid: Tid,

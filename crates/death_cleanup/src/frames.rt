@@ -1,4 +1,4 @@
-// Frames go, and the exit procedures that they have set are run.
+// Unwinding: frames go, and the exit procedures that they have set are run.
 ghost use Rattle.std.specs.Prelude.{◌≡◌, ◌≤◌, Some, map};
 ghost use Rattle.exc_stack.specs.Stack.{UnwindsAll, UnwindsTo, unwound_all, unwound_to};
 ghost use Rattle.lwp_types.specs.Death.{run_all_exits};
@@ -32,7 +32,7 @@ fn next_exit<'s>(ids: &mut Registry<Kind<'s>>, tid: Tid) -> Option<ExitMark<'s>>
     kind.unwind_all()
 }
 
-// The same of a thread that keeps so many frames.
+// The next exit procedure above the first frames, of a thread that keeps so many; its mark and those above it are gone.
 fn next_exit_above<'s>(parts: &mut Parts<'s>, tid: Tid, depth: u32) -> Option<ExitMark<'s>>
     requires least { 1 ≤ depth }
     requires most { depth ≤ frames (marks_in (state_of parts.old) tid) }

@@ -1,10 +1,10 @@
 //! What a pod holds, in parts; what exit procedures do to it; and the death of a thread, after which nothing waits for it.
 //!
 //! `Parts` are seen as the machine's state by `state_of` (`specs/View.antt`). A function here says one thing of them:
-//! `CameTo` (`specs/Comes.antt`), that the parts are in the state, and have told the effects, of the machine's definition
-//! of that name in `lwp_types`. `InStep` (`specs/Ties.antt`) ties the parts to one another and holds after every change;
-//! `LawfulParts` are a lawful state besides. What is lawful after a call isn't said again: that the state is follows from
-//! the definition alone, by the laws of `pod_laws`.
+//! `CameTo` (`specs/Comes.antt`), that the parts are in the state, and have told the effects, of the machine's
+//! definition of that name in `lwp_types`. `InStep` (`specs/Ties.antt`) is the invariant between the parts, which holds
+//! after every change; `LawfulParts` are also a lawful state. What is lawful after a call isn't said again: that the
+//! state is follows from the definition alone, by the laws of `pod_laws`.
 //!
 //! | function | definition |
 //! |---|---|
@@ -16,8 +16,8 @@
 //!
 //! `copy_of` gives the state as a plain value, and changes nothing.
 //!
-//! Whoever waits for another by name is noted in `Named`, in the order of those that are waited for, and a death goes over
-//! those alone that wait for it. Room for that is made with each thread, and there is always enough.
+//! A thread that waits for another by name is noted in `Named`, in the order of those that are waited for, and a death
+//! goes over those alone that wait for it. Room for that is made with each thread, and there is always enough.
 //!
 //! But for `copy_of`, `Named::new` and `Named::reserve` nothing here takes memory, and so nothing else runs out of it. A dying thread
 //! has left the scheduler: `Parts` keep who that is, and the priority that it had. It stands on the crates of the single parts, on

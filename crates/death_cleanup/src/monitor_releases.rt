@@ -26,7 +26,7 @@ fn holds(mons: &Monitors, tid: Tid, mon: Mid) -> bool
     }
 }
 
-// Whoever holds a monitor from now on goes on.
+// The thread that holds a monitor from now on, if any, goes on.
 fn go_on<'s>(parts: &mut Parts<'s>, next: Option<Tid>, effects: &mut Effects<'s>)
     requires step { InStep parts.old }
     requires waits { IfSome next (λ u. IsTrue (is_blocked_in (state_of parts.old) u)) }
@@ -40,7 +40,7 @@ fn go_on<'s>(parts: &mut Parts<'s>, next: Option<Tid>, effects: &mut Effects<'s>
     wake_done(parts, tid, Ok(0), effects);
 }
 
-/// The monitor loses its owner, and whoever enters next goes on.
+/// The monitor loses its owner, and the thread that enters next goes on.
 pub fn release<'s>(parts: &mut Parts<'s>, mon: Mid, effects: &mut Effects<'s>)
     requires lawful { LawfulParts parts.old }
     requires held { is_none (lock_of parts.old.mons.locks mon) ≡ false }
@@ -75,7 +75,7 @@ pub fn monitor_exit<'s>(
     Ok(0)
 }
 
-/// The monitor loses its owner, whoever that is and however deep.
+/// The monitor loses its owner, at any depth.
 pub fn monitor_break<'s>(
     parts: &mut Parts<'s>,
     mon: Mid,

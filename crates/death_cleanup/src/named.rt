@@ -16,8 +16,8 @@ use std::marker::Model;
 // How many waits there is room for at first.
 const FIRST_PLACES: usize = 16;
 
-/// Whoever waits by name is noted here, and maybe some that wait no longer. There is always room for one more: each birth makes
-/// room for two waits, and who waits no longer goes once all of it is taken.
+/// The threads that wait by name are noted here, and maybe some that wait no longer. There is always room for one more:
+/// each birth makes room for two waits, and who waits no longer goes once all of it is taken.
 #[derive(Drop)]
 pub struct Named {
     // By those that are waited for, by what of them is, and by those that wait: the oldest first.
@@ -70,8 +70,8 @@ fn is_before(wait: &NamedWait, other: &NamedWait) -> bool
     is_earlier(wait, other) || (are_alike(wait, other) && wait.tid.number < other.tid.number)
 }
 
-// Whether the wait would stand behind all others.
-fn is_behind_all(waits: &[NamedWait], wait: &NamedWait) -> bool
+// Whether the wait would stand after all others.
+fn is_after_all(waits: &[NamedWait], wait: &NamedWait) -> bool
     requires { AreOrdered waits.now }
     ensures behind { IsTrue result →
         IsGap (run_of wait.now) wait.now.tid waits.now (length waits.now) }
@@ -83,8 +83,8 @@ fn is_behind_all(waits: &[NamedWait], wait: &NamedWait) -> bool
     }
 }
 
-// Whether one that doesn't stand behind the last would stand behind all others.
-fn is_behind_others(waits: &[NamedWait], wait: &NamedWait) -> bool
+// Whether one that doesn't stand after the last would stand after all others.
+fn is_after_others(waits: &[NamedWait], wait: &NamedWait) -> bool
     requires ordered { AreOrdered waits.now }
     requires before { IsBeforeLast (run_of wait.now) wait.now.tid waits.now }
     ensures two { IsTrue result → 2 ≤ length waits.now }
@@ -104,10 +104,10 @@ fn gap_of(waits: &[NamedWait], wait: &NamedWait) -> usize
     requires { AreOrdered waits.now }
     ensures { IsGap (run_of wait.now) wait.now.tid waits.now result }
 {
-    if is_behind_all(waits, wait) {
+    if is_after_all(waits, wait) {
         return waits.len();
     }
-    if is_behind_others(waits, wait) {
+    if is_after_others(waits, wait) {
         return waits.len() - 1;
     }
     waits.partition_point(|other| is_before(other, wait))
@@ -262,7 +262,7 @@ impl Named {
         put_in(&mut self.waits, wait);
     }
 
-    /// Where the waits for a letter of the thread or agent begin, behind which those for its death stand.
+    /// Where the waits for a letter of the thread or agent begin, after which those for its death stand.
     #[inline(always)]
     pub fn start_of(&self, tid: Tid) -> usize
         ensures { IsGap (run_number awaited.Letter tid) 0 self.now.waits result }

@@ -47,7 +47,7 @@ pub struct Parts<'s> {
     pub named: Named,
 }
 
-// By hand, so that whoever drops them calls this.
+// PROVER: written by hand, so that a function that drops one calls this instead of repeating its proof.
 impl<'s> Drop for Parts<'s> {
     fn drop(self) {
         let Parts {
@@ -108,7 +108,7 @@ pub fn set_block(ids: &mut Registry<Kind>, tid: Tid, block: Block)
     }
 }
 
-// A thread waits no more, and may run again. Whoever calls this tells its answer.
+// A thread waits no more, and may run again. The caller tells its answer.
 fn unblock(parts: &mut Parts, tid: Tid)
     requires { IsTrue (sched.is_blocked_in parts.old.sched tid) }
     ensures { parts.new ≡ after_wake parts.old tid }
@@ -135,7 +135,7 @@ pub fn wake_done<'s>(
     effects.done(tid, done);
 }
 
-/// The same of a thread that waits for a letter, and gets this one.
+/// A thread that waits for a letter gets this one, and goes on.
 pub fn wake_lettered<'s>(
     parts: &mut Parts<'s>,
     tid: Tid,
@@ -153,7 +153,7 @@ pub fn wake_lettered<'s>(
     effects.lettered(tid, letter);
 }
 
-/// The same of a thread that waits for the reply to its letter.
+/// A thread that waits for the reply to its letter gets it, and goes on.
 pub fn wake_replied<'s>(parts: &mut Parts<'s>, tid: Tid, text: &Text<'s>, effects: &mut Effects<'s>)
     requires step { InStep parts.old }
     requires waits { IsTrue (is_blocked_in (state_of parts.old) tid) }

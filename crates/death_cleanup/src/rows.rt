@@ -105,7 +105,8 @@ impl<'s> Kind<'s> {
         }
     }
 
-    /// The same, but the first `depth` frames stay.
+    /// Takes marks from the top until one of them was an exit procedure, which is given, or only `depth` frames are
+    /// left.
     pub fn unwind_to(&mut self, depth: u32) -> Option<ExitMark<'s>>
         requires least { 1 ≤ depth }
         requires most { depth ≤ frames (kind_marks (Some self.old)) }

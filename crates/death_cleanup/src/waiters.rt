@@ -1,4 +1,4 @@
-// Whoever waits for a thread or an agent that ends goes on.
+// The threads that wait for a thread or an agent that ends go on.
 ghost use Rattle.std.specs.Prelude.{◌≡◌, ◌<◌, ◌+◌, Some, IsTrue, false, length};
 ghost use Rattle.std.specs.List.{slice_get};
 ghost use Rattle.lwp_types.specs.Agents.{end_agent};
@@ -28,8 +28,9 @@ pub fn nth_of<'r, 's>(ids: &'r Registry<Kind<'s>>, i: usize) -> (Tid, &'r Kind<'
     (Tid { number }, kind)
 }
 
-/// Whoever waits for this of the thread or agent goes on, in the order of birth. Their waits are noted from this place on, and those
-/// that stand next begin there in the end. It is compiled into the death, where mostly nobody waits.
+/// The threads that wait for this of the thread or agent go on, in the order of birth. Their waits are noted from this
+/// place on, and those that stand next begin there in the end. It is compiled into the death, where mostly nobody
+/// waits.
 #[inline(always)]
 pub fn dismiss<'s>(
     parts: &mut Parts<'s>,
@@ -51,7 +52,7 @@ pub fn dismiss<'s>(
     }
 }
 
-/// The thread leaves all its monitors, the last acquired first, and whoever enters one of them next goes on.
+/// The thread leaves all its monitors, the last acquired first, and the threads that enter them next go on.
 pub fn release_all<'s>(parts: &mut Parts<'s>, tid: Tid, effects: &mut Effects<'s>)
     requires lawful { LawfulParts parts.old }
     requires dying { parts.old.dying ≡ Some tid }
@@ -64,7 +65,7 @@ pub fn release_all<'s>(parts: &mut Parts<'s>, tid: Tid, effects: &mut Effects<'s
     }
 }
 
-/// Whoever sent a letter to the thread has it back and goes on, in the order of sending.
+/// The senders of letters to the thread have them back and go on, in the order of sending.
 pub fn refuse_senders<'s>(parts: &mut Parts<'s>, tid: Tid, effects: &mut Effects<'s>)
     requires lonely { Lonely tid (state_of parts.old) }
     requires step { InStep parts.old }
@@ -77,7 +78,7 @@ pub fn refuse_senders<'s>(parts: &mut Parts<'s>, tid: Tid, effects: &mut Effects
     }
 }
 
-// An agent that is listed no more: whoever waits for it by name goes on, and its letter and its number go.
+// An agent that is listed no more: the threads that wait for it by name go on, and its letter and its number go.
 fn clear_agent<'s>(parts: &mut Parts<'s>, agent: Tid, effects: &mut Effects<'s>)
     requires threads { HasLawfulThreads (state_of parts.old) }
     requires step { InStep parts.old }
@@ -92,7 +93,7 @@ fn clear_agent<'s>(parts: &mut Parts<'s>, agent: Tid, effects: &mut Effects<'s>)
     parts.ids.remove(agent.number);
 }
 
-/// An agent ends: whoever waits for it by name goes on, and its letter goes, received or not.
+/// An agent ends: the threads that wait for it by name go on, and its letter goes, received or not.
 pub fn end_agent<'s>(parts: &mut Parts<'s>, agent: Tid, effects: &mut Effects<'s>)
     requires lawful { LawfulParts parts.old }
     requires lives { IsTrue (is_agent (state_of parts.old) agent) }

@@ -16,7 +16,7 @@ abbrev others : ℕ → List Line → List Line
 others d [] = []
 others d (l ∷ ls) = cond (eqb l.client d) (others d ls) (l ∷ others d ls)
 
--- of each client whose seat came back, what is left behind the lines taken
+-- of each client whose seat came back, what is left after the lines taken
 abbrev pub left_lines : List Told → List Line → List Line
 left_lines [] taken = []
 left_lines (t ∷ ts) taken = of t.client (drop (length (of t.client taken)) t.posted) ++ others t.client (left_lines ts taken)

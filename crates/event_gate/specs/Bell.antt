@@ -14,6 +14,6 @@ after_ring r = record r { set = true }
 abbrev pub after_leave : Rung → Rung
 after_leave r = record { set = true; gone = min (r.gone + 1) 4294967295 }
 
--- its rings are spent, and whoever has left has left
+-- its rings are spent, and those that have left have left
 abbrev pub after_park : Rung → Rung
 after_park r = record r { set = false }

@@ -101,7 +101,7 @@ FitsTaker taker seat sent pass b =
     × ((c : ℕ) → is_told c b.known ≡ true
     → (seat c ≡ None) × (lines_in_pass c b.known ≡ sent c) × (is_noted c b.noted ≡ true))
 
--- of each line that was announced and not taken back there is one ticket, whoever has it
+-- of each line that was announced and not taken back there is one ticket, at some seat
 pub record AreBooked (books : List Book) : Type 0 where
   pub taker : ℕ
   pub seat : ℕ → Option ℕ

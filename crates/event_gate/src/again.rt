@@ -1,11 +1,11 @@
-// What can be had once more.
+// Values that can be copied, though they may not be `Copy`.
 ghost use Rattle.std.specs.Prelude.{◌≡◌};
 
 use lwp_types::Line;
 
-/// A value that can be had once more, though it may not be `Copy`.
+/// A value that can be copied, though it may not be `Copy`.
 pub trait Again {
-    /// The same once more.
+    /// A copy of it.
     fn again(&self) -> Self
         ensures { result ≡ self.now };
 }

@@ -1,4 +1,4 @@
-// The outside of a pod, as whoever runs the pod sees it.
+// The outside of a pod, as the runner of the pod sees it.
 ghost use Rattle.std.specs.Prelude.{◌≡◌, ◌<◌, IfNone, IfSome};
 ghost use Rattle.std.specs.Slice.Scan.{HoldsNowhere, IsFirstPlace};
 ghost use Rattle.event_gate.specs.Shelves.{Shelves, after_take_from, first_left, has_left, left_of_client};

@@ -10,11 +10,12 @@
 //! then what the queue holds, and each client's part of it is what its poster knows that it has posted. So for every schedule,
 //! once a poster's pass is taken in, its lines taken and then its lines queued are what it posted, in order (`TakesIn`).
 //!
-//! Beside the queue stands a gauge (`specs/Gauge.antt`), a word that counts tickets. A post draws one before its push, and its
-//! line brings it along; a post that is refused gives it back, and the taker takes it in with the line. A take answers `None`
-//! only where the queue was found empty and then all tickets were the taker's own (`FindsNothing`): so no line was queued at
-//! that step, and no post was under way (`every_find`). The crate stands on the words of `lwp_types`, on the event
-//! marks of `lists`, on the kit's `crossbeam_queue` for the queue and on its `atomic_table` for the gauge.
+//! With the queue goes a gauge (`specs/Gauge.antt`), a word that counts tickets. A post draws one before its push, and
+//! its line brings it along; a post that is refused gives it back, and the taker takes it in with the line. A take
+//! answers `None` only where the queue was found empty and then all tickets were the taker's own (`FindsNothing`): so
+//! no line was queued at that step, and no post was under way (`every_find`). The crate stands on the words of
+//! `lwp_types`, on the event marks of `lists`, on the kit's `crossbeam_queue` for the queue and on its `atomic_table`
+//! for the gauge.
 #![tactic(auto)]
 
 mod again;

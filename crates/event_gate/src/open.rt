@@ -17,7 +17,8 @@ use lwp_types::{Line, NoMemory, Text};
 use std::alloc::{AllocError, Global};
 use std::sync::{Arc, Wait};
 
-// A view is made of views alone, so the number of the next client is counted up in the taker's.
+// PROVER: counts up the number of the next client in the taker's view, pass by pass, since a view is made of views
+// alone. The passes are dropped.
 fn aim<'s>(port: &Port<'s>, pass: &mut Pass<'s>, client: u8)
     requires queue { IsSegPassOf port.now.queue pass.old }
     requires view { pass.old.me.view.client.takes ≡ true }
@@ -30,7 +31,8 @@ fn aim<'s>(port: &Port<'s>, pass: &mut Pass<'s>, client: u8)
     }
 }
 
-// Lets the port know its gauge, by a seat that goes through the queue. Nobody else has a pass yet, so it comes back.
+// PROVER: the first element is pushed through the new queue, and popped again, so that the queue's rule learns which
+// gauge the port has. Nobody else has a pass yet, so it comes back.
 fn name_port<'s, R: Wait>(
     rt: &R,
     port: &Port<'s>,

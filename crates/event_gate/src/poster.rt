@@ -15,7 +15,7 @@ use std::alloc::Global;
 use std::marker::Model;
 use std::sync::{Arc, Wait};
 
-/// A line that was not posted, for want of memory.
+/// A line that was not posted, since the post ran out of memory.
 #[derive(Drop)]
 pub struct PostRefused<'s> {
     pub line: Line<'s>,
@@ -31,6 +31,7 @@ pub struct Poster<'s> {
     seat: GaugeSeat<'s>,
 }
 
+// PROVER: written by hand, so that a function that drops one calls this instead of repeating its proof.
 impl<'s> Drop for Poster<'s> {
     fn drop(self) {
         let Poster {

@@ -32,6 +32,7 @@ pub struct Taker<'s> {
     posted: Vec<u32>,
 }
 
+// PROVER: written by hand, so that a function that drops one calls this instead of repeating its proof.
 impl<'s> Drop for Taker<'s> {
     fn drop(self) {
         let Taker {

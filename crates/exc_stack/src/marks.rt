@@ -140,7 +140,7 @@ pub fn settle(marks: &mut Vec<Mark>, base: usize, number: u32)
     marks.truncate(kept);
 }
 
-// The same marks once more.
+// A copy of the marks.
 pub fn copied<'s>(alloc: Global, marks: &[Mark<'s>]) -> Result<Sequence<Mark<'s>>, NoMemory>
     ensures { IfOk result (λ copies. copies ≡ marks.now) }
 {

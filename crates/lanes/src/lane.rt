@@ -26,6 +26,7 @@ pub struct LanePoster<'s> {
     seat: LaneEnd<'s>,
 }
 
+// PROVER: written by hand, so that a function that drops one calls this instead of repeating its proof.
 impl<'s> Drop for LanePoster<'s> {
     fn drop(self) {
         let LanePoster {
@@ -111,6 +112,7 @@ fn post_in<'s>(lane: &Lane<'s>, seat: &mut LaneEnd<'s>, client: u8, slot: usize,
     ensures seat { (seat.new.table_id ≡ seat.old.table_id) × (seat.new.me.1 ≡ []) }
     ensures view { seat.new.me.0 ≡ after_post seat.old.me.0 line.entry }
 {
+    // PROVER: the load is a step of the rule, at which the poster takes the slot; what it loads is dropped.
     lane.shared.load::<Reserve>(seat, 0);
     *seat.slot_mut(&lane.shared, slot) = Some(line);
     lane.shared.fetch_add::<Publish>(seat, 0, 1);
@@ -152,6 +154,7 @@ pub struct LaneTaker<'s> {
     seat: LaneEnd<'s>,
 }
 
+// PROVER: written by hand, so that a function that drops one calls this instead of repeating its proof.
 impl<'s> Drop for LaneTaker<'s> {
     fn drop(self) {
         let LaneTaker {
@@ -254,7 +257,7 @@ fn take_in_lane<'s>(lane: &Lane<'s>, seat: &mut LaneEnd<'s>, known: u32) -> Opti
     seat.slot_mut(&lane.shared, known as usize).take()
 }
 
-// The taking in of the poster's seat, and a load that tells the taker how the lines it knows began those posted.
+// The taking in of the poster's seat.
 fn take_in_seat<'s>(lane: &Lane<'s>, seat: &mut LaneEnd<'s>, theirs: LaneEnd<'s>)
     requires seat { IsAtLane lane.now.shared.table_id seat.old.table_id }
     requires view { seat.old.me.0.takes ≡ true }
@@ -264,10 +267,13 @@ fn take_in_seat<'s>(lane: &Lane<'s>, seat: &mut LaneEnd<'s>, theirs: LaneEnd<'s>
     ensures view { TakesInSeat seat.old.me.0 theirs.entry.me.0 seat.new.me.0 }
 {
     lane.shared.join_seat::<TakeIn>(seat, theirs);
+    // PROVER: the load is a step of the rule, at which the taker learns how the lines it knows began those posted; what it
+    // loads is dropped.
     lane.shared.load::<Learn>(seat, 0);
 }
 
-// The same lane once more. It stands apart, since a lane that is lent to this function outlives what its slots are lent for.
+// PROVER: another owner of the lane, made in a function of its own, since a lane that is lent to this function outlives
+// what its slots are lent for.
 fn same_lane<'s>(lane: &Arc<Lane<'s>, Global>) -> Result<Arc<Lane<'s>, Global>, AllocError>
     ensures { IfOk result (λ l. arc_value l ≡ arc_value lane.now) }
 {

@@ -39,7 +39,7 @@ rises es i j d sorted lt within =
 
 -- ---- the search
 
--- the key is above what stands before low, and below what stands from high on
+-- the key is above all keys before low, and below those from high on
 pub record IsBetween (key : List ℕ) (es : Table) (low high : ℕ) : Type 0 where
   pub order : low ≤ high
   pub within : high ≤ length es
@@ -64,7 +64,7 @@ go_up key es low high mid sorted was le lt is = record {
   below = was.below;
 }
 
--- the key there is above: so are those behind it
+-- the key there is above: so are those after it
 pub go_down : (key : List ℕ) (es : Table) (low high mid : ℕ) → AreInOrder es → IsBetween key es low high → low ≤ mid → mid < high → ((d : Pair) → key_cmp (get_or es mid d).0 key ≡ Greater) → IsBetween key es low mid
 go_down key es low high mid sorted was le lt is = record {
   order = le;
@@ -81,7 +81,7 @@ any_default [] i d e within = absurd (omega arith)
 any_default (x ∷ es) zero d e within = refl
 any_default (x ∷ es) (suc i) d e within = any_default es i d e (omega arith)
 
--- how the entry that was read there stands to the key, whatever a read past the end would give
+-- how the entry that was read there compares with the key, whatever a read past the end would give
 pub there : (key : List ℕ) (es : Table) (i : ℕ) (e : Pair) (o : Ordering) → i < length es → e ≡ get_or es i e → key_cmp e.0 key ≡ o → (d : Pair) → key_cmp (get_or es i d).0 key ≡ o
 there key es i e o within is h d = ap (λ p. key_cmp p.0 key) (any_default es i d e within ∙ sym is) ∙ h
 

@@ -21,25 +21,25 @@ is_key_length n = nat_le 1 n && nat_le n 16
 abbrev pub key_len : List ℕ → ℕ
 key_len text = prefix_len is_key_byte text
 
--- behind the key of a put: nothing, or a space and a value that isn't empty
+-- after the key of a put: nothing, or a space and a value that isn't empty
 abbrev pub put_command : List ℕ → List ℕ → Option Command
 put_command key [] = Some (Put key [])
 put_command key (s ∷ []) = None
 put_command key (s ∷ b ∷ bs) = if s == 32 then Some (Put key (b ∷ bs)) else None
 
--- behind the key of any other command: nothing
+-- after the key of any other command: nothing
 abbrev pub alone : Command → List ℕ → Option Command
 alone command [] = Some command
 alone command (b ∷ bs) = None
 
--- what a word asks for, by its key and what stands behind that
+-- what a word asks for, by its key and what follows that
 abbrev pub command_by : List ℕ → List ℕ → List ℕ → Option Command
 command_by word key behind = if bytes_eq word (codes "put ") then put_command key behind
     else if bytes_eq word (codes "get ") then alone (Get key) behind
     else if bytes_eq word (codes "del ") then alone (Del key) behind
     else None
 
--- the same, where the key isn't cut off yet; it has to have the length of one
+-- what a word and the text after it ask for; the key has to have the length of one
 abbrev pub command_by_word : List ℕ → List ℕ → Option Command
 command_by_word word text = if is_key_length (key_len text)
     then command_by word (take (key_len text) text) (drop (key_len text) text)

@@ -11,7 +11,7 @@ use Rattle.std.specs.Prelude.{Bool, false, if◌then◌else◌, refl, true}
 abbrev pub Turn : Type 0 → Type 0
 Turn B = Call × B
 
--- the same, with the names as they were
+-- a turn, with the names as they were
 abbrev pub with_names : {B : Type 0} → Turn B → Names → Polled B
 with_names turn names = (turn.0, turn.1, names)
 

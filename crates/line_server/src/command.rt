@@ -43,7 +43,7 @@ fn put_command<'t>(key: &'t [u8], behind: &'t [u8]) -> Option<Asked<'t>>
     }
 }
 
-// What a word asks for, by its key and what stands behind that.
+// What a word asks for, by its key and what follows that.
 fn command_by<'t>(word: &[u8], key: &'t [u8], behind: &'t [u8]) -> Option<Asked<'t>>
     ensures { option_map read_command result ≡ command_by word.now key.now behind.now }
 {

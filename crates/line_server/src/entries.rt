@@ -11,6 +11,7 @@ use lwp_types::NoMemory;
 use std::cmp::Ordering;
 
 /// Where a key stands, found by halving, or else where it belongs.
+// The kit's `binary_search_by` asks of each key only whether it is greater, and doesn't end where it meets the key.
 pub fn place_of(entries: &[Entry], key: &[u8]) -> Result<usize, usize>
     requires { AreInOrder entries.now }
     ensures place { IsPlace key.now entries.now result }

@@ -5,7 +5,7 @@
 //! and every answer. A store tells a sender what its own texts are told on its own table, whatever others send
 //! (`senders_are_apart`), so what a client is answered is a function of its lines alone (`line_answers` in `specs/Tables.antt`).
 //!
-//! Tables stand in std's ordered map, and the keys of a table, 100 at most, in their order in a vector: whoever chooses the
+//! Tables stand in std's ordered map, and the keys of a table, 100 at most, in their order in a vector: anyone who chooses the
 //! keys can't make a look-up cost more than a walk down a balanced tree and a search by halves. The crate stands on
 //! `lwp_types` alone.
 #![tactic(auto)]

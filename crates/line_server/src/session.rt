@@ -32,6 +32,7 @@ pub struct SessionBody {
     place: SessionPlace,
 }
 
+// PROVER: written by hand, so that a function that drops one calls this instead of repeating its proof.
 impl Drop for SessionBody {
     fn drop(self) {
         let SessionBody {

@@ -29,6 +29,7 @@ pub struct StoreBody<'s> {
     place: StorePlace,
 }
 
+// PROVER: written by hand, so that a function that drops one calls this instead of repeating its proof.
 impl<'s> Drop for StoreBody<'s> {
     fn drop(self) {
         let StoreBody {

@@ -15,7 +15,8 @@ use std::marker::Model;
 pub const KEYS_MAX: usize = 100;
 
 /// The keys of one client in their order, and the value of each. They lie in a vector, which takes little more memory than
-/// they do: most clients have few keys, and even of 100 it costs little to move those behind a new one.
+/// they do: most clients have few keys, and the first node of an ordered map has room for fifteen. Even of 100 it costs little
+/// to move those after a new one.
 #[derive(Drop)]
 pub struct Table<'s> {
     entries: Vec<Entry<'s>>,

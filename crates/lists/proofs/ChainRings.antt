@@ -100,7 +100,7 @@ instead-other : (this that y : ℕ) → y ≢ this → instead this that y ≡ y
 unfolding instead
 instead-other this that y differs = rw (ne_eqb y this differs) refl
 
--- a key is crossed with the place before it: it is by itself, and whoever led to it now leads past it
+-- a key is crossed with the place before it: it is by itself, and the one that led to it now leads past it
 module _ (next prev next' prev' : ℕ → ℕ) (key limit : ℕ) (wound : IsWound next prev limit) (crosses : Crosses next prev next' prev' key (prev key)) (key_in : key < limit) where
   pub alone : next' key ≡ key
   alone = crosses.first ∙ wound.back key key_in

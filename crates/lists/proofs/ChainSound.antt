@@ -250,7 +250,7 @@ module _ (links : List Link) (heads key list : ℕ) (sound : IsSound links heads
   leads : next_of links key ≡ list
   leads = ap (next_of links) (sym last) ∙ sound.wound.back list (omega (arith, sound.few))
 
-  -- so none is behind it
+  -- so none comes after it
   none_behind : (at : ℕ) (keys : List ℕ) (end : ℕ) → AllByRecursion (λ k. heads ≤ k) keys → Spells (next_of links) at keys end → at ≡ list → keys ≡ []
   none_behind at [] end are_keys spells same = refl
   none_behind at (k ∷ keys) end are_keys spells same = absurd (omega (arith, are_keys.0, spells.0, same, head))
@@ -433,7 +433,7 @@ module _ (links : List Link) (heads list : ℕ) (sound : IsSound links heads) (h
   pub first_some : next_of links list ≢ list → (slice_get (items (lists_of links heads) list) 0 ≡ Some (next_of links list)) × (heads ≤ next_of links list)
   first_some differs = rw items_of (some_spelled _ _ (sound.rings list head).are_keys (sound.rings list head).closes differs)
 
-  -- behind a key of the list come those behind it
+  -- after a key of the list come the keys that follow it
 
   spelled_behind : (at : ℕ) (front back : List ℕ) (key : ℕ) → Spells (next_of links) at (front ++ key ∷ back) list → Spells (next_of links) (next_of links key) back list
   spelled_behind at [] back key spells = spells.1

@@ -18,7 +18,7 @@ part_last : (xs ys : List ℕ) → take (length ys) (drop (length xs) (xs ++ ys)
 part_last [] ys = take-length ys
 part_last (x ∷ xs) ys = part_last xs ys
 
--- the texts of these spans stay, whatever stands behind their bytes
+-- the texts of these spans stay, whatever comes after their bytes
 pub texts_same : (spans : List Span) (xs ys : List ℕ) → AreWithin (length xs) spans → texts_in (xs ++ ys) spans ≡ texts_in xs spans
 texts_same [] xs ys h = refl
 texts_same (s ∷ spans) xs ys h = ap (λ l. l ∷ texts_in (xs ++ ys) spans) (part_same s.len s.start xs ys h.0) ∙ ap (λ l. text_in xs s ∷ l) (texts_same spans xs ys h.1)

@@ -1,9 +1,9 @@
--- Texts that lie one behind the other.
+-- Texts one after the other.
 use Rattle.std.specs.Prelude.{ℕ, ◌+◌, ◌≤◌, List, [], map, take, drop, slice_index_or}
 use Rattle.std.specs.List.{AllByRecursion}
 use Rattle.lists.specs.declared.text_list.Span.{Span}
 
--- the text at this place of a list of texts; the empty one behind the last
+-- the text at this place of a list of texts; the empty one past the last
 abbrev pub text_at : List (List ℕ) → ℕ → List ℕ
 text_at texts n = slice_index_or texts n []
 

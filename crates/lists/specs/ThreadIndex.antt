@@ -20,7 +20,7 @@ home mask n = bit_and n mask
 abbrev pub IsMask : ℕ → List (Option Entry) → Type 0
 IsMask mask cells = 1 ≤ length cells → mask < length cells
 
--- what stands in the cell of a number
+-- what is in the cell of a number
 abbrev pub cell_in : List (Option Entry) → ℕ → ℕ → Option Entry
 cell_in cells mask n = slice_index_or cells (home mask n) None
 
@@ -104,7 +104,7 @@ pub record IsIndexed (cells : List (Option Entry)) (mask : ℕ) (strays : List E
   pub rising : IsRising strays
   pub homes : (i : ℕ) → IfSome (slice_index_or cells i None) (IsHome mask strays i)
 
--- the same, and so many entries are there
+-- an index as it is kept, with so many entries
 pub record IsKept (cells : List (Option Entry)) (mask : ℕ) (strays : List Entry) (count : ℕ) : Type 0 where
   pub indexed : IsIndexed cells mask strays
   pub counted : count ≡ length (living cells) + length strays

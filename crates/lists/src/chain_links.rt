@@ -55,7 +55,7 @@ fn set_prev(links: &mut [Link], at: usize, to: usize)
     links[at].prev = to;
 }
 
-// A place leads to itself from now on, and those beside it to each other.
+// A place leads to itself from now on, and its neighbours to each other.
 fn unlink(links: &mut [Link], key: usize)
     requires key_in { key < length links.old }
     requires wound { IsWound (next_of links.old) (prev_of links.old) (length links.old) }

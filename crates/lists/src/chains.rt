@@ -82,7 +82,7 @@ impl Chains {
         if first == list { None } else { Some(first) }
     }
 
-    /// The key behind this one in its list.
+    /// The key after this one in its list.
     pub fn behind(&self, list: usize, key: usize) -> Option<usize>
         requires list_in { list < length self.now.lists }
         requires in_limit { key < self.now.limit }
@@ -109,7 +109,7 @@ impl Chains {
         requires in_limit { key < self.old.limit }
         ensures { self.new ≡ after_move_to_back self.old list key }
     {
-        // Whoever is the last already stays, as one that has the list for itself does.
+        // The last key already stays, as one that has the list for itself does.
         if prev_of(&self.links, list) == key {
             return;
         }

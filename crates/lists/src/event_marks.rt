@@ -10,7 +10,7 @@ pub fn no_marks() -> u64
     0
 }
 
-/// The same marks, but that this event is marked, or isn't. No event from 64 on can be marked.
+/// The marks, but that this event is marked, or isn't. No event from 64 on can be marked.
 pub fn with_mark(word: u64, event: u8, on: bool) -> u64
     ensures here { event < 64 → is_marked result event ≡ on }
     ensures others { (e : ℕ) → e ≢ event → is_marked result e ≡ is_marked word e }

@@ -1,4 +1,4 @@
-// Texts, one behind the other.
+// Texts, one after the other.
 ghost use Rattle.std.specs.Prelude.{◌≡◌, ◌≤◌, ◌+◌, length};
 ghost use Rattle.lists.specs.Texts.{text_in};
 
@@ -64,7 +64,7 @@ impl TextList {
         self.spans.len()
     }
 
-    /// The bytes of the text at place `i`, counted from 0; none behind the last.
+    /// The bytes of the text at place `i`, counted from 0; none past the last.
     pub fn bytes(&self, i: usize) -> &[u8]
         ensures same { result.now ≡ text_at self.now i }
         ensures is_text { IsTrue (is_text result.now) }
@@ -75,7 +75,7 @@ impl TextList {
         }
     }
 
-    /// The text at place `i`, counted from 0; the empty one behind the last.
+    /// The text at place `i`, counted from 0; the empty one past the last.
     pub fn get(&self, i: usize) -> Text<'_>
         ensures { result ≡ text_at self.now i }
     {
@@ -101,7 +101,7 @@ impl TextList {
         Ok(())
     }
 
-    /// The same of a text, in whatever parts it lies.
+    /// One text more, at the end, in whatever parts it lies.
     pub fn push_text(&mut self, text: &Text) -> Result<(), NoMemory>
         ensures ok { OnOk result (self.new ≡ self.old ++ text.now ∷ []) }
         ensures err { OnErr result (self.new ≡ self.old) }

@@ -16,6 +16,7 @@ pub struct Entry {
     pub place: usize,
 }
 
+// No hash map: the kit's don't promise room back after a removal, and a call that takes no memory can't rest on that.
 /// An entry for each thread that has a place.
 #[derive(Drop)]
 pub struct Index {
@@ -110,7 +111,7 @@ fn put_in(strays: &mut Vec<Entry>, number: u64, place: usize)
     }
 }
 
-// What stands in the cell of a number, where there are cells.
+// What is in the cell of a number, where there are cells.
 fn own_cell(cells: &Vec<Option<Entry>>, mask: usize, number: u64) -> Option<Entry>
     requires mask { IsMask mask cells.now.items }
     requires some { 1 ≤ length cells.now.items }
@@ -119,7 +120,7 @@ fn own_cell(cells: &Vec<Option<Entry>>, mask: usize, number: u64) -> Option<Entr
     cells[number as usize & mask]
 }
 
-// What stands in the cell of a number: its own entry, another's or none.
+// What is in the cell of a number: its own entry, another's or none.
 fn cell(cells: &Vec<Option<Entry>>, mask: usize, number: u64) -> Option<Entry>
     requires { IsMask mask cells.now.items }
     ensures { result ≡ cell_in cells.now.items mask number }

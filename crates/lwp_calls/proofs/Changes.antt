@@ -68,7 +68,7 @@ module _ (p t : ℕ) (f : Bool → Known → Known) (h : Bool → ThreadRow → 
       by_kind n kind.Agent rest = rest
       by_kind n (kind.Thread rec) rest = rw (rest, known-changed known is n, fits (eqb n t) (known_of p known n) n rec) refl
 
--- the change leaves the parts in step, where it leaves numbers, blocks and priorities
+-- the change keeps the invariant between the parts, where it leaves numbers, blocks and priorities
 module _ (parts : Parts) (t : ℕ) (f : Bool → Known → Known) (h : Bool → ThreadRow → ThreadRow)
     (tid : (c : Bool) (k : Known) → (f c k).tid ≡ k.tid) (number : (c : Bool) (row : ThreadRow) → (h c row).number ≡ row.number) where
   abbrev known' : List Known

@@ -16,7 +16,7 @@ le-true m n h = grind (arith, nat_tests)
 pub le-false : (m n : ℕ) → n < m → nat_le m n ≡ false
 le-false m n h = grind (arith, nat_tests)
 
--- the same of a number that another one is
+-- a comparison with a number that another one is
 pub le-true-at : (m n k : ℕ) → m ≤ n → n ≡ k → nat_le m k ≡ true
 le-true-at m n k h same = le-true m k (omega arith)
 

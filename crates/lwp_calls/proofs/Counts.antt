@@ -65,7 +65,7 @@ module _ {X : Type 0} (key : X → ℕ) where
   length-keys [] = refl
   length-keys (x ∷ xs) = omega (arith, length-keys xs)
 
-  -- what stands at most once is counted by whether it is found
+  -- what is there at most once is counted by whether it is found
   found-counts : (xs : List X) (n : ℕ) → count_by (λ x. eqb (key x) n) xs ≤ 1 → count_by (λ x. eqb (key x) n) xs ≡ one (is_some (find (λ x. eqb (key x) n) xs))
   found-counts xs n once = by_found (find (λ x. eqb (key x) n) xs) refl
     where

@@ -104,7 +104,7 @@ module _ (parts : Parts) (e a : ℕ) (text : List ℕ) (waits : waits_for e part
 
 -- ---- one after the other
 
--- what stands at a place, and what behind it
+-- the number at a place, and those after it
 at_place : (ns : List ℕ) (i a : ℕ) → slice_get ns i ≡ Some a → drop i ns ≡ a ∷ drop (suc i) ns
 at_place [] i a found = absurd (cc)
 at_place (n ∷ ns) zero a found = let same : n ≡ a = cc in ap (λ m. m ∷ ns) same

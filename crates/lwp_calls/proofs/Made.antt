@@ -47,7 +47,7 @@ module _ {old new : Parts} {made : Case} where
   pub ComesTo-said : {a : Answer} → Answers old new [] [] made a → (effects : List Effect) → ComesTo old new effects effects made (Some a)
   ComesTo-said answers effects = ComesTo-quiet (ComesTo-answers answers) effects
 
-  -- the caller's answer is told behind it
+  -- the caller's answer is told after it
   pub told-behind : {before middle after : List Effect} {own : Option Answer} → ComesTo old new before middle made own → (t : ℕ) → after ≡ middle ++ own_effects t own → Told old new before after t made
   told-behind {before} {middle} {after} {own} comes t told = record {
     state = comes.came.state;
@@ -64,14 +64,14 @@ module _ {old new : Parts} {made : Case} where
   pub told-alone : {before after : List Effect} {a : Answer} → Answers old new [] [] made a → (t : ℕ) → after ≡ before ++ effect.Answered t a ∷ [] → Told old new before after t made
   told-alone {before} answers t told = told-behind (ComesTo-said answers before) t told
 
--- the same, where there was memory for the answer
+-- the caller's answer, where there was memory for it
 pub told-if : {T E F : Type 0} (old new : Parts) (before after : List Effect) (made : Case) (done : Result (Result ℤ LwpErr) E) (result : Result T F) → IfOk done (λ own. Answers old new [] [] made (answer_by own)) → (t : ℕ) → OnOk result (IsOkAnd done (λ own. after ≡ before ++ effect.Answered t (answer_by own) ∷ [])) → OnOk result (Told old new before after t made)
 told-if old new before after made (Ok own) (Ok u) answers t told = told-alone answers t told
 told-if old new before after made (Err d) (Ok u) answers t told = absurd told
 told-if old new before after made (Ok own) (Err e) answers t told = tt
 told-if old new before after made (Err d) (Err e) answers t told = tt
 
--- what is so where memory lacked
+-- what is so where a call ran out of memory
 pub untold-if : {T E F G : Type 0} (P : Type 0) (done : Result T E) (result : Result F G) → OnErr done P → OnErr result (IsErr done) → OnErr result P
 untold-if P (Ok own) (Ok u) before same = tt
 untold-if P (Err d) (Ok u) before same = tt

@@ -131,7 +131,7 @@ post-kept s letter kept = rw kept refl
 -- how many letters there are
 
 module _ (s : State) (was : NineParts s None) where
-  -- whoever should have a letter: threads that send, and agents that hold
+  -- all that should have a letter: threads that send, and agents that hold
   abbrev senders : List ℕ
   senders = numbers (filter (λ (row : ThreadRow). is_sending row.block) s.threads) ++ agent_numbers (filter (λ (row : AgentRow). row.holding) s.agents)
 

@@ -40,7 +40,7 @@ InStep-grown parts step i s m q w n more-s more-m more-q more-w more-n = record 
 pub came_grown : (parts : Parts) → InStep parts → (i s m q w n : ℕ) → parts.sched.places ≤ s → parts.mail.places ≤ m → parts.mons.places ≤ q → parts.conds.places ≤ w → parts.named.places ≤ n → CameTo parts (grown parts i s m q w n) [] [] (still (state_of parts))
 came_grown parts step i s m q w n more-s more-m more-q more-w more-n = record { state = refl; effects = refl; step = InStep-grown parts step i s m q w n more-s more-m more-q more-w more-n; dying = refl }
 
--- whoever lives was born, so that no more live than were born
+-- each that lives was born, so that no more live than were born
 born_from : (low births : ℕ) (living : List (ℕ × Kind)) → low ≤ births → AllByRecursion (λ (p : ℕ × Kind). low ≤ p.0) living → AreRising living → AreBorn births living → length living + low ≤ births
 born_from low births [] least lows rising born = omega arith
 born_from low births (p ∷ living) least lows rising born =
@@ -58,7 +58,7 @@ few_live births living rising born = omega (arith, born_from 0 births living (om
 pub few_agents : (s : State) → NineParts s None → length s.agents ≤ 256
 few_agents s was = was.owners.3
 
--- the same, of an agent's places
+-- more places for agents, and for their letters
 abbrev pub agents_grown : Parts → ℕ → ℕ → ℕ → Parts
 agents_grown parts i a m = record parts {
   ids = record parts.ids { places = i };

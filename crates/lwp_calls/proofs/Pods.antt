@@ -86,7 +86,7 @@ module _ (s : State) (lawful : Lawful s None) (c : Call) (t : ℕ) (turn : curre
     pub stepped : (step s c).after ≡ record (state_of parts) { ended = ends (state_of parts) }
     stepped = ap (λ (out : Outcome). out.after) (step-chosen s t c turn) ∙ ap (λ (now : State). record now { ended = ends now }) (sym carried)
 
-    -- and its effects, behind the call itself
+    -- and its effects, after the call itself
     pub told : (before after last : List Effect) → before ≡ [] → after ≡ before ++ ((case_of s t c).others ++ own_effects t (case_of s t c).own) → last ≡ after ++ end_effects (state_of parts) → call_effects (current_of s) c ++ last ≡ (step s c).effects
     told before after last none tells ends =
         ap (λ o. call_effects o c ++ last) turn
@@ -98,7 +98,7 @@ module _ (s : State) (lawful : Lawful s None) (c : Call) (t : ℕ) (turn : curre
     pub few_status : parts.exit ≤ 99
     few_status = omega (arith, (Lawful-step s lawful c).nine.levels.2, ap (λ (now : State). now.status) stepped)
 
--- what is told besides the call itself
+-- what is told but the call itself
 
 forgets-behind : (now : State) (o : Option ℕ) (c : Call) (es : List Effect) → ForgetsTheDead now (call_effects o c ++ es) → ForgetsTheDead now es
 forgets-behind now None c es h = h
@@ -109,7 +109,7 @@ runs-behind s now None c es h = h
 runs-behind s now (Some t) c es h = h
 
 module _ (s now : State) (lawful : Lawful s None) (c : Call) (es : List Effect) (after : now ≡ (step s c).after) (effects : call_effects (current_of s) c ++ es ≡ (step s c).effects) where
-  -- whoever died is forgotten
+  -- one that died is forgotten
   pub forgets : ForgetsTheDead now es
   forgets = forgets-behind now (current_of s) c es
       (subst (λ (x : State). ForgetsTheDead x (call_effects (current_of s) c ++ es)) (sym after) (subst (λ (told : List Effect). ForgetsTheDead (step s c).after told) (sym effects) (the_dead_are_forgotten s lawful c)))

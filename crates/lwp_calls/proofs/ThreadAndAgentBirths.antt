@@ -1,4 +1,4 @@
--- Whoever is born: a thread, or an agent.
+-- The birth of a thread, and of an agent.
 use Rattle.death_cleanup.proofs.Notes.{noted-born, threads-rows}
 use Rattle.conditions.specs.ConditionTable as cv
 use Rattle.conditions.specs.declared.waits.WaitRec.{WaitRec}

@@ -1,4 +1,4 @@
--- A tick of the parts: one after the other, whoever's timer is due goes on.
+-- A tick of the parts: one after the other, the threads whose timers are due go on.
 use Rattle.death_cleanup.proofs.Costs.{Spends, spends_drain, spends_unblock, sum-most}
 use Rattle.death_cleanup.proofs.Draining.{Draining, came_then, done, fewer, first_room, goes_on, starts}
 use Rattle.death_cleanup.proofs.Fronts.{Front, found_first, found_none}

@@ -86,7 +86,7 @@ module _ (parts : Parts) (t : ℕ) (why : Block) where
     priority-kept : (u : ℕ) → priority_in (state_of (waiting parts t why)) u ≡ priority_in (state_of parts) u
     priority-kept u = ap (λ rs. change.priority_of parts t f h (λ c k. refl) (λ c row. refl) (find (is_number u) rs)) same ∙ change.priority-changed parts t f h (λ c k. refl) (λ c row. refl) (λ c row. refl) u
 
-    -- whoever waits by name then is in this note
+    -- a thread that waits by name then is in this note
     pub InStep-waiting : (named : NameNote) → IsNoteOf named (map (pair_with_block t why) parts.ids.live) → InStep (record (waiting parts t why) { named = named })
     InStep-waiting named noted =
         let count : length (state_of (waiting parts t why)).threads ≡ length rows = ap length same ∙ as_many t why rows in

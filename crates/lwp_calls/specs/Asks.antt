@@ -23,7 +23,7 @@ pub record HasPlaces (parts : Parts) : Type 0 where
   pub waits : length (state_of parts).threads + 1 ≤ parts.conds.places
   pub names : 2 * (length (state_of parts).threads + 1) ≤ parts.named.places
 
--- the same of an agent, and its letter
+-- one agent more may live, and hold a letter, with no more memory
 pub record HasAgentPlaces (parts : Parts) : Type 0 where
   pub living : length parts.ids.live + 1 ≤ parts.ids.places
   pub agents : length parts.agents.agents + 1 ≤ parts.agents.places

@@ -14,7 +14,8 @@ pub record ComesTo (old new : Parts) (before after : List Effect) (made : Case) 
   pub came : CameTo old new before after (record { after = made.after; effects = made.others })
   pub own : made.own ≡ answer
 
--- the same, and the caller's answer, if it has one now, was told behind what was done to others
+-- the parts are in the state of the case, and what it does to others was told, and then the caller's answer, if it has
+-- one now
 abbrev pub Told : Parts → Parts → List Effect → List Effect → ℕ → Case → Type 0
 Told old new before after caller made =
     CameTo old new before after (record { after = made.after; effects = made.others ++ own_effects caller made.own })

@@ -21,7 +21,7 @@ refuses _ = false
 abbrev pub is_refusal : State → Call → Bool
 is_refusal s c = passes (λ t. passes refuses (case_of s t c).own) (choice s)
 
--- whoever died is gone, its number is given to nobody, and no list names it
+-- one that died is gone, its number is given to nobody, and no list names it
 abbrev pub ForgetsTheDead : State → List Effect → Type 0
 ForgetsTheDead after effects = (n : ℕ) → 1 ≤ count_by (is_died n) effects → IsForgotten after n
 

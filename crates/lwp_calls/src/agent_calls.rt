@@ -123,7 +123,7 @@ fn make_places(parts: &mut Parts) -> Result<(), NoMemory>
     parts.mail.reserve(threads + agents)
 }
 
-// A Trap is for whoever keeps the pod's own events, and never asked of the machine.
+// A Trap is for the pod's own events, and never asked of the machine.
 fn refuse_trap<'s>(parts: &Parts<'s>, tid: Tid, effects: &mut Effects<'s>)
     requires step { InStep parts.now }
     requires room { effects.old ≡ [] }

@@ -145,7 +145,7 @@ pub fn next_count(ids: &Registry<Kind>) -> usize
     requires { ids.now.births < ids.now.limit }
     ensures { result ≡ length ids.now.live + 1 }
 {
-    // The check learns here that whoever lives was born, and that the limit is a number of 64 bits.
+    // PROVER: these calls show that each that lives was born, and that the limit is a number of 64 bits.
     let (_births, _limit) = (ids.births(), ids.limit());
     ids.len() + 1
 }

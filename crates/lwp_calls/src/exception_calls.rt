@@ -450,7 +450,7 @@ fn raise<'s>(parts: &mut Parts<'s>, tid: Tid, pattern: u32, effects: &mut Effect
     catch(parts, tid, pattern, handler, effects);
 }
 
-// The same, but the handler may answer in place of catching.
+// The exception is raised, but the handler may answer in place of catching.
 fn notify<'s>(parts: &mut Parts<'s>, tid: Tid, pattern: u32, effects: &mut Effects<'s>)
     requires lawful { LawfulParts parts.old }
     requires alone { parts.old.dying ≡ None }

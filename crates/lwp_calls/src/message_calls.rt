@@ -149,7 +149,7 @@ pub fn post<'s>(parts: &mut Parts<'s>, letter: &Letter<'s>, effects: &mut Effect
     put(parts, &letter, effects);
 }
 
-// The same of a letter that counts as received if its receiver waits for it.
+// One letter more, which counts as received if its receiver waits for it.
 #[inline(always)]
 fn put<'s>(parts: &mut Parts<'s>, letter: &Letter<'s>, effects: &mut Effects<'s>)
     requires step { InStep parts.old }

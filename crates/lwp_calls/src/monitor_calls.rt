@@ -121,7 +121,7 @@ fn go_in(parts: &mut Parts, tid: Tid, mon: Mid) -> Result<i64, LwpErr>
     Ok(i64::from(parts.mons.enter(mon, tid)))
 }
 
-// The caller enters the monitor, or waits for it behind all others.
+// The caller enters the monitor, or waits for it after all others.
 fn enter(parts: &mut Parts, caller: Tid, mon: Mid) -> Option<Result<i64, LwpErr>>
     requires lawful { LawfulParts parts.old }
     requires alone { parts.old.dying ≡ None }

@@ -54,7 +54,7 @@ pub struct Pod<'s> {
     next: Option<Tid>,
 }
 
-// By hand, so that whoever drops one calls this.
+// PROVER: written by hand, so that a function that drops one calls this instead of repeating its proof.
 impl<'s> Drop for Pod<'s> {
     fn drop(self) {
         let Pod {
@@ -279,8 +279,8 @@ impl<'s> Pod<'s> {
         self.parts.agents.next_armed(FIRST_EVENT)
     }
 
-    /// One call of the thread whose turn it is. `effects` is emptied first, and then has what the step did besides the call itself,
-    /// in order.
+    /// One call of the thread whose turn it is. `effects` is emptied first, and then has what the step did, without the
+    /// call itself, in order.
     pub fn call(&mut self, call: &Call<'s>, effects: &mut Effects<'s>) -> Result<(), NoMemory>
         requires { IsSome (current_of self.old) }
         ensures after { OnOk result (self.new ≡ (step self.old call.now).after) }
@@ -325,7 +325,7 @@ impl<'s> Pod<'s> {
     }
 }
 
-// The same, of the parts.
+// An event's text becomes a letter of each of its agents, or the clock ticks, in the parts.
 fn deliver<'s>(parts: &mut Parts<'s>, event: u8, text: Text<'s>, effects: &mut Effects<'s>)
     requires lawful { LawfulParts parts.old }
     requires alone { parts.old.dying ≡ None }

@@ -1,4 +1,4 @@
-// The clock: it ticks, and whoever's timer falls due goes on.
+// The clock: it ticks, and the threads whose timers fall due go on.
 ghost use Rattle.std.specs.Prelude.{◌≡◌, ◌<◌, ◌++◌, ◌∷◌, [], IsTrue, None, length};
 ghost use Rattle.death_cleanup.specs.Comes.{CameTo};
 ghost use Rattle.death_cleanup.specs.Ties.{InStep, LawfulParts};
@@ -64,7 +64,7 @@ fn tell_tick(now: u64, effects: &mut Effects)
     effects.push(Effect::Ticked { now });
 }
 
-/// The clock ticks, and whoever's timer is due then goes on, in the order in which the timers were set.
+/// The clock ticks, and the threads whose timers are due then go on, in the order in which the timers were set.
 pub fn tick<'s>(parts: &mut Parts<'s>, effects: &mut Effects<'s>)
     requires lawful { LawfulParts parts.old }
     requires alone { parts.old.dying ≡ None }

@@ -1,4 +1,4 @@
-// Calls that move threads in the order.
+// Calls that move threads in the run queue.
 ghost use Rattle.std.specs.Prelude.{◌≡◌, ◌≤◌, length, IsTrue, [], None};
 ghost use Rattle.death_cleanup.specs.Comes.{Answers};
 ghost use Rattle.death_cleanup.specs.Ties.{InStep};
@@ -52,7 +52,7 @@ fn yield_to(parts: &mut Parts, caller: Tid, to: Tid) -> Result<i64, LwpErr>
     yield_to_other(parts, caller, to)
 }
 
-// The same, where another is named.
+// The yield, where another is named.
 fn yield_to_other(parts: &mut Parts, caller: Tid, to: Tid) -> Result<i64, LwpErr>
     requires step { InStep parts.old }
     requires alone { parts.old.dying ≡ None }

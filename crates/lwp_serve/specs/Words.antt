@@ -28,7 +28,7 @@ abbrev pub turns_by : Option ℕ → Option ℕ
 turns_by None = None
 turns_by (Some n) = if is_allowed n then Some n else None
 
--- the same, by the word
+-- the calls that a word allows, if it writes such a number
 abbrev pub turns_of : List ℕ → Option ℕ
 turns_of word = turns_by (number_at word)
 
@@ -61,7 +61,7 @@ abbrev pub client_by : Option ℕ → Option ℕ
 client_by None = None
 client_by (Some n) = if nat_le n 15 then Some n else None
 
--- the same, by the word
+-- the client that a word names, if it writes such a number
 abbrev pub client_of : List ℕ → Option ℕ
 client_of word = client_by (number_at word)
 
@@ -70,7 +70,7 @@ abbrev pub threads_by : Option ℕ → Option ℕ
 threads_by None = None
 threads_by (Some n) = if nat_le 1 n && nat_le n 16 then Some n else None
 
--- the same, by the word
+-- the threads that a word asks for, if it writes such a number
 abbrev pub threads_of : List ℕ → Option ℕ
 threads_of word = threads_by (number_at word)
 
@@ -93,14 +93,14 @@ command_by word turns = if is_run word then Some (command.Run turns)
     else if is_replay word then Some (command.Replay turns)
     else None
 
--- the same, if there is a number
+-- the command of a word, if there is a number of calls
 abbrev pub command_if : List ℕ → Option ℕ → Option Command
 command_if word None = None
 command_if word (Some turns) = command_by word turns
 
--- the command of these words, if they are one: `run`, `plan` or `replay`, and behind it perhaps how many calls; or
--- `make`, and what is to be made; or `batch`, how many threads, and behind that perhaps how many calls; or `answers`,
--- which client, and behind that perhaps how many calls
+-- the command of these words, if they are one: `run`, `plan` or `replay`, and then perhaps how many calls; or `make`,
+-- and what is to be made; or `batch`, how many threads, and then perhaps how many calls; or `answers`, which client, and
+-- then perhaps how many calls
 abbrev pub command_of : List (List ℕ) → Option Command
 command_of [] = None
 command_of (word ∷ []) = command_by word default_turns

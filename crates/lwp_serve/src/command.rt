@@ -178,7 +178,7 @@ fn command_of(words: &Vec<String>) -> Option<Command>
     }
 }
 
-/// A session by the program's words, which stand behind its name. The command is `run`, `plan` or `replay`, which allows 100,000
+/// A session by the program's words, which follow its name. The command is `run`, `plan` or `replay`, which allows 100,000
 /// calls, or one of these and TURNS, which allows as many as this number says, 1 to 1,000,000; or it is `make SEED THREADS LINES`,
 /// which reads nothing, makes the script of these three numbers and sums up its session; or it is `batch THREADS` or `batch THREADS
 /// TURNS`, which reads many scripts and reports on them, by 1 to 16 threads; or it is `answers CLIENT` or `answers CLIENT TURNS`,

@@ -9,7 +9,7 @@
 //! `replay_main`. Other words are no command, and nothing is read or written then.
 //!
 //! Each word has a module of its own: `plan` (with `make`, whose scripts are those of `maker`), `answers`, `batches` and `replaying`;
-//! `run` has the crate `script_run`. The crate hands on what a program needs besides. It stands on the sessions and ends of
+//! `run` has the crate `script_run`. The crate hands on what else a program needs. It stands on the sessions and ends of
 //! `script_session`, on `script_run`, `replay` and `batch`, on the scripts of `script_text` and `script_body`, the runs of
 //! `pod_runner` and the streams of `streams`.
 #![tactic(auto)]

@@ -74,7 +74,7 @@ unread-says calls source sink (end.Differs line) quiet h = absurd h
 pub plan-unread : (calls : ℕ) (source sink : Stream) (e : SessionEnd) (session : Session) → session ≡ outcome_of e [] 0 → IsQuiet sink → IsNotRead source e → IsStateAfterPlan calls source sink session
 plan-unread calls source sink e session is quiet h = plan-of calls source sink e [] 0 session is (unread-says calls source sink e quiet h)
 
--- one was, and then memory was wanting
+-- one was, and then memory ran out
 plan-refused : (calls : ℕ) (source sink : Stream) (script : Script) (session : Session) → session ≡ outcome_of end.NoMemory [] 0 → IsQuiet sink → IsRead source script → IsStateAfterPlan calls source sink session
 plan-refused calls source sink script session is quiet h =
     plan-of calls source sink end.NoMemory [] 0 session is (h.faultless, read-of source script end.NoMemory h tt, record { quiet = quiet; taken = refl; calls = refl })

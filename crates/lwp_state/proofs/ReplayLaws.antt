@@ -165,7 +165,7 @@ replay-unread line source sink e session is quiet h = replay-of line source sink
 part-of-up : (old new : Option (List ℕ)) → IsReadUp 268435457 old new → IsReadWithin 268435457 old new
 part-of-up old new up = (268435457, omega arith, up)
 
--- memory was wanting after that
+-- memory ran out after that
 replay-refused : (line : Option ℕ) (source sink : Stream) (session : Session) → session ≡ outcome_of end.NoMemory [] 0 → IsQuiet sink → IsFaultless source → IsReadUp 268435457 source.old source.new → IsStateInReplay line source sink session
 replay-refused line source sink session is quiet same up = replay-of line source sink end.NoMemory [] 0 session is (same, part-of-up source.old source.new up, unread sink end.NoMemory quiet)
 

@@ -17,8 +17,8 @@ pub record IsPlanned (calls : ℕ) (script : Script) (session : Session) (text :
   pub taken : Tells session (takes_of script calls)
   pub state : IsStateOf true script (takes_of script calls) (calls_of script calls) text
 
--- what comes of a script: the state at the end of its plan is written, or a write fails; or memory was wanting, and
--- nothing was written
+-- what comes of a script: the state at the end of its plan is written, or a write fails; or memory ran out, and nothing
+-- was written
 abbrev pub IsShown : ℕ → Script → Stream → Session → Type 0
 IsShown calls script sink session =
     (session ≡ outcome_of end.NoMemory [] 0) × IsQuiet sink

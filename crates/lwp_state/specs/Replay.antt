@@ -65,7 +65,7 @@ pub record IsFound (script : Script) (recorded : List ℕ) (n : ℕ) (told : Tol
   pub shown : MatchBool (differs_within n (end_of verdict)) (IsVerdict verdict takes calls told)
       (IsStateAt script n takes calls told)
 
--- what comes of a script and what was recorded: what is found is written, or a write fails; or memory was wanting, and
+-- what comes of a script and what was recorded: what is found is written, or a write fails; or memory ran out, and
 -- nothing was written
 abbrev pub IsShown : Script → List ℕ → ℕ → Stream → Session → Type 0
 IsShown script recorded n sink session =

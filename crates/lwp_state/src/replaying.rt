@@ -155,7 +155,7 @@ fn show_recorded<K: Sink>(
     }
 }
 
-// The same of an input in which a script lies here.
+// Shows what is told of an input in which a script lies here.
 fn show_input<K: Sink>(
     alloc: Global,
     line: Option<u32>,

@@ -6,7 +6,7 @@ use Rattle.std.proofs.lemmas.Slice.Eq.{bytes_eq-Decides, slice_eq-Decides}
 use Rattle.std.specs.Cmp.Lexicographic.{pointwise}
 use Rattle.std.specs.Str.{bytes_eq}
 
--- where other bytes begin with its lead, it has them if what stands behind is the same
+-- where other bytes begin with its lead, it has them if what comes after is the same
 pub rest_decides : (lead rest tail text bytes : List ℕ) (r : Bool) → lead ++ rest ≡ text → bytes ≡ lead ++ tail → r ≡ pointwise eqb tail rest → r ≡ bytes_eq text bytes
 rest_decides lead rest tail text bytes r parts begins same = same_from_decides r (bytes_eq text bytes)
     (Decides-like r (λ e. sym parts ∙ ap (λ xs. lead ++ xs) (sym e) ∙ sym begins) (λ e. append_cancel_left lead tail rest (sym begins ∙ sym e ∙ sym parts)) (slice_eq-Decides Decides-eqb tail rest r same))

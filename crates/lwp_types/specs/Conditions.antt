@@ -59,7 +59,7 @@ abbrev pub condition_destroy : State → ℕ → Case
 condition_destroy s c = unless s (is_no_condition s c ∷ (is_waited_in s.waits c, error.InUse) ∷ [])
     (value_case (record s { conditions = without_condition c s.conditions }) 0)
 
--- who waits on a condition, first come first
+-- who waits on a condition, in FIFO order
 abbrev pub waits_on : List WaitRow → ℕ → List WaitRow
 waits_on ws c = filter (λ w. w.cond == c) ws
 
@@ -78,7 +78,7 @@ abbrev pub wait : State → ℕ → ℕ → Case
 wait s t c = unless s (is_no_condition s c ∷ is_not_last s t c ∷ [])
     (silent_case (after_wait t c (last_lock s.locks t) s))
 
--- a woken thread waits to enter its monitor again, at the depth that it left, behind those who wait for that already
+-- a woken thread waits to enter its monitor again, at the depth that it left, after those who wait for that already
 abbrev pub after_wake : ℕ → WaitRow → State → State
 after_wake m w s = record s {
   waits = without_wait w.tid s.waits;

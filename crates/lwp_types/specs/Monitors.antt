@@ -110,7 +110,7 @@ abbrev pub monitor_exit : State → ℕ → ℕ → Case
 monitor_exit s t m =
     unless s (is_no_monitor s m ∷ (not (is_owner s.locks t m), error.InvalidArg) ∷ []) (with_zero (after_exit m s))
 
--- MonBreak: its owner, whoever that is and however deep, loses it
+-- MonBreak: its owner, if there is any, loses it at any depth
 abbrev pub monitor_break : State → ℕ → Case
 monitor_break s m =
     unless s (is_no_monitor s m ∷ (is_none (lock_of s.locks m), error.NotOwned) ∷ []) (with_zero (release m s))

@@ -37,7 +37,7 @@ may_tick s = nat_lt s.now 4294967295
 abbrev pub after_tick : State → State
 after_tick s = record s { now = s.now + 1 }
 
--- a tick; whoever's timer it makes due goes on, one after the other
+-- a tick; the threads whose timers it makes due go on, one after the other
 abbrev pub tick : State → Outcome
 tick s = and_then (record { after = after_tick s; effects = effect.Ticked (s.now + 1) ∷ [] })
     (λ now. for_each time_out (due_threads now) now)

@@ -13,6 +13,7 @@ pub trait Body: Drop {
     ghost next: { Self → Names → Answer → Call × Self × Names };
 }
 
+// PROVER: apart from `Body`, which has no lifetime, so that a law over every body names none.
 /// A body that does what it means, with texts that are lent for `'s`.
 pub trait Polled<'s>: Body {
     /// Sets the next call, whatever stood there. After `NoMemory` the body isn't polled again.

@@ -110,7 +110,7 @@ pub enum ExitCall<'s> {
 }
 
 impl<'s> ExitCall<'s> {
-    /// The same once more.
+    /// A copy of it.
     pub fn again(&self) -> ExitCall<'s>
         ensures { result ≡ self.now }
     {
@@ -336,7 +336,7 @@ pub struct Line<'s> {
 }
 
 impl<'s> Line<'s> {
-    /// The same once more.
+    /// A copy of it.
     pub fn again(&self) -> Line<'s>
         ensures { result ≡ self.now }
     {

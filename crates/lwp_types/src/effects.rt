@@ -93,7 +93,7 @@ impl<'s> Effects<'s> {
         self.places[i] = e;
     }
 
-    /// All effects of another list go behind these, in one piece, and none is left there. It takes no memory.
+    /// All effects of another list go after these, in one piece, and none is left there. It takes no memory.
     pub fn append(&mut self, from: &mut Effects<'s>)
         requires { length self.old + length from.old ≤ effect_places }
         ensures after { self.new ≡ self.old ++ from.old }
@@ -119,7 +119,7 @@ impl<'s> Effects<'s> {
         self.answered(tid, Answer::of(done));
     }
 
-    /// The same, if the thread has an answer now.
+    /// What a thread's call came to, at the end, if the thread has an answer now. It takes no memory.
     pub fn done_now(&mut self, tid: Tid, own: Option<Result<i64, LwpErr>>)
         requires { length self.old < effect_places }
         ensures { self.new ≡ self.old ++ own_effects tid (option_map answer_by own) }

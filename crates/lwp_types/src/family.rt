@@ -15,7 +15,7 @@ pub enum ThreadCall {
     Threads,
 }
 
-/// A call that moves threads in the order of those that may run.
+/// A call that moves threads in the run queue.
 #[derive(Clone, Copy)]
 pub enum TurnCall {
     Yield(Tid),
@@ -171,7 +171,7 @@ impl<'s> Call<'s> {
         }
     }
 
-    /// The same once more.
+    /// A copy of it.
     pub fn again(&self) -> Call<'s>
         ensures { result ≡ self.now }
     {
@@ -202,7 +202,7 @@ fn thread<'s>(call: ThreadCall) -> Call<'s>
     }
 }
 
-// A call that moves threads in the order.
+// A call that moves threads in the run queue.
 fn turn<'s>(call: TurnCall) -> Call<'s>
     ensures { result ≡ turn_call call }
 {

@@ -31,7 +31,7 @@ pub enum Mark<'s> {
 }
 
 impl<'s> Mark<'s> {
-    /// The same once more.
+    /// A copy of it.
     pub fn again(&self) -> Mark<'s>
         ensures { result ≡ self.now }
     {
@@ -84,7 +84,7 @@ pub struct Letter<'s> {
 }
 
 impl<'s> Letter<'s> {
-    /// The same once more.
+    /// A copy of it.
     pub fn again(&self) -> Letter<'s>
         ensures { result ≡ self.now }
     {

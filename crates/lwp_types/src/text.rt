@@ -9,6 +9,8 @@ use std::marker::Model;
 /// The greatest length of a text, in bytes.
 pub const TEXT_MAX: usize = 240;
 
+// A view, since a value with room for the bytes is cleared and moved whole wherever it goes; and not counted, since to clone a
+// counted pointer may be refused memory, which a reply, a delivery and a death never are.
 /// At most 240 bytes, each from a space to `~`, seen as the list of them. They are lent for `'s`, but for a short lead: so a text is as
 /// small as a few numbers, and a letter never takes memory.
 #[derive(Drop)]
@@ -116,7 +118,7 @@ impl<'s> Text<'s> {
         }
     }
 
-    /// The same once more.
+    /// A copy of it. Bytes that are lent are not copied.
     pub fn again(&self) -> Text<'s>
         ensures { result ≡ self.now }
     {

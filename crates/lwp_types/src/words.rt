@@ -7,8 +7,8 @@ pub(crate) struct Digits {
     pub(crate) bytes: [u8; 20],
 }
 
-/// Bytes that are lent; a value that is lent, behind the word that it is told with; or a thread's number, behind its letter. The digits
-/// lie in the text itself, which is no larger for them.
+/// Bytes that are lent; a value that is lent, after the word that it is told with; or a thread's number, after its
+/// letter. The digits lie in the text itself, which is no larger for them.
 #[derive(Clone, Copy)]
 pub(crate) enum Words<'s> {
     Lent(&'s [u8]),

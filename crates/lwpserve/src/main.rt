@@ -73,7 +73,7 @@ fn session_of<R: Threads + Wait + Sync>(
     }
 }
 
-// The same session, whose last bytes could not be written.
+// A session whose last bytes could not be written.
 fn broken(session: Session) -> Session
     ensures { result ≡ record session { status = 102; end = WriteFault } }
 {

@@ -1,4 +1,4 @@
--- Each call keeps what `Monitors` keeps of its fields, and has room for the lock that it adds.
+-- Each call keeps the invariant of the fields of `Monitors`, and has room for the lock that it adds.
 use Rattle.lwp_types.specs.CountLaws.{any_counted, count-failed, count-filter-le, count-map, count-push, count-reverse, count_any, count_found, count_found_by, count_not_found, find_none, length-failed, one, times-without_other}
 use Rattle.lwp_types.specs.FirstLaws.{best_passes}
 use Rattle.lwp_types.specs.MonitorRelease.{is_lock, is_owned_by, last_lock, lock_of, locks_on, without_lock}
@@ -47,7 +47,7 @@ module _ (s : MonitorTable) (m : ℕ) where
           by_lock (lock_of s.locks m) refl (omega (arith, here, count-reverse (is_lock m) s.locks))
 
 module _ {s : MonitorTable} {lock_room : ℕ} (was : IsKept s lock_room) where
-  -- the same locks of the same monitors, whoever waits
+  -- the same locks of the same monitors, whatever requests wait
   pub kept_requests : (rs : List EntryRequest) → IsKept (record s { requests = rs }) lock_room
   kept_requests rs = record { held_once = was.held_once; held_live = was.held_live; locks_fit = was.locks_fit; rising = was.rising; born = was.born }
 

@@ -1,5 +1,5 @@
 -- The monitors of a pod as the machine has them. The machine looks up the priorities that requests keep here, and says
--- beside what becomes of the monitors what becomes of the threads.
+-- not only what becomes of the monitors but also what becomes of the threads.
 use Rattle.lwp_types.specs.Case.{Case, answer_case, refusal_case}
 use Rattle.lwp_types.specs.MonitorRelease.{next_owner, release, requests_of, without_request}
 use Rattle.lwp_types.specs.Monitors as machine
@@ -27,7 +27,7 @@ with_monitors t s = record s {
 abbrev pub AreRanked : (ℕ → ℕ) → List EntryRequest → Type 0
 AreRanked priority rs = AllByRecursion (λ r. r.prio ≡ priority r.tid) rs
 
--- whoever holds a monitor from now on goes on
+-- the thread that holds a monitor from now on goes on
 abbrev pub with_owner : Option ℕ → State → Outcome
 with_owner None s = still s
 with_owner (Some u) s = unblock zero_answer u s
@@ -37,7 +37,7 @@ abbrev pub birth_case : Option ℕ → State → State → Case
 birth_case None before after = refusal_case before error.NoRoom
 birth_case (Some m) before after = answer_case after (answer.Monitor m)
 
--- Whoever asks the monitors is answered as by the machine.
+-- The monitors answer each question as the machine does.
 
 -- who waits to enter is who waits there
 abbrev pub RequestsAgree : Type 0
@@ -67,19 +67,19 @@ abbrev pub EntriesAgree : Type 0
 EntriesAgree = (t : MonitorTable) (s : State) (u m : ℕ)
     → (machine.enter_case (with_monitors t s) u m).after ≡ with_monitors (table.after_enter t u m) s
 
--- who has to wait stands behind all others, as there
+-- a thread that has to wait comes after all others, as there
 abbrev pub WaitsAgree : Type 0
 WaitsAgree = (t : MonitorTable) (s : State) (u m p : ℕ)
     → machine.after_request (with_monitors t s) u m
     ≡ after_block (with_monitors (table.after_request t (record { mon = m; tid = u; prio = p; depth = 1 })) s)
     u (block.Entering m)
 
--- a monitor is released as there, and whoever was next goes on
+-- a monitor is released as there, and the thread that was next goes on
 abbrev pub ReleasesAgree : Type 0
 ReleasesAgree = (t : MonitorTable) (s : State) → AreRanked (priority_in s) t.requests → (m : ℕ)
     → release m (with_monitors t s) ≡ with_owner (table.next_owner t m) (with_monitors (table.after_release t m) s)
 
--- a thread leaves once as there, and whoever holds the monitor then goes on
+-- a thread leaves once as there, and the thread that holds the monitor then goes on
 abbrev pub LeavesAgree : Type 0
 LeavesAgree = (t : MonitorTable) (s : State) → AreRanked (priority_in s) t.requests → (m : ℕ)
     → machine.after_exit m (with_monitors t s)

@@ -18,7 +18,7 @@ pub record MonitorTable : Type 0 where
   pub limit : ℕ
   -- the held monitors, in the order in which they were acquired
   pub locks : List Lock
-  -- who waits to enter, first come first
+  -- who waits to enter, in FIFO order
   pub requests : List EntryRequest
   -- how many may wait without asking for memory
   pub places : ℕ
@@ -76,7 +76,7 @@ has_request s t = list_any (is_request_of t) s.requests
 abbrev pub is_unwanted : MonitorTable → ℕ → Bool
 is_unwanted s m = not (list_any (λ r. r.mon == m) s.requests)
 
--- who waits to enter a monitor, first come first
+-- who waits to enter a monitor, in FIFO order
 abbrev pub requests_of : MonitorTable → ℕ → List EntryRequest
 requests_of s m = filter (λ r. r.mon == m) s.requests
 
@@ -114,7 +114,7 @@ after_destroy s m = record s { monitors = without m s.monitors }
 abbrev pub after_enter : MonitorTable → ℕ → ℕ → MonitorTable
 after_enter s t m = record s { locks = with_entry t m (lock_of s.locks m) s.locks }
 
--- one more waits to enter, behind all others
+-- one more waits to enter, after all others
 abbrev pub after_request : MonitorTable → EntryRequest → MonitorTable
 after_request s r = record s { requests = s.requests ++ r ∷ [] }
 
@@ -130,11 +130,11 @@ with_grant s (Some r) = record s {
   locks = s.locks ++ record { mon = r.mon; owner = r.tid; depth = r.depth } ∷ [];
 }
 
--- whoever enters next holds the monitor
+-- the thread that enters next holds the monitor
 abbrev pub after_grant : MonitorTable → ℕ → MonitorTable
 after_grant s m = with_grant s (next_request s m)
 
--- whoever held the monitor doesn't, and then whoever enters next
+-- the owner holds the monitor no more, and then the thread that enters next holds it
 abbrev pub after_release : MonitorTable → ℕ → MonitorTable
 after_release s m = after_grant (after_give_up s m) m
 

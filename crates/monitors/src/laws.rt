@@ -1,7 +1,7 @@
-// The monitors say what the machine says.
+// The monitors refine the machine's.
 ghost use Rattle.monitors.specs.Machine.{BirthsAgree, EntriesAgree, ForgettingAgrees, LeavesAgree, NextAgrees, RanksLast, ReleasesAgree, RequestsAgree, RequeuesAgree, WaitersAgree, WaitsAgree};
 
-/// Whoever asks the monitors is answered as by the machine.
+/// The monitors answer each question as the machine does.
 pub fn every_question()
     ensures requests { RequestsAgree }
     ensures next { NextAgrees }

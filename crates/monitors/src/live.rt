@@ -20,7 +20,7 @@ fn place_by_halves(live: &[Mid], mon: Mid) -> Option<usize>
     }
 }
 
-// The same. Whoever asks mostly asks for the last.
+// Where the monitor stands. Most ask for the last.
 #[inline(always)]
 fn place_of(live: &[Mid], mon: Mid) -> Option<usize>
     requires { AreRising live.now }

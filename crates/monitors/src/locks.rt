@@ -13,6 +13,8 @@ use lists::Index;
 use lwp_types::{Lock, Mid, NoMemory, Tid};
 use std::alloc::Global;
 
+// No sorted lists of places by monitors and owners: a thread older than those that hold many monitors would move theirs,
+// one by one, wherever it enters or leaves.
 /// The locks.
 pub struct Locks {
     // In the order of acquisition. Some slots are empty.
@@ -27,7 +29,7 @@ pub struct Locks {
     pub room: usize,
 }
 
-// By hand, so that whoever drops one calls this.
+// PROVER: written by hand, so that a function that drops one calls this instead of repeating its proof.
 impl Drop for Locks {
     fn drop(self) {
         let Locks {
@@ -48,7 +50,7 @@ fn key_of(mon: Mid) -> Tid
     Tid { number: mon.number }
 }
 
-// The lock in the slot behind all others is found by its owner, as the last of his. Answers its link.
+// The lock in the slot after all others is found by its owner, as the last of his. Answers its link.
 #[inline(always)]
 fn file_owner(
     last: &mut Index,

@@ -26,7 +26,7 @@ pub struct Monitors {
     requests: WaitingList,
 }
 
-// By hand, so that whoever drops one calls this.
+// PROVER: written by hand, so that a function that drops one calls this instead of repeating its proof.
 impl Drop for Monitors {
     fn drop(self) {
         let Monitors {
@@ -166,7 +166,7 @@ impl Monitors {
         }
     }
 
-    /// The thread waits, behind all others, to enter a monitor that another holds.
+    /// The thread waits, after all others, to enter a monitor that another holds.
     pub fn request(&mut self, mon: Mid, tid: Tid, prio: u32, depth: u32)
         requires held { IsTrue (is_owned_by_other self.old.locks tid mon) }
         requires waits_nowhere { has_request self.old tid ≡ false }
@@ -221,7 +221,7 @@ impl Monitors {
         depth
     }
 
-    /// Whoever is next enters a free monitor. The answer is that thread, if any waits.
+    /// The thread that is next enters a free monitor. The answer is that thread, if any waits.
     pub fn grant(&mut self, mon: Mid) -> Option<Tid>
         requires live { IsTrue (is_live self.old mon) }
         requires free { IsTrue (is_free self.old mon) }

@@ -1,5 +1,5 @@
--- What the machine's steps and deliveries keep of a state, a pod with its own events keeps: by a call, with the trap before it and the
--- report behind it, and by a line that is taken.
+-- What the machine's steps and deliveries keep of a state, a pod with its own events keeps: by a call, with the trap
+-- before it and the report after it, and by a line that is taken.
 use Rattle.lwp_types.specs.Agents.{deliver, is_event_armed}
 use Rattle.lwp_types.specs.Choice.{choice}
 use Rattle.lwp_types.specs.State.{State, passes}

@@ -25,7 +25,7 @@ nothing_of (Some x) h = absurd (cc)
 pub record Alone (s : State) (t : ℕ) (c : Call) : Type 0 where
   pub no_trap : trap_of c ≡ None
   pub no_agent : agent_event_of c ≡ None
-  pub unmourned : (victim t c ≡ None) ⊎ (has_agent s rites_event ≡ false)
+  pub unheard_deaths : (victim t c ≡ None) ⊎ (has_agent s rites_event ≡ false)
 
 pub alone_parts : (s : State) (t : ℕ) (c : Call) → is_machines s t c ≡ true → Alone s t c
 alone_parts s t c alone = by_plain (is_plain t c) refl alone
@@ -39,11 +39,11 @@ alone_parts s t c alone = by_plain (is_plain t c) refl alone
         let three = and_parts ((is_none (victim t c) && eqb (births_by c) 0) && is_none (trap_of c)) (is_none (agent_event_of c)) plain in
         let two = and_parts (is_none (victim t c) && eqb (births_by c) 0) (is_none (trap_of c)) three.0 in
         let one = and_parts (is_none (victim t c)) (eqb (births_by c) 0) two.0 in
-        record { no_trap = nothing_of (trap_of c) two.1; no_agent = nothing_of (agent_event_of c) three.1; unmourned = inl (nothing_of (victim t c) one.0) }
+        record { no_trap = nothing_of (trap_of c) two.1; no_agent = nothing_of (agent_event_of c) three.1; unheard_deaths = inl (nothing_of (victim t c) one.0) }
     by_plain false plain h =
         let both = and_parts (asks_no_event c) (not (has_agent s rites_event)) h in
         let none = and_parts (is_none (trap_of c)) (is_none (agent_event_of c)) both.0 in
-        record { no_trap = nothing_of (trap_of c) none.0; no_agent = nothing_of (agent_event_of c) none.1; unmourned = inr (unheard (has_agent s rites_event) both.1) }
+        record { no_trap = nothing_of (trap_of c) none.0; no_agent = nothing_of (agent_event_of c) none.1; unheard_deaths = inr (unheard (has_agent s rites_event) both.1) }
 
 module _ (es : EventState) (t : ℕ) (c : Call) (turn : current_of es.state ≡ Some t) (alone : Alone es.state t c) (none : es.pending ≡ None) where
   called_alone : after_trap_and_call es.state es.trapped t c es.pending ≡ after_machine_step es.trapped (step es.state c)
@@ -58,7 +58,7 @@ module _ (es : EventState) (t : ℕ) (c : Call) (turn : current_of es.state ≡ 
 
   module _ (empty : es.reports ≡ []) where
     none_noted : reports_after es.state (step es.state c).after es.reports (step es.state c).effects ≡ []
-    none_noted = ap (λ rs. cond (has_agent (step es.state c).after rites_event) (rs ++ dead_to_report es.state (deaths (step es.state c).effects)) []) empty ∙ by_cause alone.unmourned
+    none_noted = ap (λ rs. cond (has_agent (step es.state c).after rites_event) (rs ++ dead_to_report es.state (deaths (step es.state c).effects)) []) empty ∙ by_cause alone.unheard_deaths
       where
         either : (b : Bool) → ◌≡◌ {A = List ℕ} (cond b [] []) []
         either true = refl

@@ -5,7 +5,7 @@ use Rattle.std.proofs.Common.{List, [], ap, arith, drop, length, map, refl, slic
 abbrev pub changed_to : {X : Type 0} → (X → X) → ℕ → List X → List X
 changed_to f i xs = map f (take i xs) ++ drop i xs
 
--- what stands at place i is as it was
+-- the entry at place i is as it was
 pub unchanged_at : {X : Type 0} (f : X → X) (i : ℕ) (xs : List X) (d : X) → slice_index_or (changed_to f i xs) i d ≡ slice_index_or xs i d
 unchanged_at f zero [] d = refl
 unchanged_at f zero (x ∷ xs) d = refl

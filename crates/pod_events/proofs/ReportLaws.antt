@@ -105,7 +105,7 @@ armed-delivers s text arms = by_agents (event_agents s.agents rites_event) (and_
     by_agents [] h = absurd (cc)
     by_agents (row ∷ rows) h = record { agent = row.number; event = row.event; rest = _; splits = refl }
 
--- whoever has an agent keeps it
+-- a thread that has an agent keeps it
 holding-heard : (a e : ℕ) (rows : List AgentRow) → list_any (is_for e) (with_holding a true rows) ≡ list_any (is_for e) rows
 holding-heard a e [] = refl
 holding-heard a e (row ∷ rows) = ap (λ b. is_for e row || b) (holding-heard a e rows)
@@ -276,7 +276,7 @@ every_agent_is_told es c t dead chosen told =
 abbrev is_busy : ℕ → AgentRow → Bool
 is_busy e row = is_for e row && row.holding
 
--- whoever holds one still does when another is given one
+-- an agent that holds one still does when another is given one
 holding-busy : (a e : ℕ) (rows : List AgentRow) → list_any (is_busy e) rows ≡ true → list_any (is_busy e) (with_holding a true rows) ≡ true
 holding-busy a e [] busy = absurd (cc)
 holding-busy a e (row ∷ rows) busy = by_tests (is_for e row) row.holding (is_agent_row a row) busy (holding-busy a e rows)

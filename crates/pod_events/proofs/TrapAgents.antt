@@ -32,7 +32,7 @@ trap_asks_none : (c : Call) (e : ℕ) → trap_of c ≡ Some e → agent_event_o
 trap_asks_none (call.Agent f) e is = absurd (cc)
 trap_asks_none _ e is = refl
 
--- an event that is trapped behind a call was trapped before; or it has no agent, and the call is no Agent
+-- an event that is trapped after a call was trapped before; or it has no agent, and the call is no Agent
 abbrev IsSourceOf : EventState → Call → ℕ → Type 0
 IsSourceOf es c f = (is_trapped es.trapped f ≡ true) ⊎ ((has_agent es.state f ≡ false) × (agent_event_of c ≡ None))
 

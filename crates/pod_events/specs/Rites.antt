@@ -75,7 +75,7 @@ abbrev pub after_first_report : State → List Effect → List ℕ → Reporting
 after_first_report s es [] = record { state = s; reports = []; effects = es }
 after_first_report s es (dead ∷ later) = after_report s es dead later
 
--- the same, if the agents of the event wait for it
+-- the first of these is reported, if the agents of the event wait for it
 abbrev pub after_rites : State → List Effect → List ℕ → Reporting
 after_rites s es reports = if is_event_armed s rites_event then after_first_report s es reports
     else record { state = s; reports = reports; effects = es }

@@ -58,10 +58,11 @@ pub trait Machine: Drop {
         ensures most { result ≤ 1024 };
 }
 
+// PROVER: apart from `Machine`, which has no lifetime, so that what only looks at a machine names none.
 /// A machine that takes calls and events, whose texts are lent for `'s`.
 pub trait Driven<'s>: Machine {
-    /// One call, that isn't Trap, of the thread whose turn it is. `effects` is emptied first, and then has what the step did besides
-    /// the call itself.
+    /// One call, that isn't Trap, of the thread whose turn it is. `effects` is emptied first, and then has what the
+    /// step did, without the call itself.
     fn call(&mut self, call: &Call<'s>, effects: &mut Effects<'s>) -> Result<(), NoMemory>
         requires turn { IsSome (current_of (Self.state self.old)) }
         requires no_trap { trap_of call.now ≡ None }

@@ -13,7 +13,7 @@ const EVENTS: usize = 32;
 #[derive(Drop)]
 pub(crate) struct TrapSet {
     flags: [bool; EVENTS],
-    // The same in one word, in which the first is found at one look.
+    // The flags as bits of one word, in which the first is found at one look.
     marks: u64,
 }
 

@@ -1,4 +1,4 @@
--- A tick answers whoever's timer is due, each once.
+-- A tick answers each thread whose timer is due, once.
 use Rattle.lwp_types.specs.CountLaws.{count-cons, one}
 use Rattle.lwp_types.specs.State.{State, ThreadRow, and_then, row_with_block, for_each, is_number, passes, times_in, with_block}
 use Rattle.lwp_types.specs.Time.{after_tick, due_threads, is_asleep_in, is_due, is_sleeping, time_out}
@@ -25,7 +25,7 @@ row_kept t u away b (row ∷ rows) = by_test (is_number u row) refl (row_kept t 
     by_test false e rest = rest
 
 module _ (start : State) where
-  -- midway in a tick, whoever is still due waits as it did before
+  -- midway in a tick, each thread whose timer is still due waits as it did before
   record Midway (s : State) : Type 0 where
     before : Before start.now s
     waits : (t : ℕ) → 1 ≤ times_in (due_threads s) t → is_asleep_in s t ≡ is_asleep_in start t

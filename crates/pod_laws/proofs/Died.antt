@@ -1,4 +1,4 @@
--- Whoever died in a step is forgotten after it.
+-- A thread that died in a step is forgotten after it.
 use Rattle.lwp_types.specs.Agents.{end_agent}
 use Rattle.lwp_types.specs.Case.{Case, Check, refusal_case, silent_case, unless, value_case, with_zero}
 use Rattle.lwp_types.specs.Choice.{choice}
@@ -61,7 +61,8 @@ module _ (n : ℕ) where
       (order_first (answer_joiners t) _ _ _ (deathless_each n (unblock zero_answer) (deathless_unblock n zero_answer) _ _)
       (order_last t _)))))))
 
-  -- whoever dies in a case isn't there after it; it was a thread, and its death is all that the case does to others
+  -- a thread that dies in a case isn't there after it; it was a thread, and its death is all that the case does to
+  -- others
   pub record Buries (s : State) (made : Case) : Type 0 where
     pub gone : 1 ≤ count_by (is_died n) made.others → is_id made.after n ≡ false
     pub lived : 1 ≤ count_by (is_died n) made.others → is_thread s n ≡ true
@@ -91,7 +92,7 @@ module _ (n : ℕ) where
   notified_deathless s t p f func.Sum = deathless_nil n
   notified_deathless s t p f func.Nothing = deathless_unwind n t (caught_marks f (marks_in s t)) (later_frames f.depth (marks_in s t)) s
 
-  -- whoever dies in a death is the one that was to die
+  -- the one that dies in a death is the one that was to die
   died_is : (t : ℕ) (s : State) → 1 ≤ count_by (is_died n) (death t s).effects → t ≡ n
   died_is t s some = elim (cases_eq t n) [
     | inl e ↦ e
@@ -205,7 +206,7 @@ thread_born most n (row ∷ rows) below lives =
     by_test true e lives here rest = omega (arith, eqb-true row.number n e, here)
     by_test false e lives here rest = rest lives
 
--- whoever died in a step had a number
+-- one that died in a step had a number
 step_born : (s : State) → Lawful s None → (c : Call) (n : ℕ) → 1 ≤ count_by (is_died n) (step s c).effects → n < (step s c).after.births
 unfolding step step_by
 step_born s was c n some = omega (arith, was_born (choice s) refl some, (step_fades n s c).births)

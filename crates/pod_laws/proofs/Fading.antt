@@ -1,4 +1,4 @@
--- A number is given once: whoever is gone stays gone, whatever is called or delivered.
+-- A number is given once: one that is gone stays gone, whatever is called or delivered.
 use Rattle.lwp_types.specs.Agents.{after_agent_birth, after_agent_end, deliver, deliver_to, end_agent, event_agents, message, new_agent}
 use Rattle.lwp_types.specs.Case.{Case, Check, refusal_case, silent_case, unless, value_case, with_zero}
 use Rattle.lwp_types.specs.Choice.{choice}
@@ -81,7 +81,7 @@ module _ (n : ℕ) where
   fades_marks : (s after : State) (t : ℕ) (ms : List Mark) → after.births ≡ s.births → after.threads ≡ with_marks t ms s.threads → after.agents ≡ s.agents → Fades n s after
   fades_marks s after t ms same rows agents = rows_fade s after (row_with_marks t ms) (λ row. refl) same rows agents
 
-  -- whoever isn't in a list isn't in a part of it
+  -- one that isn't in a list isn't in a part of it
   filter_none : {X : Type 0} (p keep : X → Bool) (xs : List X) → is_some (find p xs) ≡ false → is_some (find p (filter keep xs)) ≡ false
   filter_none p keep [] none = refl
   filter_none p keep (x ∷ xs) none = by_test (p x) refl none (filter_none p keep xs)
@@ -329,7 +329,7 @@ module _ (n : ℕ) where
       by_clock true = fades_tick s
       by_clock false = fades_each (deliver_to text) (fades_delivered text) (event_agents s.agents e) s
 
-  -- whoever is gone
+  -- one that is gone
   pub gone_stays : (s after : State) → Fades n s after → IsGone s n → IsGone after n
   gone_stays s after fades gone =
       let nobody = or_parts (is_thread s n) (is_agent s n) gone.dead in

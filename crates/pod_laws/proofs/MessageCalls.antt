@@ -44,7 +44,7 @@ not_from : (letter : Letter) (from : Option ℕ) → takes_from letter.from (blo
 not_from letter None e = absurd (cc)
 not_from letter (Some x) e = ne_eqb letter.from x (λ same. eqb-false x letter.from e (sym same))
 
--- whoever doesn't take a letter of this sender doesn't take this one
+-- a thread that doesn't take a letter of this sender doesn't take this one
 pub untaken : (s : State) (letter : Letter) → passes (λ row. takes_from letter.from row.block) (thread_of s letter.to) ≡ false
     → (t : ℕ) (row : ThreadRow) (from : Option ℕ) → thread_of s t ≡ Some row → row.block ≡ block.Receiving from → takeable t from letter ≡ false
 untaken s letter refuses t row from found e = elim (cases_eq letter.to t) [
@@ -57,7 +57,7 @@ untaken s letter refuses t row from found e = elim (cases_eq letter.to t) [
 pub received_untaken : (letter : Letter) (t : ℕ) (from : Option ℕ) → letter.received ≡ true → takeable t from letter ≡ false
 received_untaken letter t from e = and_false_right (is_to t letter) _ (ap (λ b. not b && is_from from letter) e)
 
--- a letter is posted: unread, or at once to whoever waits for it
+-- a letter is posted: unread, or at once to the thread that waits for it
 pub post_keeps : (s : State) (d : Option ℕ) (letter : Letter) → NineParts (record s { letters = s.letters ++ as_received letter ∷ [] }) d
     → (passes (λ row. takes_from letter.from row.block) (thread_of s letter.to) ≡ false → NineParts (record s { letters = s.letters ++ letter ∷ [] }) d)
     → NineParts (post letter s).after d
@@ -125,7 +125,7 @@ module _ (s : State) (was : NineParts s None) (t : ℕ) (x : ThreadRow) (known :
           (NineParts-posted s None was t x known (λ e. not_some t e) free (as_received letter) refl lives differs (λ v row from found e. received_untaken (as_received letter) v from refl))
           (λ refuses. NineParts-posted s None was t x known (λ e. not_some t e) free letter refl lives differs (λ v row from found e. untaken (after_block s t block.Sending) letter refuses v row from (still_there v row from found e) e))
         where
-          -- whoever waits for a letter isn't the sender
+          -- a thread that waits for a letter isn't the sender
           still_there : (v : ℕ) (row : ThreadRow) (from : Option ℕ) → thread_of s v ≡ Some row → row.block ≡ block.Receiving from → thread_of (after_block s t block.Sending) v ≡ Some row
           still_there v row from found e = find_rowed (row_with_block t block.Sending) (λ row. refl) s.threads v ∙ ap (option_map (row_with_block t block.Sending)) found ∙ ap Some (unchanged (is_number t row) refl)
             where
@@ -165,7 +165,7 @@ sending_is (block.Entering m) e = absurd (omega arith)
 sending_is (block.Waiting c) e = absurd (omega arith)
 sending_is block.Sleeping e = absurd (omega arith)
 
--- whoever can be replied to has sent a letter
+-- a thread that can be replied to has sent a letter
 pub reply_sends : (s : State) (t u : ℕ) → is_none (received_letter s.letters t u) ≡ false → 1 ≤ letters_of s.letters u
 reply_sends s t u some = by_found (received_letter s.letters t u) refl some
   where
@@ -178,7 +178,7 @@ reply_sends s t u some = by_found (received_letter s.letters t u) refl some
 
 -- a reply, also of an exit procedure
 module _ (s : State) (d : Option ℕ) (was : NineParts s d) where
-  -- whoever has a letter and is no agent waits for the reply
+  -- one that has a letter and is no agent waits for the reply
   pub sender_row : (u : ℕ) (x : ThreadRow) → thread_of s u ≡ Some x → 1 ≤ letters_of s.letters u → x.block ≡ block.Sending
   sender_row u x known some = sending_is x.block (omega (arith, some, letters_counted s d was u x known))
 

@@ -58,7 +58,7 @@ module _ (s : State) (d : Option ℕ) (was : NineParts s d) where
 pub record Before (n : ℕ) (s : State) : Type 0 where
   pub nine : NineParts (record s { now = n }) None
 
--- whoever is due first goes on, and the others remain
+-- the thread that is due first goes on, and the others remain
 pub time_out_first : (n t : ℕ) (ts : List ℕ) (s : State) → Before n s → due_threads s ≡ t ∷ ts → Before n (time_out t s).after × (due_threads (time_out t s).after ≡ ts)
 time_out_first n t ts s was listed = (
   record { nine = NineParts-timed_out (record s { now = n }) None was.nine t some },

@@ -23,12 +23,12 @@ abbrev pub is_died : ℕ → Effect → Bool
 is_died n (effect.Died t) = t == n
 is_died n _ = false
 
--- the number was given, and whoever had it is gone
+-- the number was given, and its thread or agent is gone
 pub record IsGone (s : State) (n : ℕ) : Type 0 where
   pub born : n < s.births
   pub dead : is_id s n ≡ false
 
--- whoever died in a step is gone after it, and no list names it
+-- one that died in a step is gone after it, and no list names it
 pub record IsForgotten (s : State) (n : ℕ) : Type 0 where
   pub gone : IsGone s n
   pub unnamed : Unnamed s n
@@ -73,7 +73,7 @@ CondSendRefusesTheAbsent = (s : State) (t n c : ℕ) → is_id s n ≡ false
     → (is_no_condition s c).0 ≡ false → (is_not_last s t c).0 ≡ false
     → case_of s t (call.CvSend c n) ≡ refusal_case s error.NonExist
 
--- what moves a pod on: a call of whoever has the turn, or an event with its text
+-- what moves a pod on: a call of the thread that has the turn, or an event with its text
 pub data Move : Type 0 where
   ToCall : Call → Move
   ToDeliver : ℕ → List ℕ → Move
@@ -84,7 +84,7 @@ after_moves [] s = s
 after_moves (ToCall c ∷ moves) s = after_moves moves (step s c).after
 after_moves (ToDeliver e text ∷ moves) s = after_moves moves (deliver s e text).after
 
--- a number is given once: whoever is gone stays gone, whatever comes
+-- a number is given once: one that is gone stays gone, whatever comes
 abbrev pub TheGoneStayGone : Type 0
 TheGoneStayGone = (s : State) (n : ℕ) → IsGone s n → (moves : List Move) → IsGone (after_moves moves s) n
 

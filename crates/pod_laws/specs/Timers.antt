@@ -36,8 +36,8 @@ TicksAnswerTheDue = (s : State) → Lawful s None → TickAnswers s
 
 -- Timers go with the waits.
 
--- whoever goes on, or begins to die, has no timer from then on; and who may run has none, so that none is left where it
--- waits again
+-- a thread that goes on, or begins to die, has no timer from then on; and who may run has none, so that none is left
+-- where it waits again
 pub record EndsTimers (s : State) (t : ℕ) : Type 0 where
   pub goes_on : timers_of (after_unblock s t).timers t ≡ 0
   pub dies : timers_of (withdraw t s).after.timers t ≡ 0

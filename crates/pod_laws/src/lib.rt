@@ -9,8 +9,8 @@
 //! | a refusal changes nothing | `RefusalsChangeNothing` (`specs/Laws.antt`) |
 //! | exit procedures run once, in the thread that set them | `ExitsRunOnce` (`specs/Once.antt`) |
 //! | the dead are named nowhere, their numbers are never given again, and a call that names them is refused | `TheDeadAreForgotten`, `TheGoneStayGone`, `TheAbsentAreRefused`, `ExitsRefuseTheAbsent`, `CondSendRefusesTheAbsent` (`specs/Forgotten.antt`), `NobodyNamesTheAbsent` (`specs/Laws.antt`) |
-//! | whoever waits for the dead is answered once, and rightly | `WaitersAreAnswered`, `StepsAnswerWaiters` (`specs/Waiters.antt`) |
-//! | whoever waits with a timer is woken once, by whatever comes first, and never by a timer of an earlier wait | `TicksAnswerTheDue`, `WaitsEndTimers`, `NoTimerComesUnasked` (`specs/Timers.antt`) |
+//! | each thread that waits for the dead is answered once, and rightly | `WaitersAreAnswered`, `StepsAnswerWaiters` (`specs/Waiters.antt`) |
+//! | each thread that waits with a timer is woken once, by whatever comes first, and never by a timer of an earlier wait | `TicksAnswerTheDue`, `WaitsEndTimers`, `NoTimerComesUnasked` (`specs/Timers.antt`) |
 //!
 //! Another crate cites a law by the lemma of `proofs/` that the function's answer names, as `EveryStep.{Lawful-step}` or
 //! `EveryStep.{case_keeps}`, or it calls the function and takes what it ensures. What single calls and single moves keep are
@@ -45,7 +45,7 @@ pub fn every_message()
     ensures { DeliveriesAreFew }
 {}
 
-/// Every exit procedure keeps the first nine parts, whoever is dying.
+/// Every exit procedure keeps the first nine parts, whether or not a thread is dying.
 pub fn every_exit_call()
     ensures { ExitsAreLawful }
 {}
@@ -75,7 +75,7 @@ pub fn every_exit()
     ensures { ExitsRunOnce }
 {}
 
-/// Whoever died in a step isn't there after it, and no list names it.
+/// One that died in a step isn't there after it, and no list names it.
 pub fn every_dead()
     ensures { TheDeadAreForgotten }
 {}
@@ -95,7 +95,7 @@ pub fn every_absent_of_a_condition()
     ensures { CondSendRefusesTheAbsent }
 {}
 
-/// A number is given once: whoever is gone stays gone, whatever is called or delivered.
+/// A number is given once: one that is gone stays gone, whatever is called or delivered.
 pub fn every_number()
     ensures { TheGoneStayGone }
 {}
@@ -105,7 +105,7 @@ pub fn every_quiet_delivery()
     ensures { DeliveriesAreQuiet }
 {}
 
-/// Whoever waits for a thread that dies is answered once, and rightly.
+/// Each thread that waits for one that dies is answered once, and rightly.
 pub fn every_waiter()
     ensures { WaitersAreAnswered }
 {}
@@ -120,7 +120,7 @@ pub fn every_tick()
     ensures { TicksAnswerTheDue }
 {}
 
-/// Whoever waits no more has no timer: where it goes on, where it dies, and where it begins another wait.
+/// A thread that waits no more has no timer: where it goes on, where it dies, and where it begins another wait.
 pub fn every_end_of_a_wait()
     ensures { WaitsEndTimers }
 {}

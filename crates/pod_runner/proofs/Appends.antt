@@ -10,7 +10,7 @@ use Rattle.streams.specs.Writing.{AppendsPart}
 pub writes_on : (old new : Option (List ℕ)) (before out after : List ℕ) → after ≡ before ++ out → new ≡ after_append old out → Writes old new before after
 writes_on old new before out after e h base g = h ∙ rw (g, e) (appended-append base before out)
 
--- the same behind what stood there before
+-- a write that may have broken off, after what was told before
 pub cut_on : (old new : Option (List ℕ)) (before out after : List ℕ) → after ≡ before ++ out → AppendsPart old new out → WritesCut old new before before after
 cut_on old new before out after e h base g = record {
   kept = length before + h.kept;

@@ -75,7 +75,7 @@ deliver_to-fewer : (text : List ℕ) (row : AgentRow) (s : State) → Fewer s (d
 unfolding and_then
 deliver_to-fewer text row s = fewer-then s (record s { agents = with_holding row.number true s.agents }) _ (holds-fewer row.number s) (post-fewer (message text row) _)
 
--- whoever goes on leaves the agents alone, and so does the clock
+-- a thread that goes on leaves the agents alone, and so does the clock
 tick-fewer : (s : State) → Fewer s (tick s).after
 unfolding and_then
 tick-fewer s = fewer-then s (after_tick s) _ (record { events = λ e h. h; ended = refl; later = omega arith })

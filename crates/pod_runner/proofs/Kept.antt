@@ -1,4 +1,4 @@
--- A delivery leaves whoever may run in the order, and ends no pod.
+-- A delivery leaves the threads that may run in the run queue, and ends no pod.
 use Rattle.std.proofs.Common.{◌≡◌, ℕ, List, [], ◌∷◌, ◌++◌, Bool, true, false, cond, eqb, None, Some, ◌∙◌, refl}
 use Rattle.std.specs.Prelude.{Option, is_some, nat_le, not, ◌&&◌}
 use Rattle.std.specs.List.{fold}
@@ -19,7 +19,7 @@ use Rattle.pod_runner.specs.Phase.{phase_by, phase_of}
 use Rattle.pod_runner.specs.Session.{take_move}
 use Rattle.pod_runner.specs.declared.phase.Phase.TheVariants as phase
 
--- somebody is chosen exactly where somebody is in the order
+-- somebody is chosen exactly where somebody is in the run queue
 best-some : {A : Type 0} (weight : A → ℕ) (xs : List A) (y : A) → is_some (fold (better_by weight) (Some y) xs) ≡ true
 best-some weight [] y = refl
 best-some weight (x ∷ xs) y = by_weight (nat_le (weight x) (weight y)) (λ z. best-some weight xs z)
@@ -28,7 +28,7 @@ best-some weight (x ∷ xs) y = by_weight (nat_le (weight x) (weight y)) (λ z. 
     by_weight true rest = rest y
     by_weight false rest = rest x
 
--- the order is longer, if it is another
+-- the run queue is longer, if it is another
 order-kept : (v w : ℕ → ℕ) (order : List ℕ) (t : ℕ) (b : Bool) → is_some (best_by v order) ≡ true → is_some (best_by w (cond b order (order ++ t ∷ []))) ≡ true
 order-kept v w [] t b h = absurd (cc)
 order-kept v w (x ∷ xs) t true h = best-some w xs x

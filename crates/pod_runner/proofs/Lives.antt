@@ -611,7 +611,7 @@ module _ {B P : Type 0} (next : Next B) (bodies : P → List B) (procs : P → L
     (h.draws.given.0, λ k d low wanted. ((serves.seen k d low low).found same wanted).0),
   )
 
-  -- the same, seen from earlier on
+  -- a quiet run, seen from earlier on
   quiet-on : (old mid new : Played P) (before some after : List Intake) → Draws next bodies old mid before some 0
       → IsQuiet next bodies new some after → IsQuiet next bodies new before after
   quiet-on old mid new before some after h quiet = (

@@ -138,7 +138,7 @@ module _ {B P : Type 0} (next : Next B) (bodies : P → List B) (procs : P → L
         omega (arith, first, second),
   )
 
-  -- a call behind all inlets
+  -- a call after all inlets
   pub looks-call : {T U : Type 0} (s : Stream) (old mid new : Played P) (before after : List Intake) (x : T) (y : U)
       → phase_now next bodies old ≡ phase.Turn
       → LivesOn next bodies procs s old mid before after (Ok x) → Serves next bodies (length before) old mid before after → new ≡ after_step {T = U} mid (with_call mid) (Ok y)

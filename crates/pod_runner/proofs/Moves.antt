@@ -53,7 +53,7 @@ moved next bodies live t row call after effects mid rows names h there polls a e
     let left : mid ≡ after_poll t reply.1 reply.0 live.rows = polls.leaves ∙ sym (with_row-place t _ live.rows row there) in
     move_some next bodies live t row h found ∙ rw (r, e, a, left, polls.names, polls.gives) refl
 
--- the same, by the place of the row, with its lines
+-- a call by the place of the row, with its lines
 pub moves_at : {B : Type 0} (next : Next B) (bodies : List B) (procs : List (List ℕ)) (live : Live B) (t i : ℕ) (known : Names) (call : Call) (after : EventState) (effects : List Effect) (mid rows : List (Row B)) (names : Names) (out : List ℕ) (born : Option ℕ)
     → choice live.pod.state ≡ Some t → i ≡ place_of t live.rows → i < length live.rows → known ≡ names_for_poll t live.names
     → ((row : Row B) → slice_get live.rows i ≡ Some row → Polls next row known call i live.rows mid names)

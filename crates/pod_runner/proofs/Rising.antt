@@ -48,7 +48,7 @@ module _ {B : Type 0} where
       let low : r.tid < x.tid = omega (arith, All-at (λ (later : Row B). r.tid < later.tid) rs i x (omega arith) up.0, same) in
       (All-set (λ (later : Row B). r.tid < later.tid) rs i x up.0 low, rising_set rs i x up.1 (omega arith) same)
 
-  -- of two rows the one behind has the greater number
+  -- of two rows the later has the greater number
   rises : (rows : List (Row B)) (i j : ℕ) (d : Row B) → AreRising rows → i < j → j < length rows → (get_or rows i d).tid < (get_or rows j d).tid
   rises [] i j d up lt within = absurd (omega arith)
   rises (r ∷ rs) zero zero d up lt within = absurd (omega arith)
@@ -83,9 +83,9 @@ module _ {B : Type 0} where
       by (inr after) = let same : m ≡ k = omega (arith, after, under) in subst (λ n. (get_or rows n d).tid < t) same (omega (arith, at, low))
 
   -- all rows from one of a greater number on
-  pub all_behind : (t : ℕ) (rows : List (Row B)) (m : ℕ) (seen : Row B) → AreRising rows → m < length rows → seen ≡ get_or rows m seen → t < seen.tid
+  pub all_after : (t : ℕ) (rows : List (Row B)) (m : ℕ) (seen : Row B) → AreRising rows → m < length rows → seen ≡ get_or rows m seen → t < seen.tid
       → (k : ℕ) (d : Row B) → m ≤ k → k < length rows → t < (get_or rows k d).tid
-  all_behind t rows m seen up within there high k d over low = by (cases_lt m k)
+  all_after t rows m seen up within there high k d over low = by (cases_lt m k)
     where
       at : seen.tid ≡ (get_or rows m d).tid
       at = ap (λ (r : Row B). r.tid) (there ∙ get_or_default rows m seen d within)
@@ -156,7 +156,7 @@ module _ {B : Type 0} where
   pub without_row_at : (t : ℕ) (rows : List (Row B)) (i : ℕ) → i ≡ place_of t rows → i < length rows → without_row t rows ≡ remove rows i
   without_row_at t rows i at within = without_row-place t rows (omega (arith, at, within)) ∙ ap (remove rows) (sym at)
 
-  -- where all rows are before the thread or behind it, it has none
+  -- where all rows come before the thread or after it, it has none
   pub missing_between : (t : ℕ) (rows : List (Row B)) (low high : ℕ) → high ≤ low → ((k : ℕ) (d : Row B) → k < low → (get_or rows k d).tid < t)
       → ((k : ℕ) (d : Row B) → high ≤ k → k < length rows → t < (get_or rows k d).tid) → length rows ≡ place_of t rows
   missing_between t rows low high met before behind = sym (place_missing t rows (λ k d within same. by k d within same (cases_lt k low)))

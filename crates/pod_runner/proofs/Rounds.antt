@@ -44,7 +44,7 @@ pub tells-other : (T U : Type 0) (s : Stream) (t least v : List ℕ) (e : RunErr
 tells-other T U s t least v fails.NoMemory h = h
 tells-other T U s t least v fails.WriteFault h = h
 
--- where memory was wanting, what was done until then was written
+-- where memory ran out, what was done until then was written
 pub tells-wrote : {T : Type 0} (s : Stream) (t least v : List ℕ) (r : Result T RunErr) → Tells s t least v r → IsErrOf r fails.NoMemory → Wrote s t v
 tells-wrote s t least v r told is = subst (λ x. Tells s t least v x) is told
 
@@ -96,7 +96,7 @@ module _ {B P : Type 0} (next : Next B) (bodies : P → List B) (procs : P → L
     sound = sound;
   }
 
-  -- behind a part that was written whole
+  -- after a part that was written whole
   pub ran-behind : {U : Type 0} (a b c : Option (List ℕ)) (i j k : ℕ) (old mid new : Played P) (r : Result U RunErr)
       → GoesOn old mid → Wrote (stream a b i j) (trace_of next bodies procs old) (trace_of next bodies procs mid) → Runs (stream b c j k) mid new r
       → Runs (stream a c i k) old new r

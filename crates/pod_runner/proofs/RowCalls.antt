@@ -133,7 +133,7 @@ module _ {B : Type 0} where
   call_kept kept other rows left i last count taken at over =
       call_past kept (remove rows i) count (omega (arith, fewer rows i, over)) ∙ taken.gives other ∙ ap (call_at other rows) at
 
-  -- the same call, whatever would stand for one that is missing
+  -- the call at a place within the rows, whatever the default for a missing one is
   pub call_within : (other another : Call) (rows : List (Row B)) (i : ℕ) → i < length rows → call_at other rows i ≡ call_at another rows i
   call_within other another [] i within = absurd (omega (arith, within))
   call_within other another (r ∷ rs) zero within = refl

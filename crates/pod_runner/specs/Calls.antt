@@ -1,4 +1,4 @@
--- The call of a step, by the step's effects: who made it, and how the step answered whoever did.
+-- The call of a step, by the step's effects: who made it, and how the step answered its caller.
 use Rattle.lwp_types.specs.declared.call.Answer.{Answer}
 use Rattle.lwp_types.specs.declared.call.Answer.TheVariants as answer
 use Rattle.lwp_types.specs.declared.call.Call.{Call}
@@ -19,11 +19,11 @@ abbrev pub is_zero : Answer → Bool
 is_zero (answer.Value (pos n)) = n == 0
 is_zero _ = false
 
--- whoever made the call is answered so
+-- the thread that made the call is answered so
 abbrev pub call_with_answer : Made → Answer → Made
 call_with_answer made a = record made { zero = is_zero a; thread = thread_in a }
 
--- the same, if it was this thread that was answered
+-- the call is answered so, if it was this thread that was answered
 abbrev pub call_if_answered : Made → ℕ → Answer → Made
 call_if_answered made t a = if t == made.tid then call_with_answer made a else made
 
@@ -32,7 +32,7 @@ abbrev pub call_begun : Effect → Option Made
 call_begun (effect.Called t c) = Some (unanswered_call t c)
 call_begun _ = None
 
--- what an effect tells of a call behind it: how it is answered, or nothing
+-- what an effect tells of a call before it: how it is answered, or nothing
 abbrev pub call_after_effect : Made → Effect → Made
 call_after_effect made (effect.Answered t a) = call_if_answered made t a
 call_after_effect made _ = made

@@ -19,8 +19,8 @@ abbrev pub CallsDue : {B : Type 0} → Setting B → ℕ → Type 0
 CallsDue setting zero = Unit {0}
 CallsDue setting (suc n) = CallsDue setting n × IsTrue (is_call_due (session_of_calls setting n))
 
--- the same, if this was the last take, where `before` tells the sessions without it and `Before` which of them there
--- are
+-- a line could be taken and so many calls made, if this was the last take, where `before` tells the sessions without it
+-- and `Before` which of them there are
 abbrev pub TakeDue : {B : Type 0} → Setting B → Took → (ℕ → Session B) → (ℕ → Type 0) → ℕ → Type 0
 TakeDue setting took before Before zero = (took.turn ≡ 0) × Before 0 × IsTrue (is_take_due took (before 0))
 TakeDue setting took before Before (suc n) = MatchBool (took.turn == suc n)

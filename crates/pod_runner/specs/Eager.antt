@@ -46,7 +46,7 @@ abbrev pub after_offer_by : {B : Type 0} → Planned B → ℕ → Plan B → Op
 after_offer_by planned e plan None = plan
 after_offer_by planned e plan (Some line) = after_take planned e line plan
 
--- the same, if it can be delivered
+-- the first line left of an event is taken, if there is one and it can be delivered
 abbrev pub after_offer : {B : Type 0} → Planned B → ℕ → Plan B → Plan B
 after_offer planned e plan =
     elim (is_takeable (pod_of plan) e) [ true ↦ after_offer_by planned e plan (first_left plan.left e) | false ↦ plan ]
@@ -72,7 +72,7 @@ abbrev pub after_advance : {B : Type 0} → Planned B → Plan B → Plan B
 after_advance planned plan =
     elim (has_choice plan) [ true ↦ one_call planned (boundary planned plan) | false ↦ boundary planned plan ]
 
--- the same, unless it has ended
+-- lines are taken and a call is made, unless the run has ended
 abbrev pub round : {B : Type 0} → Planned B → Plan B → Plan B
 round planned plan = elim (plan_over planned plan) [ None ↦ after_advance planned plan | Some halt ↦ plan ]
 
@@ -82,7 +82,7 @@ to_the_end planned zero plan = plan
 to_the_end planned (suc n) plan =
     elim (plan_over planned plan) [ None ↦ to_the_end planned n (after_advance planned plan) | Some halt ↦ plan ]
 
--- the same with as many rounds as suffice, since each makes a call or takes a line
+-- to the end, with as many rounds as suffice, since each makes a call or takes a line
 abbrev pub after_finish : {B : Type 0} → Planned B → Plan B → Plan B
 after_finish planned plan = to_the_end planned (planned.turns + left_in_all plan.left) plan
 

@@ -1,4 +1,4 @@
--- What a run keeps of its session. Callers see the session alone.
+-- The invariant of a run. Callers see the session alone.
 use Rattle.lwp_types.specs.declared.call.Effect.{Effect}
 use Rattle.pod_runner.specs.Calls.{last_effects}
 use Rattle.pod_runner.specs.Due.{IsDefined}

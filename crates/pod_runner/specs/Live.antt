@@ -21,7 +21,7 @@ use Rattle.trace_text.specs.declared.ends.Halt.TheVariants as halts
 
 -- ---- what a run goes on by
 
--- a run has gone on by these takes, and calls: what was done before stands first, and each take came behind it
+-- a run has gone on by these takes, and calls: what was done before comes first, and each take came after it
 pub record Extends {B P : Type 0} (next : Next B) (bodies : P → List B) (old new : Played P)
     (later : List Took) : Type 0 where
   pub takes : new.takes ≡ old.takes ++ later
@@ -45,7 +45,7 @@ pub record Gives (takes : List Took) (t u : Intake) : Type 0 where
   pub nothing : ℕ
   pub after : u ≡ after_draws t (lines_of_takes t.event takes) nothing
 
--- how many lines may be lost: one for which memory was wanting
+-- how many lines may be lost: one for which memory ran out
 abbrev pub may_lose : {T : Type 0} → Result T RunErr → ℕ
 may_lose (Ok x) = 0
 may_lose (Err fails.NoMemory) = 1
@@ -67,7 +67,7 @@ pub record LivesOn {B P T : Type 0} (next : Next B) (bodies : P → List B)
     (old new : Played P) (before after : List Intake) (result : Result T RunErr) : Type 0 where
   -- it went on, and told its steps
   pub ran : RunsOn next bodies proc_names stream old new result
-  -- what it took is what its inlets gave; one line is lost at most, where memory was wanting for it
+  -- what it took is what its inlets gave; one line is lost at most, where memory ran out for it
   pub draws : Draws next bodies old new before after (may_lose result)
 
 -- ---- looks

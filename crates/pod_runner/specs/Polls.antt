@@ -15,7 +15,7 @@ place_of t (row ∷ rows) = if row.tid == t then 0 else suc (place_of t rows)
 abbrev pub ComesLast : {B : Type 0} → ℕ → List (Row B) → Type 0
 ComesLast t rows = AllByRecursion (λ row. row.tid < t) rows
 
--- each row's thread was born before those of the rows behind it
+-- each row's thread was born before those of the rows after it
 abbrev pub AreRising : {B : Type 0} → List (Row B) → Type 0
 AreRising [] = Unit {0}
 AreRising (row ∷ rows) = AllByRecursion (λ later. row.tid < later.tid) rows × AreRising rows

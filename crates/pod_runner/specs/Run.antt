@@ -49,7 +49,7 @@ but_last xs = take (length xs - 1) xs
 abbrev pub trace_of : {B P : Type 0} → Next B → (P → List B) → (P → List (List ℕ)) → Played P → List ℕ
 trace_of next bodies proc_names run = lines (proc_names run.program) (session_of next bodies run).steps
 
--- the same, without the lines of its last step
+-- the lines of its steps but the last
 abbrev pub trace_before : {B P : Type 0} → Next B → (P → List B) → (P → List (List ℕ)) → Played P → List ℕ
 trace_before next bodies proc_names run = lines (proc_names run.program) (but_last (session_of next bodies run).steps)
 
@@ -92,7 +92,7 @@ took_now run e line = record { turn = run.calls; event = e; line = line }
 abbrev pub with_took : {P : Type 0} → Played P → ℕ → Line → Played P
 with_took run e line = record run { takes = run.takes ++ took_now run e line ∷ [] }
 
--- behind a step that would come to this: it does; or the run has failed, and the step counts unless memory was wanting
+-- after a step that would come to this: it does; or the run has failed, and the step counts unless it ran out of memory
 abbrev pub after_step : {P T : Type 0} → Played P → Played P → Result T RunErr → Played P
 after_step old next (Ok x) = next
 after_step old next (Err fails.NoMemory) = record old { failed = true }
@@ -104,7 +104,7 @@ after_step old next (Err fails.WriteFault) = record next { failed = true }
 abbrev pub Writes : Option (List ℕ) → Option (List ℕ) → List ℕ → List ℕ → Type 0
 Writes old new before after = (base : Option (List ℕ)) → old ≡ after_append base before → new ≡ after_append base after
 
--- the same, but only as far as some prefix of the longer one
+-- what is told goes from a trace to some prefix of a longer one
 abbrev pub WritesPart : Option (List ℕ) → Option (List ℕ) → List ℕ → List ℕ → Type 0
 WritesPart old new before after = (base : Option (List ℕ)) → old ≡ after_append base before
     → AppendsPrefix base new after
@@ -116,7 +116,7 @@ pub record AppendsCut (old new : Option (List ℕ)) (least bytes : List ℕ) : T
   pub some : length least ≤ kept
   pub not_all : kept < length bytes
 
--- what is told goes from a trace to a longer one that is cut off, behind all of `least`
+-- what is told goes from a trace to a longer one that is cut off, after all of `least`
 abbrev pub WritesCut : Option (List ℕ) → Option (List ℕ) → List ℕ → List ℕ → List ℕ → Type 0
 WritesCut old new before least after = (base : Option (List ℕ)) → old ≡ after_append base before
     → AppendsCut base new least after
@@ -125,12 +125,12 @@ WritesCut old new before least after = (base : Option (List ℕ)) → old ≡ af
 abbrev pub Wrote : Stream → List ℕ → List ℕ → Type 0
 Wrote stream before after = Writes stream.old stream.new before after × IsFaultless stream
 
--- it broke off behind all of `least`, and a fault came
+-- it broke off after all of `least`, and a fault came
 abbrev pub Broke : Stream → List ℕ → List ℕ → List ℕ → Type 0
 Broke stream before least after = WritesCut stream.old stream.new before least after
     × IsFaulty stream × (stream.faults_old ≤ stream.faults_new)
 
--- by this result, all was written, or it broke off; where memory was wanting, what was done until then was written
+-- by this result, all was written, or it broke off; where memory ran out, what was done until then was written
 abbrev pub Tells : {T : Type 0} → Stream → List ℕ → List ℕ → List ℕ → Result T RunErr → Type 0
 Tells stream before least after (Ok x) = Wrote stream before after
 Tells stream before least after (Err fails.NoMemory) = Wrote stream before after
@@ -145,6 +145,6 @@ pub record GoesOn {P : Type 0} (old new : Played P) : Type 0 where
   pub names : new.names ≡ old.names
   pub turns : new.turns ≡ old.turns
 
--- names as a run begins with them: of each kind as many as these, and none stands for anything
+-- names as a run begins with them: of each kind as many as these, and none means anything
 abbrev pub names_like : Names → Names
 names_like names = null_names (length names.threads) (length names.monitors) (length names.conditions)

@@ -135,7 +135,7 @@ move_row next bodies live t None = no_move live
 move_row next bodies live t (Some row) =
     call_move bodies live t (next row.body (names_for_poll t live.names) row.answer)
 
--- the same, of the thread that was chosen, if one was
+-- the body of the thread that was chosen, if one was, is polled, and its call is made
 abbrev pub move_by : {B : Type 0} → Next B → List B → Live B → Option ℕ → Move B
 move_by next bodies live None = no_move live
 move_by next bodies live (Some t) = move_row next bodies live t (row_of t live.rows)

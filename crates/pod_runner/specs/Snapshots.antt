@@ -21,7 +21,7 @@ note_of row = record {
 abbrev pub taken_of : List Took → ℕ → ℕ
 taken_of takes c = count_by (λ took. took.line.client == c) takes
 
--- the same of each client below a number
+-- how many of these takes were lines of each client below a number
 abbrev pub taken_by : ℕ → List Took → List ℕ
 taken_by clients takes = map (taken_of takes) (range_with_len 0 clients)
 

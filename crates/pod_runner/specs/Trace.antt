@@ -20,12 +20,12 @@ abbrev pub left_counts_from : ℕ → List ℕ → Shelves → List ℕ
 left_counts_from c [] left = []
 left_counts_from c (event ∷ clients) left = left_of_client c left ∷ left_counts_from (c + 1) clients left
 
--- what stands behind the lines of the last step; nothing, as long as the session isn't over
+-- what comes after the lines of the last step; nothing, as long as the session isn't over
 abbrev pub tail_by : ℕ → List ℕ → Shelves → Option Halt → List ℕ
 tail_by turns clients left None = []
 tail_by turns clients left (Some halt) = end_text turns (left_counts_from 0 clients left) halt
 
--- the same of a session with all lines in place, where the clients post to these events
+-- what comes after those lines in a session with all lines in place, where the clients post to these events
 abbrev pub tail : {B : Type 0} → List ℕ → Planned B → Plan B → List ℕ
 tail clients planned plan = tail_by planned.turns clients plan.left (plan_over planned plan)
 

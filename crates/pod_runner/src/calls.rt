@@ -28,7 +28,7 @@ fn is_zero(answer: &Answer) -> bool
     }
 }
 
-// Whoever made the call is answered so.
+// The thread that made the call is answered so.
 fn set_answered(made: &mut Made, answer: &Answer)
     ensures { made.new ≡ call_with_answer made.old answer.now }
 {
@@ -46,7 +46,7 @@ fn call_begun<'s>(effect: &Effect<'s>) -> Option<Made<'s>>
     }
 }
 
-// What an effect tells of a call behind it.
+// What an effect tells of a call before it.
 fn set_answered_by(made: &mut Made, effect: &Effect)
     ensures { made.new ≡ call_after_effect made.old effect.now }
 {
@@ -68,7 +68,7 @@ fn note<'s>(made: &mut Option<Made<'s>>, effect: &Effect<'s>)
 }
 
 // What is known of the call, all these effects more.
-fn made_behind<'s>(known: Option<Made<'s>>, effects: &Effects<'s>) -> Option<Made<'s>>
+fn made_after<'s>(known: Option<Made<'s>>, effects: &Effects<'s>) -> Option<Made<'s>>
     ensures { result ≡ fold call_by_effect known.entry effects.now }
 {
     let mut made = known;
@@ -87,7 +87,7 @@ pub(crate) fn made_among<'s>(
     ensures { result ≡ call_of_effects (with_call_by caller call.now effects.now) }
 {
     match caller {
-        Some(tid) => made_behind(Some(unanswered_call(tid, call)), effects),
-        None => made_behind(None, effects),
+        Some(tid) => made_after(Some(unanswered_call(tid, call)), effects),
+        None => made_after(None, effects),
     }
 }

@@ -82,7 +82,7 @@ fn serve_each<'s, B: Polled<'s>, P: Program<B>, G: Gate<'s>, K: Sink>(
     Ok(())
 }
 
-// The same. Mostly no line can be taken, which one look tells.
+// Each event in turn may have one line taken. Mostly no line can be taken, which one look tells.
 #[inline(always)]
 fn serve_all<'s, B: Polled<'s>, P: Program<B>, G: Gate<'s>, K: Sink>(
     run: &mut Run<'s, B, P>,

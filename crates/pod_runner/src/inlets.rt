@@ -66,8 +66,8 @@ fn next_event<'s, B: Polled<'s>, P: Program<B>>(run: &Run<'s, B, P>, from: u8) -
     }
 }
 
-// The first place from `from` on whose inlet has this event or one above it, or behind the last. Mostly no such inlet is left, which
-// the last one tells.
+// The first place from `from` on whose inlet has this event or one above it, or the place past the last. Mostly no such
+// inlet is left, which the last one tells.
 fn place_of<'s, I: Inlet<'s>>(inlets: &[I], from: usize, event: u8) -> usize
     requires rise { EventsRise (map I.intake inlets.now) }
     requires some { 0 < length inlets.now }

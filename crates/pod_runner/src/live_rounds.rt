@@ -88,9 +88,10 @@ fn go_round<'s, B: Polled<'s>, P: Program<B>, I: Inlet<'s>, K: Sink, R: Wait>(
     }
 }
 
-/// Makes calls, and takes each line that an inlet has as soon as it can be delivered, until the end; or until nobody may run, no
-/// line is there that can be delivered, and some client's pass is out still. Lines that come later can be taken by another call.
-/// An event without an inlet has no lines. Where memory is wanting for a line that was taken, that line is lost.
+/// Makes calls, and takes each line that an inlet has as soon as it can be delivered, until the end; or until nobody
+/// may run, no line is there that can be delivered, and some client's pass is out still. Lines that come later can be
+/// taken by another call. An event without an inlet has no lines. A line that was taken is lost where memory runs out
+/// for it.
 pub fn run_live<'s, B: Polled<'s>, P: Program<B>, I: Inlet<'s>, K: Sink, R: Wait>(
     rt: &R,
     run: &mut Run<'s, B, P>,

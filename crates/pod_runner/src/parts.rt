@@ -26,7 +26,7 @@ use trace_text::StepLines;
 // A call before which a trap is raised, and `out` has the lines of what that did: the effects tell the call themselves, if it was
 // made. It stands apart from the way of most calls.
 #[inline(never)]
-fn call_behind_trap<'s, M: Driven<'s>>(
+fn call_after_trap<'s, M: Driven<'s>>(
     pod: &mut EventPod<'s, M>,
     call: &Call<'s>,
     effects: &mut Effects<'s>,
@@ -69,7 +69,7 @@ fn carry_out<'s, M: Driven<'s>>(
             Ok(Some(tid))
         }
         Some(_) => {
-            call_behind_trap(pod, call, effects, names, out)?;
+            call_after_trap(pod, call, effects, names, out)?;
             Ok(None)
         }
     }
@@ -85,7 +85,7 @@ pub(crate) struct RunParts<'s, B> {
     pub(crate) caller: Option<Tid>,
 }
 
-// By hand, so that whoever drops one calls this.
+// PROVER: written by hand, so that a function that drops one calls this instead of repeating its proof.
 impl<'s, B: Drop> Drop for RunParts<'s, B> {
     fn drop(self) {
         let RunParts {

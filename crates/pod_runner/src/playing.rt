@@ -36,7 +36,7 @@ pub struct Run<'s, B: Body, P: Program<B>> {
     out: StepLines,
 }
 
-// By hand, so that whoever drops one calls this.
+// PROVER: written by hand, so that a function that drops one calls this instead of repeating its proof.
 impl<'s, B: Body, P: Program<B>> Drop for Run<'s, B, P> {
     fn drop(self) {
         let Run {
@@ -245,8 +245,8 @@ impl<'s, B: Polled<'s>, P: Program<B>> Run<'s, B, P> {
         self.parts.next_wanted(from)
     }
 
-    /// Delivers a line of the event, and writes its lines. After an error the run has failed: a take whose lines could not all be
-    /// written counts, one for which memory was wanting doesn't, and none of its lines is written.
+    /// Delivers a line of the event, and writes its lines. After an error the run has failed: a take whose lines could
+    /// not all be written counts, one that ran out of memory doesn't, and none of its lines is written.
     pub fn offer<K: Sink>(&mut self, event: u8, line: Line<'s>, sink: &mut K) -> Result<(), RunErr>
         requires sound { self.old.failed ≡ false }
         requires wants { IsTrue (is_takeable (session_of B.next P.bodies self.old).live.pod event) }
@@ -270,8 +270,8 @@ impl<'s, B: Polled<'s>, P: Program<B>> Run<'s, B, P> {
         tell(&self.out, &mut self.failed, sink)
     }
 
-    /// One call, and its lines. After an error the run has failed: a call whose lines could not all be written counts, a call
-    /// for which memory was wanting doesn't, and none of its lines is written.
+    /// One call, and its lines. After an error the run has failed: a call whose lines could not all be written counts,
+    /// a call that ran out of memory doesn't, and none of its lines is written.
     pub fn turn<K: Sink>(&mut self, sink: &mut K) -> Result<(), RunErr>
         requires sound { self.old.failed ≡ false }
         requires due { phase_now B.next P.bodies self.old ≡ phase.Turn }

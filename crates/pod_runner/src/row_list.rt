@@ -39,7 +39,7 @@ impl<'s, B> Model for RowList<'s, B> {
     ghost invariant = { λ l. IsTrue l.rising → AreRising l.rows.items };
 }
 
-/// The same numbers, in memory of their own.
+/// A copy of the list, in memory of its own.
 pub fn copy_list(alloc: Global, list: &IdList) -> Result<IdList, NoMemory>
     ensures { IfOk result (λ copy. copy ≡ list.now) }
 {
@@ -145,7 +145,7 @@ fn is_older(a: Tid, b: Tid) -> bool
     a.number < b.number
 }
 
-// The same, where the numbers rise.
+// The place of a thread's row, or how many rows there are, by halving, where the numbers rise.
 fn searched<'s, B>(rows: &Vec<Row<'s, B>>, tid: Tid) -> usize
     requires { AreRising rows.now.items }
     ensures { result ≡ place_of tid rows.now.items }
@@ -279,6 +279,7 @@ fn take_out<'s, B: Drop>(rows: &mut Vec<Row<'s, B>>, i: usize, tid: Tid)
     ensures rest { rows.new.items ≡ remove rows.old.items i }
     ensures rising { AreRising rows.old.items → AreRising rows.new.items }
 {
+    // PROVER: the thread is there for the clauses alone.
     let _ = tid;
     if i + 1 == rows.len() {
         // The last row isn't moved out.
@@ -349,8 +350,8 @@ impl<'s, B> RowList<'s, B> {
         self.other_place(tid)
     }
 
-    // The same, for a row that isn't the one polled last. It stands apart, since mostly it is that one: so a turn's way has no registers
-    // to save for a search.
+    // The place of a row that isn't the one polled last. It stands apart, since mostly it is that one: so a turn's way
+    // has no registers to save for a search.
     #[inline(never)]
     fn other_place(&self, tid: Tid) -> usize
         ensures { result ≡ place_of tid self.now.rows }

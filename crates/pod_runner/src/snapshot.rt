@@ -9,7 +9,7 @@ use lwp_types::{Answer, NoMemory, Polled, Program, Sequence};
 use snapshots::{Snapshot, ThreadNote};
 use std::alloc::Global;
 
-// The same answer, with memory of its own for a list.
+// A copy of the answer, with memory of its own for a list.
 fn answer_again<'s>(alloc: Global, answer: &Answer<'s>) -> Result<Answer<'s>, NoMemory>
     ensures { IfOk result (λ copy. copy ≡ answer.now) }
 {
@@ -63,7 +63,7 @@ fn note_of<'s, B>(alloc: Global, row: &Row<'s, B>) -> Result<ThreadNote<'s>, NoM
     })
 }
 
-// The same of all live threads.
+// What is noted of all live threads.
 fn notes_of<'s, B>(alloc: Global, rows: &[Row<'s, B>]) -> Result<Sequence<ThreadNote<'s>>, NoMemory>
     ensures { IfOk result (λ notes. notes ≡ map note_of rows.now) }
 {

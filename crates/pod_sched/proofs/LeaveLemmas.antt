@@ -193,7 +193,7 @@ module _ (row row' : ℕ → Known) (known free : List ℕ) (slot_of slot_of' : 
   pub known_same : without slot known ≡ known
   known_same = without_none slot known not_known
 
-  -- whoever is known is at another slot
+  -- each known thread is at another slot
   others : AllByRecursion (λ s. IsKnown row known places s × (s ≢ slot)) known
   others = subst (AllByRecursion (λ s. IsKnown row known places s × (s ≢ slot))) known_same (All-without (IsKnown row known places) slot known slots.are_known)
 
@@ -259,7 +259,7 @@ module _ (row row' : ℕ → Known) (known free : List ℕ) (slot_of slot_of' : 
       rows_same (x ∷ xs) same = rw (same.0, rows_same xs same.1) refl
 
   module _ (weight weight' : ℕ → ℕ) (order : List ℕ) (ready : AllByRecursion (IsReady row known weight) order) (weights : (s : ℕ) → 256 ≤ s → s ≢ slot → weight' s ≡ weight s) where
-    -- whoever is in the order is known, and so at another slot
+    -- each thread in the run queue is known, and so at another slot
     ready_other : (s : ℕ) → IsReady row known weight s → s ≢ slot
     ready_other s is = (All-found (has_tid row (row s).tid) (λ n. IsKnown row known places n × (n ≢ slot)) known s others is.found).1
 

@@ -62,7 +62,7 @@ few_timers (row ∷ rows) xs owned once = omega (
       | inr away ↦ omega (arith, others_left (λ (x : TimerRow). x.tid) row.tid t away xs, owned t, count-cons (is_of t) row rows, ap one (ne_eqb row.tid t away))
     ]
 
--- whoever is known to be blocked is known
+-- a thread that is known to be blocked is known
 pub blocked_counted : (threads : List Known) (t : ℕ) → passes (λ row. row.blocked) (find (is_of t) threads) ≡ true → 1 ≤ count_by (is_of t) threads
 blocked_counted threads t blocked = by_row (find (is_of t) threads) refl blocked
   where

@@ -23,7 +23,7 @@ schedule_of slots order rows maxpri places = record {
   places = places;
 }
 
--- the number is a slot that has a row, and a key of the order
+-- the number is a slot that has a row, and a key of the run queue
 pub record HasRow (rows : List Known) (order : Order) (s : ℕ) : Type 0 where
   pub is_slot : 256 ≤ s
   pub in_rows : s < 256 + length rows

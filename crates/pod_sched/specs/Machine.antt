@@ -1,4 +1,4 @@
--- A scheduler beside the machine: what it is to know the machine's threads, and that each change of the one is the
+-- The scheduler and the machine: what it is to know the machine's threads, and that each change of the one is the
 -- other's.
 use Rattle.lwp_types.specs.Choice as choice
 use Rattle.lwp_types.specs.Death as death

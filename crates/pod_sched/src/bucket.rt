@@ -41,7 +41,7 @@ impl Bucket {
 }
 
 // The bucket of this priority, whose first thread is this one.
-pub fn led_by(prio: u32, first: Option<Tid>) -> Bucket
+pub fn with_first(prio: u32, first: Option<Tid>) -> Bucket
     ensures prio { result.prio ≡ prio }
     ensures first { result.first ≡ first }
 {

@@ -1,9 +1,9 @@
-//! The scheduler beside the machine of `lwp_types`: where it knows the machine's threads, it chooses as the machine does, and
-//! each change of the one is the other's. There is no code here: each function has no body, and its clause is the law
-//! (`specs/Machine.antt`).
+//! The scheduler refines the machine of `lwp_types`: where it knows the machine's threads, it chooses as the machine
+//! does, and each change of the one is the other's. There is no code here: each function has no body, and its clause is
+//! the law (`specs/Machine.antt`).
 //!
-//! What the laws ask of a view of a pod is `Shows`: a look-up of each thread, and the order. So the two need no one list of
-//! threads, and whoever is dying may have left the scheduler while the machine still counts it as live.
+//! What the laws ask of a view of a pod is `Shows`: a look-up of each thread, and the run queue. So the two need no one
+//! list of threads, and one that is dying may have left the scheduler while the machine still counts it as live.
 ghost use Rattle.std.specs.Prelude.{Option, ℕ};
 ghost use Rattle.lwp_types.specs.State.{State};
 ghost use Rattle.pod_sched.specs.Machine.{AnswersAlike, BirthsAreShown, DeathsAreShown, FlagsAreShown, IsNotDying, MarksAreHidden, Shows, TurnsAreShown, WaitsAreShown};
@@ -20,7 +20,7 @@ pub fn every_turn()
     ensures { TurnsAreShown }
 {}
 
-/// Whoever begins to wait, or goes on, does so in both, also while another dies.
+/// A thread that begins to wait, or goes on, does so in both, also while another dies.
 pub fn every_wait()
     ensures { (dying : Option ℕ) (t : ℕ) → IsNotDying dying t → WaitsAreShown dying t }
 {}

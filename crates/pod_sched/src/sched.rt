@@ -19,6 +19,7 @@ pub struct Sched {
     timers: Timers,
 }
 
+// PROVER: written by hand, so that a function that drops one calls this instead of repeating its proof.
 impl Drop for Sched {
     fn drop(self) {
         let Sched {
@@ -62,7 +63,7 @@ impl Sched {
         self.turns.reserve(n)
     }
 
-    /// Forgets a thread, and with it its place in the order and its timer.
+    /// Forgets a thread, and with it its place in the run queue and its timer.
     pub fn leave(&mut self, tid: Tid)
         requires { IsTrue (knows self.old tid) }
         ensures { self.new ≡ after_leave self.old tid }
@@ -104,7 +105,7 @@ impl Sched {
         requires later { self.old.now < due }
         ensures { self.new ≡ after_set_timer self.old tid due }
     {
-        // The check learns here that there are no more threads than places.
+        // PROVER: this call shows that there are no more threads than places.
         let _known = self.turns.len();
         self.timers.set(tid, due);
     }
@@ -192,7 +193,7 @@ impl Sched {
         self.turns.set_maxpri(maxpri);
     }
 
-    /// The thread that runs next. It stays in the order.
+    /// The thread that runs next. It stays in the run queue.
     pub fn current(&self) -> Option<Tid>
         ensures value { result ≡ choice self.now }
         ensures first_best { FindsBest (prio_in self.now.threads) self.now.order result }

@@ -32,6 +32,7 @@ pub struct Turns {
     places: usize,
 }
 
+// PROVER: written by hand, so that a function that drops one calls this instead of repeating its proof.
 impl Drop for Turns {
     fn drop(self) {
         let Turns {
@@ -128,7 +129,7 @@ impl Turns {
         }
     }
 
-    /// Forgets a thread, and with it its place in the order.
+    /// Forgets a thread, and with it its place in the run queue.
     pub fn leave(&mut self, tid: Tid)
         requires { IsTrue (knows self.old tid) }
         ensures { self.new ≡ after_leave self.old tid }
@@ -249,7 +250,7 @@ impl Turns {
         self.maxpri = maxpri;
     }
 
-    /// The thread that runs next. It stays in the order.
+    /// The thread that runs next. It stays in the run queue.
     pub fn current(&self) -> Option<Tid>
         ensures value { result ≡ choice self.now }
         ensures first_best { FindsBest (prio_in self.now.threads) self.now.order result }
@@ -258,7 +259,7 @@ impl Turns {
         self.counted_anew::<Brand>(Blank::new(1))
     }
 
-    // The same, with its looks told in a ledger of its own.
+    // The next thread, with its looks told in a ledger of its own.
     fn counted_anew<L: Ledger>(&self, blank: Blank) -> Option<Tid>
         requires name { blank.name ≡ L.name }
         requires parts { blank.parts ≡ L.parts }
@@ -288,7 +289,7 @@ impl Turns {
         ensures prio { result.prio ≡ prio }
         ensures first { result.first ≡ first_of self.now prio }
     {
-        bucket::led_by(prio, self.first_of(prio))
+        bucket::with_first(prio, self.first_of(prio))
     }
 
     /// Whether the thread was admitted and hasn't left.
@@ -366,7 +367,7 @@ impl Turns {
         row_at(&self.rows, slot)
     }
 
-    /// The first of this priority. Whoever stands in the order may run.
+    /// The first of this priority. Each thread in the run queue may run.
     pub fn first_of(&self, prio: u32) -> Option<Tid>
         ensures value { result ≡ first_of self.now prio }
         ensures runs { IfSome result (λ t. IsTrue (is_eligible_in self.now t)) }

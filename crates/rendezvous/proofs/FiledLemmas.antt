@@ -431,7 +431,7 @@ once_before (Some x ∷ slots) zero letter is =
 once_before (None ∷ slots) (suc i) letter is = once_before slots i letter is
 once_before (Some x ∷ slots) (suc i) letter is = omega (arith, once_before slots i letter is, count-cons (is_letter_of letter.from) x (living slots), count-cons (is_letter_of letter.from) x (living (take i slots)))
 
--- whoever has no letter is not found
+-- a thread without a letter is not found
 pub unfiled : (slots : List (Option Letter)) (d : Directory) (x : ℕ) → IsFiled slots d → letters_of (living slots) x ≡ 0 → place_of d.senders x ≡ None
 unfiled slots d x was none = by_place (place_of d.senders x) refl (was.found x)
   where
@@ -441,7 +441,7 @@ unfiled slots d x was none = by_place (place_of d.senders x) refl (was.found x)
         let there = has_one (is_letter_of x) (get_or slots i None) at in
         absurd (omega (arith, none, counted_at slots i there.letter x there.is there.passed))
 
--- whoever has one is found
+-- a thread with a letter is found
 pub some_filed : (slots : List (Option Letter)) (d : Directory) (x slot : ℕ) → IsFiled slots d → passes (is_letter_of x) (get_or slots slot None) ≡ true → IsSome (place_of d.senders x)
 some_filed slots d x slot was its = by_place (place_of d.senders x) (was.found x)
   where

@@ -153,7 +153,7 @@ module _ (p : Letter → Bool) where
           rw other (ap (λ ks. n ∷ ks) rest)
       by_test rest false = rest
 
-  -- nor is one behind the last slot
+  -- nor is one past the last slot
   pub keys_below : (n k : ℕ) (slots : List (Option Letter)) → n + length slots ≤ k → without k (keys_from n p slots) ≡ keys_from n p slots
   keys_below n k [] less = refl
   keys_below n k (o ∷ slots) less = by_test (keys_below (suc n) k slots (omega (arith, less))) (passes p o)

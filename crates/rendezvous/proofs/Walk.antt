@@ -11,7 +11,7 @@ use Rattle.lists.specs.Living.{living}
 pub listed : (n t : ℕ) (slots : List (Option Letter)) → keys_from n (is_to t) slots ≡ [] → [] ≡ senders_to (living slots) t
 listed n t slots none = ap (map (sender_of n slots)) (sym none) ∙ told n (is_to t) slots
 
--- behind the last key all senders were told
+-- after the last key all senders were told
 pub whole : (n t : ℕ) (slots : List (Option Letter)) (i : ℕ) (ids : List ℕ) → slice_get (keys_from n (is_to t) slots) i ≡ None → ids ≡ map (sender_of n slots) (take i (keys_from n (is_to t) slots)) → ids ≡ senders_to (living slots) t
 whole n t slots i ids none is = is ∙ ap (map (sender_of n slots)) (take_whole (keys_from n (is_to t) slots) i none) ∙ told n (is_to t) slots
 

@@ -10,6 +10,8 @@ use lists::{Chains, Index};
 use lwp_types::{Letter, NoMemory, Tid};
 use std::alloc::Global;
 
+// Slots and lists are given out in order and not taken back one by one: a thread's list would have to be taken back at each
+// reply to its only letter, which is what most replies are.
 /// Finds letters in their slots.
 pub struct Directory {
     // The slot of each sender's letter.
@@ -18,7 +20,7 @@ pub struct Directory {
     pub boxes: Index,
     // So many lists have a thread.
     pub used: usize,
-    // The slots of the letters to each thread, in the order of their sending, as keys behind the lists' numbers.
+    // The slots of the letters to each thread, in the order of their sending, as keys after the lists' numbers.
     pub held: Chains,
     // Those of them that nobody has received.
     pub unread: Chains,
@@ -26,7 +28,7 @@ pub struct Directory {
     pub width: usize,
 }
 
-// By hand, so that whoever drops one calls this.
+// PROVER: written by hand, so that a function that drops one calls this instead of repeating its proof.
 impl Drop for Directory {
     fn drop(self) {
         let Directory {
@@ -80,7 +82,7 @@ impl Directory {
         })
     }
 
-    /// Whether behind so many slots there is one left, and a list for another thread.
+    /// Whether after so many slots there is one left, and a list for another thread.
     pub fn has_room(&self, slots: usize) -> bool
         ensures { IsTrue result → (slots < self.now.width) × (self.now.used < self.now.width) }
     {
@@ -111,7 +113,7 @@ impl Directory {
         }
     }
 
-    /// The letter is to lie in the slot behind all others.
+    /// The letter is to lie in the slot after all others.
     pub fn add(&mut self, slot: usize, letter: &Letter)
         requires sound { IsSound self.old }
         requires room { self.old.used < self.old.width }

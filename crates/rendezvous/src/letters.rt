@@ -93,7 +93,7 @@ fn make_room(slots: &mut Vec<Option<Letter>>, directory: &mut Directory)
     }
 }
 
-// One letter more, behind the others.
+// One letter more, after the others.
 pub fn post<'s>(slots: &mut Vec<Option<Letter<'s>>>, directory: &mut Directory, letter: Letter<'s>)
     requires tied { IsTied slots.old.items directory.old (vec_capacity slots.old) }
     requires few { length (living slots.old.items) < directory.old.width }
@@ -155,7 +155,7 @@ pub fn senders_to(
     Ok(ids)
 }
 
-// The same letters once more.
+// A copy of the letters.
 pub fn copied<'s>(
     alloc: Global,
     slots: &[Option<Letter<'s>>],

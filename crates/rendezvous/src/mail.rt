@@ -20,7 +20,7 @@ pub struct Mail<'s> {
     places: usize,
 }
 
-// By hand, so that whoever drops one calls this.
+// PROVER: written by hand, so that a function that drops one calls this instead of repeating its proof.
 impl<'s> Drop for Mail<'s> {
     fn drop(self) {
         let Mail {
@@ -80,7 +80,7 @@ impl<'s> Mail<'s> {
         Ok(())
     }
 
-    /// One letter more, behind the others. It may count as received already, where its receiver waits for it.
+    /// One letter more, after the others. It may count as received already, where its receiver waits for it.
     #[inline(always)]
     pub fn post_letter(&mut self, letter: Letter<'s>)
         requires new { has_letter_of self.old.letters letter.from ≡ false }

@@ -19,7 +19,7 @@ same-on a b i k front behind = take-add i k a ∙ ap (λ l. l ++ take k (drop i 
 pub same-next : (a b : List ℕ) (i : ℕ) → i < length a → i < length b → take i a ≡ take i b → get_or a i 0 ≡ get_or b i 0 → take (i + 1) a ≡ take (i + 1) b
 same-next a b i low low_other front same = take-next a i low ∙ ap (λ l. l ++ get_or a i 0 ∷ []) front ∙ ap (λ x. take i b ++ x ∷ []) same ∙ sym (take-next b i low_other)
 
--- what stands in the midst of both
+-- the bytes in the midst of both
 pub middle-same : (a b : List ℕ) (i k : ℕ) → i + k ≤ length b → take (length b) a ≡ b → take k (drop i a) ≡ take k (drop i b)
 middle-same a b i k low same = sym (drop-take i k a) ∙ ap (drop i) (sym (fewer (i + k) (length b) a low) ∙ ap (take (i + k)) same) ∙ drop-take i k b
 
@@ -116,7 +116,7 @@ module _ (rest : List ℕ) (ahead : ℕ) (low : ahead ≤ length rest) where
   pub ahead-on : (more : List ℕ) → take (length more) (drop ahead rest) ≡ more → take (ahead + length more) rest ++ [] ≡ (take ahead rest ++ []) ++ more
   ahead-on more same = append-nil (take (ahead + length more) rest) ∙ take-add ahead (length more) rest ∙ ap (λ l. take ahead rest ++ l) same ∙ ap (λ l. l ++ more) (sym (append-nil (take ahead rest)))
 
--- more bytes behind some that differ
+-- more bytes after some that differ
 pub departs-on : (rest bytes more : List ℕ) → Departs rest bytes → Departs rest (bytes ++ more)
 departs-on rest bytes more departs same = departs (sym (fewer (length bytes) (length (bytes ++ more)) rest (omega (arith, length-append bytes more))) ∙ ap (take (length bytes)) same ∙ front bytes more)
   where
@@ -138,7 +138,7 @@ unlike-on rest (b ∷ bytes) more (inr departs) first = inr (departs-on rest (b 
 abbrev pub seen : (recorded step : List ℕ) (at ticks faults : ℕ) → Following
 seen recorded step at ticks faults = record { recorded = recorded; at = at; lines = line_count (take at recorded); ticks = ticks; step = step; faults = faults }
 
--- the bytes behind
+-- the bytes after those told
 pub behind : (recorded : List ℕ) (at ahead : ℕ) → take (length recorded - (at + ahead)) (drop (at + ahead) recorded) ≡ drop ahead (drop at recorded)
 behind recorded at ahead = take_rest recorded (at + ahead) ∙ ap (λ n. drop n recorded) (omega arith) ∙ sym (drop-drop ahead at recorded)
 

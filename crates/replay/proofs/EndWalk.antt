@@ -251,7 +251,7 @@ module _ {B : Type 0} (asked : Asked B) (bytes : List ℕ) (fit : IsFit asked) (
           by_count true h = absurd (cc)
           by_count false h = absurd (cc)
 
-  -- the same, by where the session stands
+  -- a take was to come, as the phase of the pod and the recorded line say, and none is told
   pub walk-asked : (line : List ℕ) → lowest_in lines (session_of asked.setting p).live.pod ≡ Some line
       → (phase_of (session_of asked.setting p).live.pod.state asked.turns p.calls ≡ phase.Idle) ⊎ ((phase_of (session_of asked.setting p).live.pod.state asked.turns p.calls ≡ phase.Turn) × (tells_take rest ≡ true))
       → (v : Verdict) → DiffersBy v (n + 1) (next_line line) (next_line rest) (is_ended rest) → Says asked bytes v p.takes p.calls

@@ -33,7 +33,7 @@ some-same {A} {x} h = ap un h
     un None = x
     un (Some z) = z
 
--- whoever writes to it a trace that goes on leaves what was recorded and how far it was told
+-- a write of a trace that goes on leaves what was recorded and how far it was told
 pub record Kept (old new : Following) (after : List ℕ) : Type 0 where
   pub recorded : new.recorded ≡ old.recorded
   pub at : new.at ≡ old.at

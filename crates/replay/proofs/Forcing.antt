@@ -113,7 +113,7 @@ module _ {B : Type 0} (asked : Asked B) (bytes : List ℕ) where
   pub closes-told : (p : Moment) → closes true (lines_until asked.setting asked.procs p) ≡ true
   closes-told p = closes-lines (session_of asked.setting p).steps
 
-  -- the first line behind those told
+  -- the first line after those told
   next-line : (p : Moment) (rest more : List ℕ) (n : ℕ) (at : Reach) → Stands asked bytes n p rest → Agree (n + 1) bytes (text_at asked at)
       → text_at asked at ≡ lines_until asked.setting asked.procs p ++ more → Agree 1 rest more
   next-line p rest more n at here agree whole =
@@ -288,7 +288,7 @@ module _ {B : Type 0} (asked : Asked B) (bytes : List ℕ) where
       forced = forced-more (n + line_count (move_lines asked.setting asked.procs p m)) (n + 1) (after_move p m) (omega (arith, some)) forced;
     }
 
-    -- only the first lines of a step were recorded, and no session goes on behind them
+    -- only the first lines of a step were recorded, and no session goes on after them
     pub none-in-step : (m : Move) → Due asked.setting p m → Forced asked bytes (n + 1) (after_move p m) → (front more after : List ℕ) → move_lines asked.setting asked.procs p m ≡ front ++ more → rest ≡ front ++ after
         → closes true front ≡ true → 1 ≤ line_count front → 1 ≤ line_count more → (Agree 1 after more → ⊥)
         → (at : Reach) → IsReached asked at → Agree (n + line_count front + 1) bytes (text_at asked at) → ⊥
@@ -327,7 +327,7 @@ module _ {B : Type 0} (asked : Asked B) (bytes : List ℕ) where
         by_case (Takes u due other more line way) = let w = take-line p rest more u here.made due line in absurd (no-end rest ends (takes-rest p rest w.0 u w.1))
         by_case (Stays same tail) = same
 
-    -- only the first lines of an end were recorded, one at least, and no session goes on behind them
+    -- only the first lines of an end were recorded, one at least, and no session goes on after them
     pub none-in-end : (to : Reach) → IsReached asked to → moment asked to ≡ p → (front more after : List ℕ) → end_of to ≡ front ++ more → rest ≡ front ++ after
         → closes true front ≡ true → 1 ≤ line_count front → (Agree 1 after more → ⊥)
         → (at : Reach) → IsReached asked at → Agree (n + line_count front + 1) bytes (text_at asked at) → ⊥

@@ -1,4 +1,4 @@
--- Every thread has its body: so whoever is chosen speaks.
+-- Every thread has its body: so the thread that is chosen speaks.
 use Rattle.lwp_types.specs.Agents.{deliver, is_event_armed, make_agent}
 use Rattle.lwp_types.specs.Case.{Case, Check, refusal_case, unless}
 use Rattle.lwp_types.specs.Choice.{choice}
@@ -161,7 +161,7 @@ module _ (s : State) (t : ℕ) (u : ℕ) (turn : choice s ≡ Some t) (absent : 
       by_given false true = unborn c (call.ExcNotify e) _ refl
       by_given false false = unborn c (call.Destroy t) _ refl
 
-  -- and with the report behind it
+  -- and with the report after it
   said-bears : (c : Call) (after : State) (es : List Effect) (reports : List ℕ) → BearsIf s t c u after es → BearsIf s t c u (after_rites after es reports).state (after_rites after es reports).effects
   said-bears c after es reports h = by_armed (is_event_armed after rites_event) reports
     where
@@ -199,7 +199,7 @@ event-bears es t c u turn absent high = by_choice (choice es.state) turn
         (let out = after_trap_and_call es.state es.trapped t c es.pending in
         said-bears es.state t u turn absent high c out.state out.effects (reports_after es.state out.state es.reports out.effects) (called-bears es.state t u turn absent high es.trapped c es.pending))
 
--- ---- whoever isn't there and was born stays away, and the number of procedures stays
+-- ---- a thread that was born and isn't there stays away, and the number of procedures stays
 
 record Keeps (u : ℕ) (s after : State) : Type 0 where
   fades : Fades u s after
@@ -470,7 +470,7 @@ module _ {B : Type 0} (setting : Setting B) where
         subst (λ q. Peopled bodies (session_of setting q).live) way.comes
         (peopled_moves way.moves first_moment (IsDefined-zero setting) way.due (subst (λ (s : Session B). Peopled bodies s.live) (sym (play-zero setting)) peopled_opened))
 
--- whoever is chosen has a body, and speaks
+-- the thread that is chosen has a body, and speaks
 pub speaks : {B : Type 0} (asked : Asked B) → IsPeopled asked.setting → Speaks asked
 unfolding move Sessions.call_move
 speaks {B} asked fit p made due =

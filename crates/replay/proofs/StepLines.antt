@@ -112,7 +112,7 @@ glyph-low n = by_test (nat_lt (n % 10) 10)
     by_test true = omega arith
     by_test false = omega arith
 
--- a number begins with no letter, nor does what stands behind it
+-- a number begins with no letter, nor does what follows it
 onto-low : (k n : ℕ) (acc more : List ℕ) → head_of (acc ++ more) < 105 → head_of (digits_onto k 10 false n acc ++ more) < 105
 onto-low zero n acc more low = low
 onto-low (suc k) n acc more low = by_test ((n / 10) == 0) (onto-low k (n / 10) (digit_glyph false (n % 10) ∷ acc) more (glyph-low n))
@@ -179,7 +179,7 @@ pub record FirstSpoken (effects : List Effect) : Type 0 where
   pub are : effects ≡ first ∷ rest
   pub spoken : is_spoken first ≡ true
 
--- a call of whoever was chosen is told first
+-- a call of the thread that was chosen is told first
 step-called : (s : State) (t : ℕ) (c : Call) → choice s ≡ Some t → (es : List Effect) × ((step s c).effects ≡ effect.Called t c ∷ es)
 unfolding step step_by
 step-called s t c is = by_choice (choice s) is
@@ -204,7 +204,7 @@ called-first s trapped t c None is = by_trap (trap_of c)
     by_trap None = by_agent (passes (is_trapped trapped) (agent_event_of c))
     by_trap (Some e) = by_refusal e (trap_refusal s trapped e)
 
--- a report comes behind it
+-- a report comes after it
 said-first : (s : State) (es : List Effect) (reports : List ℕ) → FirstSpoken es → FirstSpoken (after_rites s es reports).effects
 said-first s es reports h = by_armed (is_event_armed s rites_event) reports
   where
@@ -313,7 +313,7 @@ take-first es e text clock may = by_trapped (is_trapped es.trapped e) refl may
 
 -- ---- lines of takes
 
--- what stands behind the client's number
+-- what follows the client's number
 abbrev behind_client : Line → List ℕ → List ℕ
 behind_client line more = codes "seq " ++ (decimal line.seq ++ (with_space line.text ++ more))
 

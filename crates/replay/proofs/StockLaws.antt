@@ -24,7 +24,7 @@ nobody-at zero c = refl
 nobody-at (suc n) zero = refl
 nobody-at (suc n) (suc c) = nobody-at n c
 
--- behind the last line nobody has any
+-- past the last line nobody has any
 pub from-none : (posts : List Line) (place n : ℕ) (all : List (List ℕ)) → place ≡ length posts → all ≡ replicate n [] → AreFrom posts place all
 from-none posts place n all at none c low =
     ap (λ l. map (line_at posts) (slice_index_or l c [])) none ∙ ap (map (line_at posts)) (nobody-at n c)

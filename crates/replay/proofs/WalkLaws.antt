@@ -121,14 +121,14 @@ module _ {B : Type 0} (asked : Asked B) (fit : IsFit asked) (speaks : Speaks ask
   front-is : (m : Move) → Wrote m → take (length f1.step) (drop f1.at f1.recorded) ≡ f1.step → take (length f1.step) rest ≡ f1.step
   front-is m wrote is = ap (λ n. take (length f1.step) (drop n f0.recorded)) (sym (keeps m wrote).at) ∙ ap (λ r. take (length f1.step) (drop f1.at r)) (sym (keeps m wrote).recorded) ∙ is
 
-  -- the place and the count behind a step that was told
+  -- the place and the count after a step that was told
   moved-to : (m : Move) → Wrote m → (f2 : Following) → (q : Moment) (cs : ClientsLeft) (ticks : ℕ) → f2 ≡ record f1 { at = f1.at + length f1.step; lines = f1.lines + line_count f1.step; step = [] }
       → Going asked f0.recorded q cs (f0.at + length f1.step) (f0.lines + line_count f1.step) ticks → Going asked f0.recorded q cs f2.at f2.lines ticks
   moved-to m wrote f2 q cs ticks is going =
       subst (λ n. Going asked f0.recorded q cs n f2.lines ticks) (ap (λ n. n + length f1.step) (sym (keeps m wrote).at) ∙ sym (ap (λ (f : Following). f.at) is))
       (subst (λ n. Going asked f0.recorded q cs (f0.at + length f1.step) n ticks) (ap (λ n. n + line_count f1.step) (sym (keeps m wrote).lines) ∙ sym (ap (λ (f : Following). f.lines) is)) going)
 
-  -- the clock behind it, which is counted later
+  -- the clock after it, which is counted later
   ticks-kept : (m : Move) → Wrote m → (f2 : Following) → f2 ≡ record f1 { at = f1.at + length f1.step; lines = f1.lines + line_count f1.step; step = [] } → f0.ticks ≡ f2.ticks
   ticks-kept m wrote f2 is = sym (ap (λ (f : Following). f.ticks) is ∙ (keeps m wrote).ticks)
 

@@ -57,7 +57,7 @@ session_at asked at = play asked.setting at.takes at.calls
 abbrev pub lines_at : {B : Type 0} → Asked B → Reach → List ℕ
 lines_at asked at = lines asked.procs (session_at asked at).steps
 
--- the same without those of its last step
+-- the lines of all its steps but the last
 abbrev pub lines_before : {B : Type 0} → Asked B → Reach → List ℕ
 lines_before asked at = lines asked.procs (but_last (session_at asked at).steps)
 
@@ -65,7 +65,7 @@ lines_before asked at = lines asked.procs (but_last (session_at asked at).steps)
 abbrev pub halt_at : {B : Type 0} → Asked B → Reach → Option Halt
 halt_at asked at = over asked.turns (session_at asked at).live.pod at.calls (full_shelves asked.clients at.left)
 
--- what stands behind the lines of the last step, if it has ended so; nothing, as long as it goes on
+-- what follows the lines of the last step, if it has ended so; nothing, as long as it goes on
 abbrev pub end_by : {B : Type 0} → Asked B → Reach → Option Halt → List ℕ
 end_by asked at None = []
 end_by asked at (Some halt) = end_text asked.turns (counts_from 0 asked.clients at.left) halt

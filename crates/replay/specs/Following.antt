@@ -15,7 +15,7 @@ pub record Following : Type 0 where
 abbrev pub front_of : Following → List ℕ
 front_of f = length f.recorded ∷ f.at ∷ f.lines ∷ f.ticks ∷ f.recorded
 
--- that, and then all that was told; so whoever writes more of it is known to leave the front as it was
+-- that, and then all that was told; so a write that adds to it is known to leave the front as it was
 abbrev pub bytes_told : Following → List ℕ
 bytes_told f = front_of f ++ (take f.at f.recorded ++ f.step)
 

@@ -44,7 +44,7 @@ abbrev pub EndSays : List ℕ → List ℕ → ℕ → Verdict → Type 0
 EndSays tail rest n (verdict.Same lines) = (rest ≡ tail) × (lines ≡ n + line_count tail)
 EndSays tail rest n (verdict.Differs line want got ended) = EndDiffers tail rest n (verdict.Differs line want got ended)
 
--- behind a step, all of whose lines were told, the walk goes on
+-- after a step, all of whose lines were told, the walk goes on
 pub record Stepped {B P : Type 0} (asked : Asked B) (old : Following) (run : Played P)
     (lines : ClientsLeft) (f : Following) : Type 0 where
   pub going : Going asked old.recorded (moment_of run) lines f.at f.lines f.ticks

@@ -49,11 +49,11 @@ next_of c left = slice_get (of c left) 0
 abbrev pub take_text : ℕ → ℕ → Line → List ℕ
 take_text now e line = if e == 0 then ticked_text (now + 1) line else taken_text e line
 
--- the same, with its newline, of a line that is left
+-- that line with its newline, for the take of a line that is left
 abbrev pub take_lines : ℕ → ℕ → Option Line → Option (List ℕ)
 take_lines now e line = option_map (λ l. ended_line (take_text now e l)) line
 
--- the same of the next line of a client, if it has one left and posts to this event
+-- that of the take of the next line of a client, if it has one left and posts to this event
 abbrev pub take_by : {B : Type 0} → Asked B → ℕ → List Line → ℕ → ℕ → Option (List ℕ)
 take_by asked now left e c = if event_of asked.clients c == e then take_lines now e (next_of c left) else None
 
@@ -106,7 +106,7 @@ abbrev pub want_between : {B : Type 0} → Asked B → Reach → ℕ → List �
 want_between asked at n rest (Some halt) = next_line (behind_lines n (text_at asked at))
 want_between asked at n rest None = next_line (next_lines asked at rest)
 
--- the line that was to come behind the first n, where these bytes were recorded behind them: in the midst of a step its
+-- the line that was to come after the first n, where these bytes were recorded after them: in the midst of a step its
 -- next line
 abbrev pub want_at : {B : Type 0} → Asked B → Reach → ℕ → List ℕ → Option (List ℕ)
 want_at asked at n rest =

@@ -11,7 +11,7 @@ use std::alloc::Global;
 use std::marker::Model;
 
 /// What was recorded, how far it was told so far, of how many lines that is, how often the clock has ticked by then, and the lines
-/// that a step has told since. Of these, what was recorded behind `at` isn't copied: it is `ahead` bytes, and then come those that
+/// that a step has told since. Of these, what was recorded after `at` isn't copied: it is `ahead` bytes, and then come those that
 /// differ from it, if any do. Lines aren't counted before somebody asks.
 #[derive(Drop)]
 pub struct Follower<'b> {
@@ -86,7 +86,7 @@ impl<'b> Follower<'b> {
         }
     }
 
-    /// What was recorded behind them.
+    /// What was recorded after the lines told so far.
     pub fn rest(&self) -> &[u8]
         ensures rest { result.now ≡ drop self.now.at self.now.recorded }
         ensures small { self.now.lines + length result.now < 9223372036854775808 }

@@ -111,7 +111,7 @@ fn called_outcome(difference: Difference, before: u64, after: u64) -> Outcome
     }
 }
 
-// The session is over: what stands behind its last step is compared with all that is recorded behind it.
+// The session is over: what follows its last step is compared with all that is recorded after it.
 fn over_step<'s, B: Polled<'s>, P: Program<B>, C: Posted<'s>>(
     alloc: Global,
     turns: u64,
@@ -224,7 +224,7 @@ fn one_step<'s, B: Polled<'s>, P: Program<B>, C: Posted<'s>>(
     }
 }
 
-/// Follows the recorded lines to the verdict, beside a run and with the lines that its clients have left.
+/// Follows the recorded lines to the verdict, with a run that goes along and the lines that its clients have left.
 pub fn follow<'s, B: Polled<'s>, P: Program<B>, C: Posted<'s>>(
     alloc: Global,
     turns: u64,

@@ -115,7 +115,7 @@ fn take_of<'s, C: Posted<'s>>(
     }
 }
 
-// That of the lowest client of the event.
+// The line of the take of the event's lowest client that has a line left.
 fn lowest_of<'s, C: Posted<'s>>(
     alloc: Global,
     ticks: u64,
@@ -137,7 +137,7 @@ fn lowest_of<'s, C: Posted<'s>>(
     Ok(None)
 }
 
-// The same, if the event waits for a line.
+// That line, if the event waits for a line.
 fn lowest_at<'s, B: Polled<'s>, P: Program<B>, C: Posted<'s>>(
     alloc: Global,
     ticks: u64,
@@ -160,7 +160,7 @@ fn lowest_at<'s, B: Polled<'s>, P: Program<B>, C: Posted<'s>>(
     }
 }
 
-// That of the lowest event that waits and has a line left.
+// That line of the lowest event that waits and has a line left.
 #[inline(never)]
 fn lowest_take<'s, B: Polled<'s>, P: Program<B>, C: Posted<'s>>(
     alloc: Global,

@@ -85,7 +85,7 @@ pub(crate) fn tells_of(
     Ok(begins_with(rest, &wanted) || common_lines(&wanted, rest).lines != 0)
 }
 
-// The client that the line of a take names, behind its third word. It is a guess, by which that client's line is looked at first.
+// The client that the line of a take names, after its third word. It is a guess, by which that client's line is looked at first.
 // Where it is wrong, all are looked at.
 pub(crate) fn named_client(rest: &[u8]) -> usize
     ensures { result ≤ 9999 }

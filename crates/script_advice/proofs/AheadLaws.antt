@@ -1,4 +1,4 @@
--- The lines of a text from its end, and what stands ahead of them.
+-- The lines of a text from its end, and the monitors that are left ahead of them.
 use Rattle.std.proofs.Common.{◌≡◌, ◌+◌, ◌-◌, arith, Bool, length, take, take_all, drop, ℕ, suc, true, false, cond, eqb, List, [], ◌∷◌, ◌++◌, refl, sym, ap, ◌∙◌, append_assoc}
 use Rattle.std.proofs.lemmas.List.{append-nil, get_or-drop, length-drop}
 use Rattle.memchr.specs.Find.{NoneAfter, Passes, is_byte}
@@ -19,7 +19,7 @@ Cut = List (List ℕ) × List ℕ
 
 -- ---- The lines before an end.
 
--- behind an end all lines have ended, and there is one
+-- after an end all lines have ended, and there is one
 pub ended : (xs : List ℕ) → (l : List ℕ) × ((ls : List (List ℕ)) × (line_cut (xs ++ 10 ∷ []) ≡ (l ∷ ls, [])))
 ended [] = ([], ([], refl))
 ended (b ∷ bs) =
@@ -32,7 +32,7 @@ ended (b ∷ bs) =
 onto_lines : (b : ℕ) (ks : List (List ℕ)) (t l : List ℕ) (ls : List (List ℕ)) → ks ≡ l ∷ ls → (onto_first b (ks, t)).0 ≡ (b ∷ l) ∷ ls
 onto_lines b ks t l ls e = rw e refl
 
--- the lines up to an end, and those behind it
+-- the lines up to an end, and those after it
 pub lines_join : (xs ys : List ℕ) → (line_cut (xs ++ 10 ∷ ys)).0 ≡ (line_cut (xs ++ 10 ∷ [])).0 ++ (line_cut ys).0
 lines_join [] ys = refl
 lines_join (b ∷ bs) ys =
@@ -47,7 +47,7 @@ onto_none : (b : ℕ) (ls : List (List ℕ)) (t tl : List ℕ) → onto_first b 
 onto_none b [] t tl e = (refl, let f : b ∷ t ≡ b ∷ tl = ap (λ (c : Cut). c.1) e in cc)
 onto_none b (l ∷ ls) t tl e = absurd (let f : (b ∷ l) ∷ ls ≡ [] = ap (λ (c : Cut). c.0) e in cc)
 
--- a piece without an end is one line where an end is put behind it
+-- a piece without an end is one line where an end is put after it
 pub one_line : (xs : List ℕ) → line_cut xs ≡ ([], xs) → (line_cut (xs ++ 10 ∷ [])).0 ≡ xs ∷ []
 one_line [] e = refl
 one_line (b ∷ bs) e = elim (eqb b 10) as (λ v. cond v ([] ∷ (line_cut bs).0, (line_cut bs).1) (onto_first b (line_cut bs)) ≡ ([], b ∷ bs) → (cond v ([] ∷ (line_cut (bs ++ 10 ∷ [])).0, (line_cut (bs ++ 10 ∷ [])).1) (onto_first b (line_cut (bs ++ 10 ∷ [])))).0 ≡ (b ∷ bs) ∷ []) [
@@ -57,7 +57,7 @@ one_line (b ∷ bs) e = elim (eqb b 10) as (λ v. cond v ([] ∷ (line_cut bs).0
 
 -- ---- The last line.
 
--- no end stands behind the last one
+-- no end comes after the last one
 pub last_tail : (text after : List ℕ) (e : ℕ) → NoneAfter (Passes (is_byte 10) text) 0 (length text) e → after ≡ take (length text - (e + 1)) (drop (e + 1) text) → line_cut after ≡ ([], after)
 last_tail text after e h q =
     let all : after ≡ drop (e + 1) text = q ∙ take_all (length text - (e + 1)) (drop (e + 1) text) (omega (arith, length-drop (e + 1) text)) in

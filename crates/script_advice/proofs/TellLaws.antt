@@ -16,7 +16,7 @@ told_some f d n line why x (suc l) out new others e h i =
     let m : suc l - 1 ≡ l = omega arith in
     rw (e, m, i) (sym (append_assoc out (remark_text f (remark_of d false n why line)) (remarks_text f (take l others))))
 
--- the same of any remark, where more may be told or not
+-- where a remark may be told, one fewer of the others is
 pub told_one : (f : Format) (r : Remark) (left : ℕ) (out new : List ℕ) (others : List Remark) → 0 < left → new ≡ out ++ remark_text f r → out ++ remarks_text f (take left (r ∷ others)) ≡ new ++ remarks_text f (take (left - 1) others)
 told_one f r zero out new others h i = absurd (omega arith)
 told_one f r (suc l) out new others h i =

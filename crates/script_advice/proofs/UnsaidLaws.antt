@@ -21,7 +21,7 @@ use Rattle.script_advice.specs.Slots.{fits, is_built, is_test}
 use Rattle.script_advice.specs.declared.faults.Fault.{Fault}
 use Rattle.script_advice.specs.declared.faults.What.TheVariants as what
 
--- ---- What stands behind a word.
+-- ---- What follows a word.
 
 -- nothing, or a space first
 behind_stops : (w : List ℕ) → Stops 32 (drop (reach 32 w) w)

@@ -67,7 +67,7 @@ told_with d told r line = record {
   undeclared = names_after d told.undeclared r (phrase_at line);
 }
 
--- the same, of a line that has a reason or none
+-- what was told, and a line with a reason or none
 abbrev pub told_after : Declared → Told → List ℕ → Option Reason → Told
 told_after d told line None = told
 told_after d told line (Some r) = told_with d told r line

@@ -65,7 +65,7 @@ IsTold f sink g text = (grade_of text ≡ g) × (sink.new ≡ after_append sink.
 abbrev pub IsCut : Format → Stream → List ℕ → Type 0
 IsCut f sink text = AppendsPart sink.old sink.new (report f text) × IsFaulty sink
 
--- what each end says; want of memory is the one free answer, and nothing was written then
+-- what each end says; out of memory is the one free answer, and nothing was written then
 abbrev pub EndSays : Format → Stream → Stream → CheckEnd → Type 0
 EndSays f source sink (end.Told g) = Says source (IsTold f sink g)
 EndSays f source sink end.Usage = ⊥

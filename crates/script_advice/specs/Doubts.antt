@@ -32,7 +32,7 @@ thread_set op.Create p = p.thread
 thread_set op.Agent p = p.thread
 thread_set _ p = []
 
--- the same, if it doesn't
+-- the thread that a line names, if it doesn't set the name
 abbrev pub thread_used : Op → Phrase → List ℕ
 thread_used op.Create p = []
 thread_used op.Agent p = []
@@ -123,7 +123,7 @@ sets_of text = fold sets_on no_sets (line_cut text).0
 abbrev pub no_way : Way
 no_way = record { begun = false; skipped = false; closed = false }
 
--- how it goes on behind a line: a `return` closes the way, unless a `skip` may pass over it
+-- how it goes on after a line: a `return` closes the way, unless a `skip` may pass over it
 abbrev pub way_by : Role → Op → Way → Way
 way_by role.Proc o w = record { begun = true; skipped = false; closed = false }
 way_by role.Skip o w = record { begun = w.begun; skipped = true; closed = false }
@@ -137,7 +137,7 @@ way_by _ o w = w
 abbrev pub way_behind : Way → Phrase → Way
 way_behind w p = way_by (role_of p.op) p.op w
 
--- ---- What stands ahead in a procedure.
+-- ---- The way ahead in a procedure.
 
 -- the monitor that a line enters
 abbrev pub monitor_entered : Op → Phrase → List ℕ
@@ -159,14 +159,14 @@ no_ahead = record { strays = false; left = [] }
 abbrev pub stray_ahead : Ahead
 stray_ahead = record { strays = true; left = [] }
 
--- what stands ahead of a statement, and the statement
+-- the way ahead from a statement on
 abbrev pub ahead_after_statement : Op → Phrase → Ahead → Ahead
 ahead_after_statement op.Return p a = no_ahead
 ahead_after_statement op.CallProc p a = stray_ahead
 ahead_after_statement op.Raise p a = stray_ahead
 ahead_after_statement o p a = record { strays = a.strays; left = enter a.left (monitor_left o p) }
 
--- the same of a line that plays this part
+-- the way ahead from a line of this role on
 abbrev pub ahead_by : Role → Op → Phrase → Ahead → Ahead
 ahead_by role.Statement o p a = ahead_after_statement o p a
 ahead_by role.Skip o p a = stray_ahead
@@ -177,7 +177,7 @@ abbrev pub ahead_after_line : Option Phrase → Ahead → Ahead
 ahead_after_line None a = a
 ahead_after_line (Some p) a = ahead_by (role_of p.op) p.op p a
 
--- what the way leaves from the first of these lines on, where it leaves this behind the last
+-- the way ahead from the first of these lines on, where this is the way ahead after the last
 abbrev pub ahead_of : Ahead → List (List ℕ) → Ahead
 ahead_of a [] = a
 ahead_of a (line ∷ lines) = ahead_after_line (phrase_at line) (ahead_of a lines)
@@ -266,7 +266,7 @@ abbrev pub with_doubt : Sets → ℕ → List ℕ → Phrase → Option Doubt �
 with_doubt s n line p None others = others
 with_doubt s n line p (Some d) others = doubt_remark s n line p d ∷ others
 
--- how the way goes on behind a line, by what it says
+-- how the way goes on after a line, by what it says
 abbrev pub way_after_line : Way → Option Phrase → Way
 way_after_line w None = w
 way_after_line w (Some p) = way_behind w p

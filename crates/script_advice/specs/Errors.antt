@@ -1,4 +1,4 @@
--- The errors of a text: its first bad line, and the lines behind it that are bad by themselves.
+-- The errors of a text: its first bad line, and the lines after it that are bad by themselves.
 use Rattle.std.specs.Prelude.{ℕ, suc, ◌-◌, ◌==◌, List, [], false, ◌||◌, ◌∷◌, ◌++◌, drop, fold, take, Option, Some, None, Result, Ok, Err, if◌then◌else◌}
 use Rattle.lwp_types.specs.TextFields.{is_printable}
 use Rattle.script_lines.specs.Phrase.{Phrase}
@@ -48,7 +48,7 @@ later d told n (line ∷ lines) tail =
     let why : Option Reason = alone d told.undeclared seen in
     with_error d n seen why (later d (told_after d told seen why) (suc n) lines tail)
 
--- the errors from the first bad line on, which is the first of these, or what stands behind them; these stand above it
+-- the errors from the first bad line on, which is the first of these, or the tail after them; above it are the lines `above`
 abbrev pub from_first : Declared → List (List ℕ) → ℕ → Reason → List (List ℕ) → List ℕ → List Remark
 from_first d above n why [] tail = remark_of d false n why tail ∷ []
 from_first d above n why (line ∷ lines) tail = remark_of d (any_declares why above (phrase_at line)) n why line
@@ -62,7 +62,7 @@ declared_after d line = after_note d (without_return line)
 abbrev pub declared_by : List ℕ → Declared
 declared_by text = fold declared_after nothing ((line_cut text).0 ++ (line_cut text).1 ∷ [])
 
--- the errors of a text whose first bad line is this; line 0 stands for the whole
+-- the errors of a text whose first bad line is this; line 0 means the whole text
 unfoldable pub errors_at : List ℕ → ℕ → Reason → List Remark
 errors_at text n why =
     if n == 0 then remark_of (declared_by text) false 0 why [] ∷ []

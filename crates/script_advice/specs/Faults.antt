@@ -84,19 +84,19 @@ slot_fault kind.Test rest = rest_fault kind.Test is_test rest
 slot_fault kind.Built rest = rest_fault kind.Built is_built rest
 slot_fault k rest = word_fault k rest
 
--- what is left behind a space and a word
+-- what is left after a space and a word
 abbrev pub behind_word : List ℕ → List ℕ
 behind_word [] = []
 behind_word (b ∷ words) = drop (reach 32 words) words
 
--- what is left behind a slot: a text, a condition and what a built-in procedure is take all
+-- what is left after a slot: a text, a condition and what a built-in procedure is take all
 abbrev pub behind_slot : Kind → List ℕ → List ℕ
 behind_slot kind.Text rest = []
 behind_slot kind.Test rest = []
 behind_slot kind.Built rest = []
 behind_slot k rest = behind_word rest
 
--- the fault of what stands behind all slots
+-- the fault of what follows all slots
 abbrev pub end_fault : List ℕ → Option Fault
 end_fault [] = None
 end_fault (b ∷ words) = wrong what.More words
@@ -112,7 +112,7 @@ slots_fault (k ∷ ks) rest = or_else (slot_fault k rest) (slots_fault ks (behin
 abbrev pub opens_comment : ℕ → Bool
 opens_comment b = b == 35 || b == 45 || b == 47 || b == 59
 
--- the fault of what stands behind a first word that wants a second one
+-- the fault of what follows a first word that needs a second one
 abbrev pub second_fault : List ℕ → Option Fault
 second_fault [] = Some (fault_at [] what.Lacking)
 second_fault (b ∷ words) = wrong what.Unknown words

@@ -32,7 +32,7 @@ procedure_word op.Proc = codes "NAME"
 procedure_word op.Native = codes "NAME"
 procedure_word _ = codes "PROC"
 
--- what stands in a slot
+-- the word that describes a slot
 unfoldable pub slot_word : Op → Kind → List ℕ
 slot_word o kind.Thread = codes "NAME"
 slot_word o kind.Who = codes "T"
@@ -53,7 +53,7 @@ slot_word o kind.Test = codes "COND"
 slot_word o kind.Built = codes "store|session E T"
 slot_word o kind.Text = codes "TEXT"
 
--- the form of a line: its key, and a word for each slot behind a space
+-- the form of a line: its key, and a word for each slot after a space
 abbrev pub form : Op → List ℕ
 form o = key_of o ++ flat_map (λ k. 32 ∷ slot_word o k) (slots_of o)
 

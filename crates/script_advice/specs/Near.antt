@@ -11,17 +11,17 @@ behind_first (b ∷ bs) = bs
 abbrev pub is_edited : (List ℕ → List ℕ → Bool) → List ℕ → List ℕ → Bool
 is_edited alike v w = alike (behind_first v) (behind_first w) || alike v (behind_first w) || alike (behind_first v) w
 
--- the same, at the place where the words first differ
+-- `is_edited`, from where the words first differ
 abbrev pub is_edited_once : (List ℕ → List ℕ → Bool) → List ℕ → List ℕ → Bool
 is_edited_once alike [] w = is_edited alike [] w
 is_edited_once alike (b ∷ v) [] = is_edited alike (b ∷ v) []
 is_edited_once alike (b ∷ v) (c ∷ w) = if b == c then is_edited_once alike v w else is_edited alike (b ∷ v) (c ∷ w)
 
--- the words are the same, but for one edit at most
+-- the words are equal, but for one edit at most
 abbrev pub one_apart : List ℕ → List ℕ → Bool
 one_apart v w = is_edited_once bytes_eq v w
 
--- the words are the same, but for two edits at most
+-- the words are equal, but for two edits at most
 abbrev pub two_apart : List ℕ → List ℕ → Bool
 two_apart v w = is_edited_once one_apart v w
 

@@ -1,4 +1,4 @@
--- What is told of a line: where, what stands there, and what may.
+-- What is told of a line: where the fault is, the word found there, and what may be there.
 use Rattle.std.specs.Prelude.{ℕ, Bool, true, false, not, ◌&&◌, List, [], length, take, Option, Some, None, codes, if◌then◌else◌}
 use denote.Enum.Bare.{sameb}
 use Rattle.script_lines.specs.declared.table.Kind.TheVariants as kind

@@ -8,12 +8,12 @@ use Rattle.script_advice.specs.Remarks.{Remark, cause_text, severity_text, why_t
 use Rattle.script_advice.specs.declared.texts.Format.{Format}
 use Rattle.script_advice.specs.declared.texts.Format.TheVariants as format
 
--- a text behind this one, if there is any
+-- a text after this one, if there is any
 abbrev pub with_label : List ℕ → List ℕ → List ℕ → List ℕ
 with_label front [] end = []
 with_label front (b ∷ bs) end = front ++ ((b ∷ bs) ++ end)
 
--- the form of this kind of line behind this text, if there is one
+-- the form of this kind of line after this text, if there is one
 abbrev pub labelled_form : List ℕ → Option Op → List ℕ → List ℕ
 labelled_form front None end = []
 labelled_form front (Some o) end = front ++ (form o ++ end)
@@ -28,11 +28,11 @@ column r = length r.text - r.place.left
 abbrev pub shown_byte : ℕ → ℕ
 shown_byte b = if nat_le 32 b && nat_le b 126 then b else 63
 
--- what stands under a byte that is before the wrong word: a space
+-- the byte under one that is before the wrong word: a space
 abbrev pub under : ℕ → ℕ
 under b = 32
 
--- the line, and a caret behind so many bytes of the next; nothing, where the line is empty
+-- the line, and a caret after so many bytes of the next; nothing, where the line is empty
 abbrev pub line_with_caret : List ℕ → ℕ → List ℕ
 line_with_caret [] at = []
 line_with_caret (b ∷ bs) at = codes "  "
@@ -77,6 +77,6 @@ abbrev pub remark_text : Format → Remark → List ℕ
 remark_text format.Plain r = plain_text r
 remark_text format.Json r = json_text r
 
--- so many of them, one behind the other
+-- so many of them, one after the other
 abbrev pub remarks_text : Format → List Remark → List ℕ
 remarks_text f remarks = flat_map (λ r. remark_text f r) remarks

@@ -26,7 +26,7 @@ fn doubted_grade(doubtful: bool) -> Grade
     if doubtful { Grade::Warned } else { Grade::Fine }
 }
 
-/// Puts all that is told of a text behind the bytes so far, and gives the text's grade.
+/// Appends all that is told of a text to the bytes so far, and gives the text's grade.
 #[tactic(auto, unfolding(crate::specs::Advice::report, crate::specs::Advice::grade_of))]
 pub fn add_report(
     alloc: Global,

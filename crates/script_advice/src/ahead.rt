@@ -1,4 +1,4 @@
-// What stands ahead of a line in its procedure.
+// The way ahead of a line in its procedure, and the monitors that are left on it.
 ghost use Rattle.std.specs.Prelude.{◌≡◌, ◌++◌, ◌∷◌, [], IfOk, OnOk, Some};
 ghost use Rattle.script_lines.specs.Reading.{phrase_at};
 ghost use Rattle.script_text.specs.Spelling.{line_cut};
@@ -16,7 +16,7 @@ pub struct Ahead {
     pub left: NameList,
 }
 
-// By hand, so that whoever drops this calls it.
+// PROVER: written by hand, so that a function that drops this calls it instead of repeating its proof.
 impl Drop for Ahead {
     fn drop(self) {
         let Ahead { strays: _, left: _ } = self;

@@ -92,7 +92,7 @@ fn tell<S: Source, K: Sink>(alloc: Global, format: Format, source: &mut S, sink:
     }
 }
 
-/// Reads a script and writes what is wrong with it, by the program's words, which stand behind its name: none, or `--json`. Other
+/// Reads a script and writes what is wrong with it, by the program's words, which follow its name: none, or `--json`. Other
 /// words are no command: nothing is read or written then.
 pub fn check<S: Source, K: Sink>(
     alloc: Global,

@@ -195,7 +195,7 @@ fn add_counted(
     Ok(walk.left - 1)
 }
 
-// Tells what is doubtful in a line, and goes on behind it.
+// Tells what is doubtful in a line, and goes on after it.
 fn add_line(
     out: &mut Vec<u8>,
     format: Format,

@@ -1,4 +1,4 @@
-// The errors of a text are told: its first bad line, and the lines behind it that are bad by themselves.
+// The errors of a text are told: its first bad line, and the lines after it that are bad by themselves.
 ghost use Rattle.std.specs.Prelude.{◌≡◌, ◌++◌, ◌∷◌, ◌<◌, None, IfOk, OnOk, List, suc, take};
 ghost use Rattle.script_lines.specs.Reading.{phrase_at};
 ghost use Rattle.script_text.specs.Spelling.{line_cut, reason_of};

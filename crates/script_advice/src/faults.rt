@@ -38,7 +38,7 @@ pub enum What {
     More,
     /// A number with a zero in front.
     Zero,
-    /// What stands in this slot may not stand there.
+    /// What is in this slot may not be there.
     Slot(Kind),
 }
 
@@ -211,7 +211,7 @@ fn slot_fault(kind: Kind, rest: &[u8]) -> Option<Fault>
     }
 }
 
-// What is left behind a space and a word.
+// What is left after a space and a word.
 fn behind_word(rest: &[u8]) -> &[u8]
     ensures { result.now ≡ behind_word rest.now }
 {
@@ -221,7 +221,7 @@ fn behind_word(rest: &[u8]) -> &[u8]
     }
 }
 
-// What is left behind a slot.
+// What is left after a slot.
 fn behind_slot(kind: Kind, rest: &[u8]) -> &[u8]
     ensures { result.now ≡ behind_slot kind rest.now }
 {
@@ -231,7 +231,7 @@ fn behind_slot(kind: Kind, rest: &[u8]) -> &[u8]
     }
 }
 
-// The fault of what stands behind all slots.
+// The fault of what follows all slots.
 fn end_fault(rest: &[u8]) -> Option<Fault>
     ensures { result ≡ end_fault rest.now }
 {
@@ -269,7 +269,7 @@ fn is_half(word: &[u8]) -> bool
     word == b"limit".as_slice() || word == b"onexit".as_slice()
 }
 
-// The fault of what stands behind a first word that wants a second one.
+// The fault of what follows a first word that needs a second one.
 fn second_fault(rest: &[u8]) -> Option<Fault>
     ensures { result ≡ second_fault rest.now }
 {
@@ -311,7 +311,7 @@ fn key_length(line: &[u8]) -> usize
     first + 1 + reach(b' ', &line[first + 1..])
 }
 
-// The key of a line, and what stands behind it.
+// The key of a line, and what follows it.
 #[tactic(auto, using(std::proofs::lemmas::List::take_min, std::proofs::lemmas::List::drop_min))]
 fn split_key(line: &[u8]) -> (&[u8], &[u8])
     ensures key { result.0.now ≡ take (key_length line.now) line.now }

@@ -47,7 +47,7 @@ fn procedure_word(op: Op) -> &'static [u8]
     }
 }
 
-// What stands in a slot.
+// The word that describes a slot.
 #[tactic(auto, unfolding(crate::specs::Forms::slot_word))]
 fn slot_word(op: Op, kind: Kind) -> &'static [u8]
     ensures { result.now ≡ slot_word op kind }
@@ -74,7 +74,7 @@ fn slot_word(op: Op, kind: Kind) -> &'static [u8]
     }
 }
 
-// A word for each of these slots, behind a space.
+// A word for each of these slots, after a space.
 fn add_slots(out: &mut Vec<u8>, op: Op, kinds: &[Kind]) -> Result<(), NoMemory>
     ensures { OnOk result
         (out.new.items ≡ out.old.items ++ flat_map (λ k. 32 ∷ slot_word op k) kinds.now) }
@@ -86,7 +86,7 @@ fn add_slots(out: &mut Vec<u8>, op: Op, kinds: &[Kind]) -> Result<(), NoMemory>
     Ok(())
 }
 
-/// Puts the form of a line behind the bytes so far: its key, and a word for each slot.
+/// Appends the form of a line to the bytes so far: its key, and a word for each slot.
 pub fn add_form(out: &mut Vec<u8>, op: Op) -> Result<(), NoMemory>
     ensures { OnOk result (out.new.items ≡ out.old.items ++ form op) }
 {

@@ -24,7 +24,7 @@ impl Model for Known {
     ghost view = { λ k. record { procs = k.procs; natives = k.natives } };
 }
 
-// By hand, so that whoever drops these calls this.
+// PROVER: written by hand, so that a function that drops these calls this instead of repeating its proof.
 impl Drop for Known {
     fn drop(self) {
         let Known {
@@ -51,7 +51,7 @@ pub fn proc_on(line: &[u8]) -> &[u8]
     }
 }
 
-// The first word, if a space stands behind it.
+// The first word, if a space follows it.
 fn spaced_word(words: &[u8]) -> &[u8]
     ensures { result.now ≡ spaced_word words.now }
 {

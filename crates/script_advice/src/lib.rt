@@ -1,7 +1,7 @@
 //! What is wrong in a script, told so that it can be mended.
 //!
 //! `check` reads a text and writes what is told of it. Where the text spells no script, its first bad line is told, with the reader's
-//! number and reason, and behind it each line that is bad by itself: the line, its first wrong word, what is wrong with that, what may
+//! number and reason, and after it each line that is bad by itself: the line, its first wrong word, what is wrong with that, what may
 //! stand there, and a known word that it nearly is. An undeclared procedure is told once, and so is a carriage return that ends lines
 //! (`told`); what the lines above the first bad one declare says which part of a rule it breaks (`above`). Where the text spells a script,
 //! lines are told that are allowed and hardly meant. No more than a thousand lines are told. `no_errors_where_spelt`,
@@ -11,7 +11,7 @@
 //! What is wrong in a line by itself is a matter of `faults`, with `slots`, `forms`, `near` and `what_texts`. A line that isn't the text
 //! of a phrase has a first word that may not stand where it does, or ends too early. `fault_of` finds it, going over the slots of the
 //! line's row as the reader of lines does, and it finds one exactly where the reader takes the line for none (`faults_are_unsaid`, a
-//! law). `add_form` writes what may stand in a line of a kind, and `nearest_op` finds the kind whose key is nearly what stands there.
+//! law). `add_form` writes what may be in a line of a kind, and `nearest_op` finds the kind whose key is nearly what is there.
 //!
 //! The crate stands on `script_text`, whose verdict this is, on `script_lines`, whose table of lines is the only one, on the buffers of
 //! `trace_text`, and reads and writes by `streams`.

@@ -4,7 +4,7 @@ ghost use Rattle.script_text.specs.Spelling.{line_cut};
 
 use memchr::{memchr, memrchr};
 
-/// The first line and what stands behind its end.
+/// The first line and the bytes after its end.
 pub fn first_line(text: &[u8]) -> Option<(&[u8], &[u8])>
     ensures some { IfSome result
         (λ x. line_cut text.now ≡ (x.0.now ∷ (line_cut x.1.now).0, (line_cut x.1.now).1)) }
@@ -17,7 +17,7 @@ pub fn first_line(text: &[u8]) -> Option<(&[u8], &[u8])>
     }
 }
 
-// What stands before the last newline, and what behind it.
+// The bytes before the last newline, and those after it.
 fn last_end(text: &[u8]) -> Option<(&[u8], &[u8])>
     ensures some { IfSome result (λ x. text.now ≡ x.0.now ++ 10 ∷ x.1.now) }
     ensures tail { IfSome result (λ x. line_cut x.1.now ≡ ([], x.1.now)) }
@@ -29,7 +29,7 @@ fn last_end(text: &[u8]) -> Option<(&[u8], &[u8])>
     }
 }
 
-/// What stands before the last line that has ended, and that line.
+/// The text before the last line that has ended, and that line.
 pub fn last_line(text: &[u8]) -> Option<(&[u8], &[u8])>
     ensures some { IfSome result (λ x. (line_cut text.now).0 ≡ (line_cut x.0.now).0 ++ x.1.now ∷ []) }
     ensures shorter { IfSome result (λ x. length x.0.now < length text.now) }
@@ -42,7 +42,7 @@ pub fn last_line(text: &[u8]) -> Option<(&[u8], &[u8])>
     }
 }
 
-/// What stands behind so many lines; where there are fewer, what stands behind all of them.
+/// The text after so many lines; where there are fewer, the text after all of them.
 pub fn behind_lines(count: u32, text: &[u8]) -> &[u8]
     ensures lines { (line_cut result.now).0 ≡ drop count (line_cut text.now).0 }
     ensures tail { (line_cut result.now).1 ≡ (line_cut text.now).1 }

@@ -12,7 +12,7 @@ pub(crate) fn behind_first(word: &[u8]) -> &[u8]
     }
 }
 
-// What is left of two words behind the bytes with which both begin.
+// What is left of two words after the bytes with which both begin.
 fn parted<'v, 'w>(v: &'v [u8], w: &'w [u8]) -> (&'v [u8], &'w [u8])
     ensures { (alike : List ℕ → List ℕ → Bool) →
         is_edited_once alike v.now w.now ≡ is_edited alike result.0.now result.1.now }
@@ -31,7 +31,7 @@ fn parted<'v, 'w>(v: &'v [u8], w: &'w [u8]) -> (&'v [u8], &'w [u8])
     (left, other)
 }
 
-/// Whether the words are the same, but for one byte at most that is changed, put in or left out.
+/// Whether the words are equal, but for one byte at most that is changed, put in or left out.
 pub fn one_apart(v: &[u8], w: &[u8]) -> bool
     ensures { result ≡ one_apart v.now w.now }
 {
@@ -39,7 +39,7 @@ pub fn one_apart(v: &[u8], w: &[u8]) -> bool
     behind_first(v) == behind_first(w) || v == behind_first(w) || behind_first(v) == w
 }
 
-/// The same, but for two such bytes at most.
+/// Whether the words are equal, but for two such bytes at most.
 pub fn two_apart(v: &[u8], w: &[u8]) -> bool
     ensures { result ≡ two_apart v.now w.now }
 {

@@ -1,4 +1,4 @@
-// What is told of a line: where, what stands there, and what may.
+// What is told of a line: where the fault is, the word found there, and what may be there.
 ghost use Rattle.std.specs.Prelude.{◌≡◌};
 ghost use Rattle.script_lines.specs.Reading.{phrase_at};
 ghost use Rattle.script_advice.specs.Remarks.{cause_text, doubt_text, doubted_text, fault_place, form_of, is_of_text, key_or_none, likely_op, near_form, near_key, near_of, near_procedure, place_at, place_of, reason_text, remark_of, rule_text, place_of_phrase, severity_text, starts_nothing, why_text, broken_rule, place_by, words_at};
@@ -94,7 +94,7 @@ impl<'t> Model for Remark<'t> {
     } };
 }
 
-// By hand, so that whoever drops a remark calls this.
+// PROVER: written by hand, so that a function that drops a remark calls this instead of repeating its proof.
 impl<'t> Drop for Remark<'t> {
     fn drop(self) {
         let Remark {

@@ -9,7 +9,7 @@ use script_text::NameList;
 use std::alloc::Global;
 
 /// The names that lines set, the monitors that their exit procedures leave, the procedures that they start, the events that they ask for,
-/// and the greatest priority that they give the pod; 0 stands for a line that asks for no event.
+/// and the greatest priority that they give the pod; 0 means a line that asks for no event.
 pub struct Sets {
     pub threads: NameList,
     pub monitors: NameList,
@@ -20,7 +20,7 @@ pub struct Sets {
     pub most: u32,
 }
 
-// By hand, so that whoever drops these calls this.
+// PROVER: written by hand, so that a function that drops these calls this instead of repeating its proof.
 impl Drop for Sets {
     fn drop(self) {
         let Sets {

@@ -1,4 +1,4 @@
-// How a remark is written. Each function puts its part behind the bytes so far.
+// How a remark is written. Each function appends its part to the bytes so far.
 ghost use Rattle.std.specs.Prelude.{◌≡◌, ◌++◌, OnOk, map};
 ghost use Rattle.script_advice.specs.Texts.{advice_text, column, head_text, json_advice, json_place, json_reason, json_text, labelled_form, line_with_caret, plain_text, remark_text, shown_byte, under, with_label};
 
@@ -15,7 +15,7 @@ pub enum Format {
     Json,
 }
 
-// A text behind this one, if there is any.
+// A text after this one, if there is any.
 fn add_labelled(out: &mut Vec<u8>, front: &[u8], text: &[u8], end: &[u8]) -> Result<(), NoMemory>
     ensures { OnOk result (out.new.items ≡ out.old.items ++ with_label front.now text.now end.now) }
 {
@@ -27,7 +27,7 @@ fn add_labelled(out: &mut Vec<u8>, front: &[u8], text: &[u8], end: &[u8]) -> Res
     add_text(out, end)
 }
 
-// The form of this kind of line behind this text, if there is one.
+// The form of this kind of line after this text, if there is one.
 fn add_labelled_form(
     out: &mut Vec<u8>,
     front: &[u8],
@@ -44,7 +44,7 @@ fn add_labelled_form(
     add_text(out, end)
 }
 
-// How many bytes of the line stand before the wrong word.
+// How many bytes of the line come before the wrong word.
 fn column(remark: &Remark<'_>) -> usize
     ensures { result ≡ column remark.now }
 {
@@ -64,14 +64,14 @@ fn add_shown(out: &mut Vec<u8>, bytes: &[u8]) -> Result<(), NoMemory>
     Ok(())
 }
 
-// What stands under a byte that is before the wrong word.
+// The byte under one that is before the wrong word.
 fn under(_byte: u8) -> u8
     ensures { result ≡ under _byte }
 {
     b' '
 }
 
-// What stands under these bytes.
+// The bytes under these.
 fn add_under(out: &mut Vec<u8>, bytes: &[u8]) -> Result<(), NoMemory>
     ensures { OnOk result (out.new.items ≡ out.old.items ++ map under bytes.now) }
 {
@@ -81,7 +81,7 @@ fn add_under(out: &mut Vec<u8>, bytes: &[u8]) -> Result<(), NoMemory>
     Ok(())
 }
 
-// The line, and a caret behind so many bytes of the next; nothing, where the line is empty.
+// The line, and a caret after so many bytes of the next; nothing, where the line is empty.
 fn add_quoted(out: &mut Vec<u8>, text: &[u8], at: usize) -> Result<(), NoMemory>
     ensures { OnOk result (out.new.items ≡ out.old.items ++ line_with_caret text.now at) }
 {
@@ -108,7 +108,7 @@ fn add_head(out: &mut Vec<u8>, remark: &Remark<'_>) -> Result<(), NoMemory>
     add_text(out, b"\n")
 }
 
-// What is wrong, what may stand there, and what nearly does.
+// What is wrong, what may be there, and the known word that it nearly is.
 #[tactic(auto, unfolding(crate::specs::Texts::advice_text))]
 fn add_advice(out: &mut Vec<u8>, remark: &Remark<'_>) -> Result<(), NoMemory>
     ensures { OnOk result (out.new.items ≡ out.old.items ++ advice_text remark.now) }

@@ -16,7 +16,7 @@ pub struct Told {
     pub undeclared: NameList,
 }
 
-// By hand, so that anyone who drops this calls it.
+// PROVER: written by hand, so that a function that drops this calls it instead of repeating its proof.
 impl Drop for Told {
     fn drop(self) {
         let Told {

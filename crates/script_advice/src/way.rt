@@ -24,7 +24,7 @@ impl Way {
         }
     }
 
-    // Behind a line of this role.
+    // After a line of this role.
     fn by(self, role: Role, op: Op) -> Way
         ensures { result ≡ way_by role op self }
     {
@@ -48,7 +48,7 @@ impl Way {
         }
     }
 
-    /// Behind one more line.
+    /// After one more line.
     pub fn behind(self, phrase: &Phrase<'_>) -> Way
         ensures { result ≡ way_behind self phrase.now }
     {

@@ -5,7 +5,7 @@ ghost use Rattle.script_advice.specs.WhatTexts.{kind_text, what_text};
 use crate::faults::What;
 use script_lines::Kind;
 
-// What may stand in a slot, where something else stands.
+// What may be in a slot, where something else is.
 fn kind_text(kind: Kind) -> &'static [u8]
     ensures { result.now ≡ kind_text kind }
 {

@@ -71,7 +71,7 @@ line_taken lines left places e i n place h there known first i_is n_is =
 pub none_taken : (places : List (Shelf ℕ)) (e : ℕ) → first_left places e ≡ None → after_take_from places e ≡ places
 none_taken places e none = taken_none places e none
 
--- ---- the line that a place stands for
+-- ---- the line that a place means
 
 pub line-at : (script : Script) (i : ℕ) (post : Post) → slice_get script.posts i ≡ Some post → line_at (lines_posted script) i ≡ line_of script.texts post
 line-at script i post is =

@@ -1,4 +1,4 @@
--- Where a number stands in two lists, one behind the other.
+-- Where a number is in two lists, one after the other.
 use Rattle.std.proofs.Common.{◌≡◌, ◌<◌, ◌≤◌, ◌+◌, ℕ, List, [], ◌∷◌, ◌++◌, length, arith}
 use Rattle.std.proofs.lemmas.Bool.Decides.{nat_tests}
 use Rattle.script_text.specs.Script.{place_in}

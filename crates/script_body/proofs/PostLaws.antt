@@ -38,7 +38,7 @@ IsLow e = e ≤ 31
 abbrev of_posts : List (List ℕ) → ℕ → List Post → List Line
 of_posts texts c posts = of c (map (line_of texts) posts)
 
--- what holds behind so many lines
+-- what holds after so many lines
 record Posted (n : ℕ) (d : Draft) : Type 0 where
   counts : length d.posted ≡ length d.script.clients
   most : length d.script.clients ≤ 16

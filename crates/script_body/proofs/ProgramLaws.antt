@@ -40,7 +40,7 @@ native-in i d [] h = absurd (omega (arith, h))
 native-in zero d (m ∷ natives) h = refl
 native-in (suc i) d (m ∷ natives) h = native-in i d natives (omega (arith, h))
 
--- a number behind those of the procedures of statements, whatever would stand for a native that isn't there
+-- a number after those of the procedures of statements, whatever a look past the natives would give
 native-at : (script : Script) (n i : ℕ) (d : Native) (ps : List Proc) (natives : List Native) → length ps ≤ i → i < length ps + length natives
     → slice_get (proc_bodies script n ps ++ map (λ m. native_body m.kind) natives) i ≡ Some (native_body (slice_index_or natives (i - length ps) d).kind)
 native-at script n i d [] natives h less = native-in i d natives (omega (arith, less)) ∙ ap (λ k. Some (native_body (slice_index_or natives k d).kind)) (omega arith)
@@ -64,7 +64,7 @@ built-at script seen i n d natives body h many all past less is = ap (λ s. slic
 
 -- ---- the names
 
--- the place of a name of a procedure of statements, whatever would stand for one that isn't there
+-- the place of the name of a procedure of statements, whatever a look past these would give
 pub proc-place : (i : ℕ) (d : Proc) (ps : List Proc) (rest : List ℕ) → i < length ps → slice_index (map (λ p. p.name) ps ++ rest) i ≡ (slice_index_or ps i d).name
 proc-place i d [] rest less = absurd (omega (arith, less))
 proc-place zero d (p ∷ ps) rest less = refl
@@ -75,7 +75,7 @@ native-name i d [] less = absurd (omega (arith, less))
 native-name zero d (m ∷ natives) less = refl
 native-name (suc i) d (m ∷ natives) less = native-name i d natives (omega (arith, less))
 
--- the same of a built-in one
+-- the place of the name of a built-in procedure
 pub native-place : (i : ℕ) (d : Native) (ps : List Proc) (natives : List Native) → length ps ≤ i → i < length ps + length natives
     → slice_index (map (λ p. p.name) ps ++ map (λ m. m.name) natives) i ≡ (slice_index_or natives (i - length ps) d).name
 native-place i d [] natives h less = native-name i d natives (omega (arith, less)) ∙ ap (λ k. (slice_index_or natives k d).name) (omega arith)

@@ -1,4 +1,4 @@
--- What the statements of a script call: a name is the id that it stands for, and a text the one at its place.
+-- What the statements of a script call: a name means its id, and a text is the one at its place.
 use Rattle.lwp_types.specs.Names.{Names, id_at, null_id}
 use Rattle.lwp_types.specs.declared.call.Call.{Call}
 use Rattle.lwp_types.specs.declared.call.ExitCall.{ExitCall}
@@ -62,7 +62,7 @@ plain_call texts (stmt.Say n) = call.Say (text_at texts n)
 plain_call texts stmt.Return = call.Return
 plain_call texts _ = call.Return
 
--- the same, or a statement that names monitors or conditions
+-- a statement that names monitors or conditions, or nothing
 abbrev pub lock_call : List (List ℕ) → ℕ → Names → Stmt → Call
 lock_call texts sender names (stmt.CvCreate c m) = call.CvCreate (id_at names.monitors m)
 lock_call texts sender names (stmt.MonDestroy m) = call.MonDestroy (id_at names.monitors m)
@@ -79,7 +79,7 @@ lock_call texts sender names (stmt.CvSend c w) = call.CvSend (id_at names.condit
 lock_call texts sender names (stmt.CvWaiters c) = call.CvWaiters (id_at names.conditions c)
 lock_call texts sender names s = plain_call texts s
 
--- the same, or a statement that names threads
+-- a statement that names threads, or anything but procedures
 abbrev pub thread_call : List (List ℕ) → ℕ → Names → Stmt → Call
 thread_call texts sender names (stmt.Destroy w) = call.Destroy (who_id sender names w)
 thread_call texts sender names (stmt.Ping w) = call.Ping (who_id sender names w)
@@ -94,7 +94,7 @@ thread_call texts sender names (stmt.Reply w n) = call.Reply (who_id sender name
 thread_call texts sender names (stmt.OnExit x) = call.OnExit (exit_call_of texts sender names x)
 thread_call texts sender names s = lock_call texts sender names s
 
--- the same, or a statement that names a procedure: what any statement calls
+-- what any statement calls, one that names a procedure among them
 abbrev pub call_of : Script → ℕ → Names → Stmt → Call
 call_of script sender names (stmt.Create name number prio flags) = call.Create (proc_number script number) prio flags
 call_of script sender names (stmt.CallProc number) = call.CallProc (proc_number script number)

@@ -1,7 +1,7 @@
 -- A procedure that was begun and hasn't returned.
 use Rattle.std.specs.Prelude.{List, [], length, take, ℕ, ◌++◌, ◌-◌, ◌∷◌}
 
--- its number, the place of its next statement, and for each of its handlers, first to last, the place behind it
+-- its number, the place of its next statement, and for each of its handlers, first to last, the place after it
 pub record Frame : Type 0 where
   pub number : ℕ
   pub place : ℕ
@@ -11,7 +11,7 @@ pub record Frame : Type 0 where
 abbrev pub opening_frame : ℕ → Frame
 opening_frame number = record { number = number; place = 0; handlers = [] }
 
--- a handler was set: the place behind it is kept
+-- a handler was set: the place after it is kept
 abbrev pub with_handler : Frame → Frame
 with_handler frame = record frame { handlers = frame.handlers ++ frame.place ∷ [] }
 

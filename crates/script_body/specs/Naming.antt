@@ -29,7 +29,7 @@ after_name_by a (stmt.MonCreate name) names = with_monitor_name_by name a names
 after_name_by a (stmt.CvCreate name mon) names = with_condition_name_by name a names
 after_name_by a _ names = names
 
--- the same, where there was a call
+-- the names after an answer, which change only if there was a call
 abbrev pub after_name : Answer → Option Stmt → Names → Names
 after_name a None names = names
 after_name a (Some s) names = after_name_by a s names

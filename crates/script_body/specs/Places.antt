@@ -7,7 +7,7 @@ use Rattle.std.specs.Prelude.{List, [], map, slice_index_or, ℕ}
 abbrev pub no_line : Line
 no_line = record { client = 0; seq = 0; text = [] }
 
--- the line at a place; behind the last, one that nobody posted
+-- the line at a place; past the last, one that nobody posted
 abbrev pub line_at : List Line → ℕ → Line
 line_at lines place = slice_index_or lines place no_line
 

@@ -48,12 +48,12 @@ back_at body depth mark place = record body {
   below = take depth body.below;
 }
 
--- the same, if its handler of that number is there
+-- it goes on at the place of its handler of that number, if there is one
 abbrev pub caught_at : ScriptBody → ℕ → ℕ → Option ℕ → Option ScriptBody
 caught_at body depth mark None = None
 caught_at body depth mark (Some place) = Some (back_at body depth mark place)
 
--- a catch leaves so many frames, and goes on behind the handler of this number in the innermost
+-- a catch leaves so many frames, and goes on after the handler of this number in the innermost
 abbrev pub after_take_caught : ScriptBody → ℕ → ℕ → Option ScriptBody
 after_take_caught body depth mark = if (depth == 0) || nat_lt (length body.below + 1) depth then None
     else caught_at body (depth - 1) mark (slice_get (frame_above body (depth - 1)).handlers mark)
@@ -121,11 +121,11 @@ stmt_after a body =
     next_stmt a (stmts_at body.script body.top.number) false body.top.place
     (drop body.top.place (stmts_at body.script body.top.number))
 
--- the thread goes on behind a statement
+-- the thread goes on after a statement
 abbrev pub behind : ScriptBody → At → ScriptBody
 behind body at = record body { top = record body.top { place = at.place }; last = Some at.stmt }
 
--- the call of that statement; the thread goes on behind it
+-- the call of that statement; the thread goes on after it
 abbrev pub poll_of_call : ScriptBody → Names → At → Polled ScriptBody
 poll_of_call body names at = (call_of body.script body.sender names at.stmt, behind body at, names)
 

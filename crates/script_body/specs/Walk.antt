@@ -8,7 +8,7 @@ use Rattle.lwp_types.specs.declared.call.Answer.TheVariants as answer
 use Rattle.script_text.specs.declared.script.Stmt.TheVariants as stmt
 use Rattle.script_lines.specs.declared.table.Test.TheVariants as test
 
--- a statement that makes a call, and the place behind it
+-- a statement that makes a call, and the place after it
 pub record At : Type 0 where
   pub stmt : Stmt
   pub place : ℕ

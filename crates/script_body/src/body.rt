@@ -27,6 +27,7 @@ pub struct ScriptBody<'s> {
     last: Option<&'s Stmt>,
 }
 
+// PROVER: written by hand, so that a function that drops one calls this instead of repeating its proof.
 impl<'s> Drop for ScriptBody<'s> {
     fn drop(self) {
         let ScriptBody {
@@ -89,7 +90,7 @@ impl<'s> ScriptBody<'s> {
         }
     }
 
-    // Makes that frame the present one, and goes on in it behind a handler.
+    // Makes that frame the present one, and goes on in it after a handler.
     fn go_back(&mut self, depth: usize, mark: usize, place: usize)
         ensures { self.new ≡ back_at self.old depth mark place }
     {
@@ -240,7 +241,7 @@ impl<'s> ScriptBody<'s> {
         true
     }
 
-    // Goes on behind this statement, and makes its call.
+    // Goes on after this statement, and makes its call.
     #[inline(always)]
     fn make(&mut self, env: &Env, stmt: &'s Stmt, place: usize, call: &mut Call<'s>)
         ensures call { call.new ≡ call_of self.old.script self.old.sender env.now stmt.now }
@@ -254,7 +255,7 @@ impl<'s> ScriptBody<'s> {
     // Makes the next call, where skips may come before it. As `take_and_call` it is a function of its own, so that what saves and
     // restores registers isn't on the way of most calls.
     #[inline(never)]
-    fn call_behind_skips(&mut self, env: &Env, got: &Answer, call: &mut Call<'s>)
+    fn call_after_skips(&mut self, env: &Env, got: &Answer, call: &mut Call<'s>)
         ensures call { call.new
             ≡ call_of self.old.script self.old.sender env.now (stmt_after got.now self.old).stmt }
         ensures after { self.new ≡ behind self.old (stmt_after got.now self.old) }
@@ -274,7 +275,7 @@ impl<'s> ScriptBody<'s> {
         let stmts = stmts_at(self.script, self.top.number());
         match near_stmt(stmts, self.top.place()) {
             Some((stmt, place)) => self.make(env, stmt, place, call),
-            None => self.call_behind_skips(env, got, call),
+            None => self.call_after_skips(env, got, call),
         }
     }
 

@@ -158,7 +158,8 @@ fn source_of(sender: Tid, env: &Env, from: &Option<Who>) -> Option<Tid>
     }
 }
 
-// A statement that names threads, or anything but procedures.
+// A statement that names threads, or anything but procedures. Each arm looks up whom its word means: a closure for that would be a
+// function that is called.
 #[inline(always)]
 fn set_thread_call<'s>(
     texts: &'s TextList,
@@ -234,7 +235,7 @@ fn set_call_proc(script: &Script, proc: u32, call: &mut Call)
     };
 }
 
-/// Sets the call of a statement, in a thread whose last letter came from `sender`, whatever stood there.
+/// Sets the call of a statement, in a thread whose last letter came from `sender`, whatever was there.
 #[inline(always)]
 pub fn set_call<'s>(script: &'s Script, sender: Tid, env: &Env, stmt: &Stmt, call: &mut Call<'s>)
     requires { length (proc_places script.now) < 2 ^ 32 }

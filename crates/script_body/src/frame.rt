@@ -6,13 +6,14 @@ use lwp_types::NoMemory;
 use std::alloc::Global;
 use std::marker::Model;
 
-/// The procedure, the place of its next statement, and the places behind its handlers.
+/// The procedure, the place of its next statement, and the places after its handlers.
 pub struct Frame {
     number: u32,
     place: usize,
     handlers: Vec<usize>,
 }
 
+// PROVER: written by hand, so that a function that drops one calls this instead of repeating its proof.
 impl Drop for Frame {
     fn drop(self) {
         let Frame {
@@ -54,7 +55,7 @@ impl Frame {
         self.place
     }
 
-    /// The place behind a handler of this frame, if there is such a handler.
+    /// The place after a handler of this frame, if there is such a handler.
     pub fn handler(&self, mark: usize) -> Option<usize>
         ensures { result ≡ slice_get self.now.handlers mark }
     {

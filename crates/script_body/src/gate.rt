@@ -18,13 +18,14 @@ const CLIENTS: usize = 256;
 /// The lines of a script's clients, which are all there from the start, seen as those taken and those left of each event.
 pub struct ScriptGate<'s> {
     script: &'s Script,
-    // Of each event, the places of its posts in the script.
+    // Of each event, the places of its posts in the script. Each event has a list of its own, and not a link from post to post, so
+    // that the laws of shelves hold of it.
     places: Rack<u32>,
     // By the number of the client, how many of its lines are left.
     left: Vec<u32>,
 }
 
-// By hand, so that whoever drops one calls this.
+// PROVER: written by hand, so that a function that drops one calls this instead of repeating its proof.
 impl<'s> Drop for ScriptGate<'s> {
     fn drop(self) {
         let ScriptGate {

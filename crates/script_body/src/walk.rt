@@ -49,7 +49,7 @@ fn first_stmt(stmts: &[Stmt]) -> (&Stmt, usize)
     }
 }
 
-/// The first statement from `from` on that makes a call and isn't passed over, and the place behind it; past the last one, a
+/// The first statement from `from` on that makes a call and isn't passed over, and the place after it; past the last one, a
 /// return.
 pub fn next_stmt<'s>(stmts: &'s [Stmt], from: usize, got: &Answer) -> (&'s Stmt, usize)
     ensures { next_stmt got.now stmts.now false from (drop from stmts.now)
@@ -73,7 +73,7 @@ pub fn next_stmt<'s>(stmts: &'s [Stmt], from: usize, got: &Answer) -> (&'s Stmt,
     (&Stmt::Return, place)
 }
 
-/// The same where no skip stands at `from`, and so without a loop.
+/// The statement at `from` and the place after it, if no skip is there: `next_stmt` without a loop.
 #[inline(always)]
 pub fn near_stmt(stmts: &[Stmt], from: usize) -> Option<(&Stmt, usize)>
     ensures { IfSome result

@@ -39,7 +39,7 @@ use Rattle.script_lines.specs.Reading.{flags_by, all_flags, flags_in, flags_at, 
 use Rattle.script_lines.proofs.TableLaws.{on_rows, op_found, op_again}
 use Rattle.script_lines.proofs.WordLemmas.{both, Stops, reach-append, reach_in, number_again, number_found, own}
 
--- ---- Keys are whole, whatever comes behind them.
+-- ---- Keys are whole, whatever comes after them.
 
 pub stops_there : (r : List ℕ) → Stops 32 r → reach 32 r ≡ 0
 stops_there [] s = refl
@@ -863,7 +863,7 @@ places_stop p (kind.Text ∷ []) r = rw append-nil (of_text p.text)
     of_text (b ∷ bs) = refl
 places_stop p (kind.Text ∷ k ∷ ks) r = absurd (let no = (both (absent kind.Text (k ∷ ks) && is_row (k ∷ ks)) false r).1 in cc)
 
--- nothing comes behind a slot that takes all
+-- nothing comes after a slot that takes all
 rest_is_last : (p : Phrase) (k : Kind) (ks : List Kind) → is_row (k ∷ ks) ≡ true → takes_rest k ≡ true → flat_map (slot_text p) ks ≡ []
 rest_is_last p k [] r t = refl
 rest_is_last p k (j ∷ ks) r t =

@@ -13,7 +13,7 @@ use Rattle.std.proofs.lemmas.Fmt.{digits_decimal}
 use Rattle.script_lines.specs.Reading.{client_at, phrase_at}
 use Rattle.script_lines.specs.Table.{op_at, row_of}
 
--- what has something behind these bytes begins with them
+-- a line with something after these bytes begins with them
 begins : (front line : List ℕ) → 0 < length (behind front line) → line ≡ front ++ behind front line
 begins [] line h = refl
 begins (b ∷ bs) [] h = absurd (omega (arith, h))
@@ -53,14 +53,14 @@ saying_is_spelt line b bs e =
     let f = phrase_found line (saying (b ∷ bs)) e in
     (ap (behind (codes "say ")) f.1 ∙ ap (λ xs. b ∷ xs) (append-nil bs), f.0.0)
 
--- what stands behind the word of a line that posts a text: the client's number, a space and the text
+-- after the word of a line that posts a text: the client's number, a space and the text
 pub posting_is_spelt : (line : List ℕ) (c : ℕ) (b : ℕ) (bs : List ℕ) → phrase_at line ≡ Some (posting c (b ∷ bs)) → (behind (codes "post ") line ≡ decimal c ++ 32 ∷ b ∷ bs) × (c ≤ 15) × (is_text (b ∷ bs) ≡ true)
 unfolding row_of
 posting_is_spelt line c b bs e =
     let f = phrase_found line (posting c (b ∷ bs)) e in
     (ap (behind (codes "post ")) f.1 ∙ ap (λ xs. decimal c ++ 32 ∷ b ∷ xs) (append-nil bs), f.0.0, f.0.1.0)
 
--- the number of a client ends before the space behind it
+-- the number of a client ends before the space after it
 pub client_is_first : (c : ℕ) (more : List ℕ) → c ≤ 15 → (client_at (take (reach 32 (decimal c ++ 32 ∷ more)) (decimal c ++ 32 ∷ more)) ≡ Some c) × (drop (reach 32 (decimal c ++ 32 ∷ more)) (decimal c ++ 32 ∷ more) ≡ 32 ∷ more)
 client_is_first c more h =
     let n : reach 32 (decimal c ++ 32 ∷ more) ≡ length (decimal c) = reach-append 32 (decimal c) (32 ∷ more) (digits_are_whole (decimal c) (digits_decimal own c (omega (arith, h)))) refl in

@@ -34,7 +34,7 @@ reach-append c (x ∷ w) r h s = elim (eqb x c) as (λ v. cond v 0 (suc (reach c
   | false ↦ λ e. let h' : reach c w ≡ length w = omega (arith, e) in ap suc (reach-append c w r h' s)
 ] h
 
--- where a word ends within a list, it ends there too where more comes behind
+-- where a word ends within a list, it ends there too where more follows
 pub reach_in : (c : ℕ) (w r : List ℕ) → reach c w < length w → reach c (w ++ r) ≡ reach c w
 reach_in c [] r h = absurd (omega (arith, h))
 reach_in c (b ∷ bs) r h = elim (eqb b c) as (λ v. cond v 0 (suc (reach c bs)) < length (b ∷ bs) → cond v 0 (suc (reach c (bs ++ r))) ≡ cond v 0 (suc (reach c bs))) [
@@ -44,7 +44,7 @@ reach_in c (b ∷ bs) r h = elim (eqb b c) as (λ v. cond v 0 (suc (reach c bs))
 
 -- ---- Numbers.
 
--- behind a number, digits never make it smaller
+-- digits after a number never make it smaller
 pub value_ge : (n : ℕ) (ds : List ℕ) → n ≤ value_after n ds
 value_ge n [] = omega arith
 value_ge n (d ∷ ds) = omega (arith, value_ge (10 * n + (d - 48)) ds)

@@ -139,7 +139,7 @@ SlotFits p kind.Text = IsTrue (is_text p.text)
 abbrev pub IsPhrase : Phrase → Type 0
 IsPhrase p = AllByRecursion (SlotFits p) (slots_of p.op)
 
--- a key with nothing behind it
+-- a key with nothing after it
 abbrev pub blank : Op → Phrase
 blank o = record {
   op = o;

@@ -1,4 +1,4 @@
--- What a line says: its row, and what stands in the slots. A slot that the row doesn't have is empty.
+-- What a line says: its row, and what is in the slots. A slot that the row doesn't have is empty.
 use Rattle.std.specs.Prelude.{ℕ, List}
 use Rattle.lwp_types.specs.declared.call.Flags.{Flags}
 use Rattle.lwp_types.specs.declared.call.Func.{Func}

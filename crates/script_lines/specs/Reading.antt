@@ -104,7 +104,7 @@ who_at w =
     else if bytes_eq w (codes "none") then Some (whom.Nobody, [])
     else None
 
--- the same of a word that says from whom to receive
+-- what a word is that says from whom to receive: `any`, or a word that means a thread
 abbrev pub source_at : List ℕ → Option (Whom × List ℕ)
 source_at w = if bytes_eq w (codes "any") then Some (whom.Any, []) else who_at w
 
@@ -138,12 +138,12 @@ abbrev pub fill_text : Phrase → List ℕ → Option (Phrase × List ℕ)
 fill_text p [] = Some (record p { text = [] }, [])
 fill_text p (b ∷ bs) = if b == 32 && nat_lt 0 (length bs) && is_text bs then Some (record p { text = bs }, []) else None
 
--- p with its test filled by all that is left behind one space
+-- p with its test filled by all that is left after one space
 abbrev pub fill_test : Phrase → List ℕ → Option (Phrase × List ℕ)
 fill_test p [] = None
 fill_test p (b ∷ bs) = if b == 32 then option_map (λ t. (record p { test = t }, [])) (test_at bs) else None
 
--- the name behind one space, if it is one
+-- the name after one space, if it is one
 abbrev pub spaced_name : List ℕ → Option (List ℕ)
 spaced_name [] = None
 spaced_name (b ∷ bs) = if b == 32 then name_in bs else None
@@ -160,13 +160,13 @@ built_at w = if bytes_eq w (codes "store") then Some (0, [])
     else if bytes_eq (take 8 w) (codes "session ") then session_at (drop 8 w)
     else None
 
--- p with what its procedure is filled by all that is left behind one space
+-- p with what its procedure is filled by all that is left after one space
 abbrev pub fill_built : Phrase → List ℕ → Option (Phrase × List ℕ)
 fill_built p [] = None
 fill_built p (b ∷ bs) = if b == 32 then option_map (λ x. (record p { event = x.0; thread = x.1 }, [])) (built_at bs)
     else None
 
--- p with a slot filled by the word behind one space, and what is left behind the word
+-- p with a slot filled by the word after one space, and what is left after the word
 abbrev pub fill_spaced : Kind → Phrase → List ℕ → Option (Phrase × List ℕ)
 fill_spaced k p [] = None
 fill_spaced k p (b ∷ bs) = if b == 32

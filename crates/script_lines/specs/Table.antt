@@ -18,7 +18,7 @@ use Rattle.script_lines.specs.declared.table.Kind.TheVariants as kind
 use Rattle.script_lines.specs.Words.{reach}
 
 -- a row of the table: an operation, the word or the two words with which its line begins, the part that the line plays,
--- and what stands behind these words
+-- and its slots after these words
 pub record Row : Type 0 where
   pub op : Op
   pub key : List ℕ
@@ -103,7 +103,7 @@ rows =
 abbrev pub all_ops : List Op
 all_ops = map (λ r. r.op) rows
 
--- the row of an operation stands at its number
+-- the row of an operation is the one at its number; closed, since open it puts the whole table into each goal on a phrase
 unfoldable pub row_of : Op → Row
 row_of o = get_or rows (tag_of the_type o) (row o [] role.Again [])
 
@@ -115,7 +115,7 @@ key_of o = (row_of o).key
 abbrev pub role_of : Op → Role
 role_of o = (row_of o).role
 
--- the slots behind the key
+-- the slots after the key
 abbrev pub slots_of : Op → List Kind
 slots_of o = (row_of o).slots
 

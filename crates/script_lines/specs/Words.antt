@@ -9,7 +9,7 @@ abbrev pub reach : ℕ → List ℕ → ℕ
 reach c [] = 0
 reach c (b ∷ bs) = if b == c then 0 else suc (reach c bs)
 
--- the bytes behind these, if it begins with them
+-- the bytes after these, if it begins with them
 abbrev pub behind : List ℕ → List ℕ → List ℕ
 behind [] line = line
 behind (b ∷ bs) [] = []
@@ -33,7 +33,7 @@ abbrev pub is_name : List ℕ → Bool
 is_name [] = false
 is_name (b ∷ bs) = is_lowercase b && list_all is_name_byte bs && nat_lt (length bs) 16 && not (is_reserved (b ∷ bs))
 
--- the value of digits that come behind a number
+-- the value of digits that follow a number
 abbrev pub value_after : ℕ → List ℕ → ℕ
 value_after n [] = n
 value_after n (d ∷ ds) = value_after (10 * n + (d - 48)) ds

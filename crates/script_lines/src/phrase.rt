@@ -11,7 +11,7 @@ use crate::words::{is_name, is_text, number_at, reach};
 use lwp_types::{Flags, Func, Mode, Pattern};
 use std::marker::Model;
 
-/// What a line says: its row, and what stands in the slots. A slot that the row doesn't have is empty. Words are bytes of the
+/// What a line says: its row, and what is in the slots. A slot that the row doesn't have is empty. Words are bytes of the
 /// line.
 pub struct Phrase<'l> {
     pub op: Op,
@@ -94,7 +94,7 @@ fn flags_by(suspended: bool, nolastrites: bool, server: bool) -> Flags
     }
 }
 
-/// A key with nothing behind it.
+/// A key with nothing after it.
 pub fn blank<'l>(op: Op) -> Phrase<'l>
     ensures { result ≡ blank op }
 {
@@ -144,7 +144,7 @@ fn who_at(word: &[u8]) -> Option<(Whom, &[u8])>
     }
 }
 
-// The same, if it says from whom to receive.
+// What a word is that says from whom to receive: `any`, or a word that means a thread.
 fn source_at(word: &[u8]) -> Option<(Whom, &[u8])>
     ensures { option_map (λ x. (x.0, x.1.now)) result ≡ source_at word.now }
 {
@@ -329,7 +329,7 @@ fn put<T: Copy>(slot: &mut T, said: Option<T>) -> Option<()>
     Some(())
 }
 
-// The same, of whom a word means.
+// Sets whom a phrase speaks of, if a word says so.
 fn put_who<'l>(phrase: &mut Phrase<'l>, said: Option<(Whom, &'l [u8])>) -> Option<()>
     ensures { option_map (λ done. phrase.new) result
         ≡ option_map (λ x. record phrase.old { who = x.0; thread = x.1.now }) said.entry }
@@ -466,7 +466,7 @@ fn key_length(line: &[u8]) -> usize
     first + 1 + reach(b' ', &line[first + 1..])
 }
 
-/// What the line says, if its row of the table has what stands in it.
+/// What the line says, if its row of the table has what is in it.
 pub fn phrase_at(line: &[u8]) -> Option<Phrase<'_>>
     ensures { result ≡ phrase_at line.now }
 {

@@ -3,7 +3,7 @@
 ghost use Rattle.std.specs.Prelude.{◌≡◌, ◌<◌, ℕ, List, map, IsTrue};
 ghost use Rattle.script_lines.specs.Table.{table_row, rows, all_ops, row_of, key_of, role_of, slots_of, has, says, ranks, starts, starts_any, first_letter, rises, op_in, op_at};
 
-/// What stands in a slot of a line.
+/// What a slot of a line holds.
 #[derive(Clone, Copy, PartialEq, Eq)]
 pub enum Kind {
     /// The name of a thread.
@@ -409,7 +409,7 @@ static OPS: [Op; 66] = [
     Op::Yield,
 ];
 
-// The whole table.
+// PROVER: the whole table, handed out by one function, so that no other proof goes over the rows of the static.
 fn table() -> &'static [Row]
     ensures { map table_row result.now ≡ rows }
 {
@@ -445,7 +445,7 @@ impl Op {
         self.row().2
     }
 
-    /// The slots behind the key.
+    /// The slots after the key.
     pub fn slots(self) -> &'static [Kind]
         ensures { result.now ≡ slots_of self }
     {
@@ -511,7 +511,8 @@ fn letter_of(row: &Row) -> u8
     row.1[0]
 }
 
-// The rows without most of those that have an earlier letter: by steps that halve, rows are passed over where the last of them has one.
+// The rows without most of those that have an earlier letter: by steps that halve, rows are passed over where the last of them has
+// one. A table of where each letter's rows begin, tried together with a phrase filled in a function of its own, cost more.
 fn rows_from(rows: &[Row], letter: u8) -> &[Row]
     requires { IsTrue (rises 1 (map table_row rows.now)) }
     ensures { (key : List ℕ) → first_letter key ≡ letter →

@@ -28,7 +28,7 @@ use Rattle.script_text.proofs.TrackLaws.{name_place, entered_there, place_there,
 
 -- ---- Lists that only grow.
 
--- what stands in the first list stands in the second at the same place
+-- an entry of the first list is one of the second, at the same place
 pub record Holds (xs ys : List (List ℕ)) : Type 0 where
   long : length xs ≤ length ys
   same : (k : ℕ) → k < length xs → name_at ys k ≡ name_at xs k
@@ -101,7 +101,7 @@ texts_after d p = by_role (role_of p.op) (places_of (after_name d.script.names p
     by_role role.Skip at d p = refl
     by_role role.Again at d p = refl
 
--- behind one line, before all that follow
+-- after one line, before all that follow
 pub later_step : (d : Draft) (p : Phrase) (N : Names) (T : List (List ℕ)) → Later (after_add d p).script.names (after_add d p).script.texts N T → Later (after_name d.script.names p) (with_text_of d.script.texts p) N T
 later_step d p N T h =
     subst (λ (n : Names). Later n (with_text_of d.script.texts p) N T) (names_after d p)

@@ -43,11 +43,11 @@ clients_push : (n : ℕ) (es : List ℕ) (e : ℕ) → client_lines n (es ++ e �
 clients_push n [] e = ap (λ k. client_line k e ∷ []) (omega arith)
 clients_push n (x ∷ es) e = ap (λ l. client_line n x ∷ l) (clients_push (suc n) es e ∙ ap (λ k. client_lines (suc n) es ++ client_line k e ∷ []) (omega arith))
 
--- a list that grows at its end, where nothing stands behind it
+-- a list that grows at its end, where nothing stands after it
 end_here : {A : Type 0} (xs ys rest : List A) (x : A) → rest ≡ [] → ys ≡ xs ++ x ∷ [] → ys ++ rest ≡ (xs ++ rest) ++ x ∷ []
 end_here xs ys rest x r e = ap (λ l. ys ++ l) r ∙ append-nil ys ∙ e ∙ ap (λ l. l ++ x ∷ []) (sym (append-nil xs) ∙ ap (λ l. xs ++ l) (sym r))
 
--- the same behind a list that stays
+-- a list that grows at its end, after one that stays
 behind : {A : Type 0} (front xs ys : List A) (x : A) → ys ≡ xs ++ x ∷ [] → front ++ ys ≡ (front ++ xs) ++ x ∷ []
 behind front xs ys x e = ap (λ l. front ++ l) e ∙ sym (append_assoc front xs (x ∷ []))
 
@@ -92,7 +92,7 @@ before_posts stages.Calling = true
 before_posts stages.Skipping = true
 before_posts stages.Ended = true
 
--- a procedure has begun, and nothing stands behind it
+-- a procedure has begun, and no later section
 abbrev in_proc : Stage → Bool
 in_proc stages.Proc = true
 in_proc stages.Calling = true
@@ -105,7 +105,7 @@ in_proc stages.Clients = false
 in_proc stages.Natives = false
 in_proc stages.Posts = false
 
--- the limit has its place behind us
+-- the limit's place is past
 abbrev is_past : Stage → Bool
 is_past stages.Start = false
 is_past stages.Header = false
@@ -192,7 +192,7 @@ not_both false f t = absurd cc
 
 -- ---- One line more.
 
--- the lines of a draft behind those of the header, the pod and the limit
+-- the lines of a draft after those of the header, the pod and the limit
 abbrev body : Names → List (List ℕ) → Draft → List Phrase
 body N T d = body_lines N T d.script.clients d.script.natives (d.script.procs ++ option_to_list d.current) d.script.posts
 
@@ -297,9 +297,9 @@ grows role.Statement N T s known at d p past h f k e = grows_statement N T s (st
 grows role.Skip N T s known at d p past h f k e = grows_statement N T s (stage_after s role.Skip) at d p h (inside_skip s f) e
 grows role.Again N T s known at d p past h f k e = grows_statement N T s (stage_after s role.Again) at d p h (inside_again s f) e
 
--- ---- All lines behind the limit.
+-- ---- All lines after the limit.
 
--- each line may stand at this stage, with these procedures declared, behind this draft
+-- each line may stand at this stage, with these procedures declared, after this draft
 abbrev AllAt : Stage → Declared → Draft → List Phrase → Type 0
 AllAt s known d [] = Unit {0}
 AllAt s known d (p ∷ ps) = (may_stand_at s known d.posted p ≡ true) × AllAt (stage_after s (role_of p.op)) (declares (role_of p.op) known p) (after_add d p) ps
@@ -398,7 +398,7 @@ third_line p l f = by_role (role_of p.op) refl f
       | _ ↦ λ e g. absurd cc
     ] e g
 
--- where a client may come next, a line may come that may come behind the pod, but for a limit
+-- where a client may come next, a line may come that may come after the pod, but for a limit
 from_pod : (known : Declared) (d : Draft) (p : Phrase) (ps : List Phrase) → (follows stages.Clients (role_of p.op) ≡ true) × (stage_after stages.Pod (role_of p.op) ≡ stage_after stages.Clients (role_of p.op)) → AllAt stages.Pod known d (p ∷ ps) → AllAt stages.Clients known d (p ∷ ps)
 from_pod known d p ps c h =
     let u = both (follows stages.Pod (role_of p.op)) (keeps_rule known d.posted (role_of p.op) p) h.0 in
@@ -421,7 +421,7 @@ to_pod known d (p ∷ ps) h =
 
 -- ---- The whole script.
 
--- the header, the pod, and what stands behind them
+-- the header, the pod, and the lines after them
 abbrev headed : ℕ → List Phrase → List Phrase
 headed m rest = number_line op.Lwp 1 ∷ number_line op.Pod m ∷ rest
 
@@ -432,7 +432,7 @@ podded m births = record empty_draft { script = record empty_draft.script { maxp
 sections_podded : (m births : ℕ) → Sections stages.Clients (podded m births)
 sections_podded m births = record { no_natives = λ t. refl; no_procs = λ t. (refl, refl); no_posts = λ t. refl; some_proc = λ t. absurd cc; as_clients = refl }
 
--- the script of lines behind a limit is printed as the header, the pod, the limit and these lines
+-- the script of lines after a limit is printed as the header, the pod, the limit and these lines
 lines_back : (m births : ℕ) (rest : List Phrase) → AllAt stages.Clients nothing (podded m births) rest → AllByRecursion IsLine rest → lines_of (with_last_procedure (fold after_add (podded m births) rest)) ≡ headed m (limit_lines births ++ rest)
 lines_back m births rest a l =
     let fin = fold after_add (podded m births) rest in

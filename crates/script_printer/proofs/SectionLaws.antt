@@ -1,4 +1,4 @@
--- The sections of a printed script, one behind the other.
+-- The sections of a printed script, one after the other.
 use Rattle.std.proofs.Common.{◌≡◌, ℕ, false, true, cond, eqb, List, [], ◌∷◌, ◌++◌, map, ap, append_assoc, refl, sym, ◌∙◌}
 use Rattle.std.specs.List.{flat_map}
 use Rattle.std.proofs.lemmas.List.{append-nil}
@@ -41,7 +41,7 @@ body_text names texts clients natives procs posts =
     ∙ ap (λ (l : List ℕ). spelling (map (native_line names) natives) ++ l) (spelling_append (flat_map (proc_lines names texts) procs) (map (post_line texts) posts))
     )
 
--- lists that are put behind one another in turn
+-- lists that are put after one another in turn
 in_turn : (a b c d e f g : List ℕ) → (((((a ++ b) ++ c) ++ d) ++ e) ++ f) ++ g ≡ a ++ (b ++ (c ++ (d ++ (e ++ (f ++ g)))))
 in_turn a b c d e f g =
     append_assoc ((((a ++ b) ++ c) ++ d) ++ e) f g

@@ -1,4 +1,4 @@
--- The phrases of a script that is printed, by what stands in their slots.
+-- The phrases of a script that is printed, by what is in their slots.
 use Rattle.std.specs.Prelude.{ℕ, List}
 use Rattle.lwp_types.specs.declared.call.Flags.{Flags}
 use Rattle.lwp_types.specs.declared.call.Func.{Func}

@@ -40,7 +40,7 @@ abbrev pub Holds : Option (List ℕ) → Script → Type 0
 Holds None script = Unit {0}
 Holds (Some told) script = Spells told script
 
--- behind what was written stands the printed text of the script that the source held
+-- the sink has what it had before, and then the printed text of the script that the source held
 abbrev pub Copies : Option (List ℕ) → Option (List ℕ) → Option (List ℕ) → Type 0
 Copies source before after = (script : Script) × Holds source script
     × (after ≡ after_append before (text_of_script script))

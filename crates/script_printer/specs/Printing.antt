@@ -81,7 +81,7 @@ plain_line names texts (stmt.Say t) = text_line op.Say (text_at texts t)
 plain_line names texts (stmt.Skip test) = record (blank op.Skip) { test = test }
 plain_line names texts _ = blank op.Again
 
--- the same, or a statement that names a monitor or a condition
+-- a statement of `plain_line`, or one that names a monitor or a condition
 abbrev pub lock_line : Names → List (List ℕ) → Stmt → Phrase
 lock_line names texts (stmt.MonCreate m) = mon_line op.MonCreate (name_at names.mons m)
 lock_line names texts (stmt.CvCreate c m) = record (blank op.CvCreate) {
@@ -162,7 +162,7 @@ post_line texts post = record (blank op.Post) { client = post.client; text = tex
 
 -- ---- A script.
 
--- the lines behind those of the header, the pod and the limit
+-- the lines after those of the header, the pod and the limit
 abbrev pub body_lines : Names → List (List ℕ) → List ℕ → List Native → List Proc → List Post → List Phrase
 body_lines names texts clients natives procs posts =
     client_lines 0 clients

@@ -9,7 +9,7 @@ use script_text::{Script, read_script};
 use std::alloc::Global;
 use streams::{read_all, write_all};
 
-/// Whether the words of `lwpcheck`, which stand after its name, ask for the script to be printed: `--print` alone does.
+/// Whether the words of `lwpcheck`, which follow its name, ask for the script to be printed: `--print` alone does.
 pub fn asks_for_print(words: &Vec<String>) -> bool
     ensures { result ≡ asks_for_print (map string_bytes words.now.items) }
 {

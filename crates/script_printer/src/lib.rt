@@ -4,7 +4,7 @@
 //! printed one does too, so what is printed is read as it was; that is a law (`printed_is_spelt`).
 //!
 //! A line that is printed is a phrase, made of what its slots hold (`specs/Building.antt`), and `add_line` puts the phrase's text
-//! behind the bytes so far. What a phrase and its text are is a matter of `script_lines`.
+//! after the bytes so far. What a phrase and its text are is a matter of `script_lines`.
 //!
 //! `copy` reads the script that a source holds and writes it so printed; `lwpcheck --print` is made of it. What is printed is read as the
 //! same script, so printed once more it is the same bytes. A `CopyFailure` is why a script isn't printed, and displays as the program

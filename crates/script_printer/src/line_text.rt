@@ -47,7 +47,7 @@ fn add_built(out: &mut Vec<u8>, event: u8, name: &[u8]) -> Result<(), NoMemory>
     add_text(out, name)
 }
 
-// A slot behind its space.
+// A slot after its space.
 fn add_word(out: &mut Vec<u8>, phrase: &Phrase<'_>, kind: Kind) -> Result<(), NoMemory>
     ensures { OnOk result (out.new.items ≡ out.old.items ++ slot_text phrase.now kind) }
 {

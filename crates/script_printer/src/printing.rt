@@ -104,7 +104,7 @@ fn plain_line<'s>(names: &'s Names, texts: &'s TextList, stmt: Stmt) -> Phrase<'
     }
 }
 
-// The same, or a statement that names a monitor or a condition.
+// A statement of `plain_line`, or one that names a monitor or a condition.
 fn lock_line<'s>(names: &'s Names, texts: &'s TextList, stmt: Stmt) -> Phrase<'s>
     ensures { result ≡ lock_line names.now texts.now stmt }
 {

@@ -1,4 +1,4 @@
--- How a run goes on beside the threads that post to it, part by part.
+-- How a run goes on while threads post to it, part by part.
 use Rattle.event_gate.specs.Inlet.{AllTold, EachInlet, HasEvent, Intake, IsInletTold}
 use Rattle.event_gate.specs.Port.{lines_in_pass}
 use Rattle.event_gate.specs.Texts.{lines_from}
@@ -27,7 +27,7 @@ use Rattle.std.proofs.lemmas.List.Elements.{All-append, All-from_recursion, recu
 abbrev told_by : Played Script → List ℕ
 told_by r = trace_of body_next bodies_of proc_names r
 
--- the same, without those of the last
+-- the lines of all its steps but the last
 abbrev told_before : Played Script → List ℕ
 told_before r = trace_before body_next bodies_of proc_names r
 
@@ -120,7 +120,7 @@ went-same w f r inlets sound = record { same = goes-same body_next bodies_of pro
 pub went-of : {T : Type 0} (s : Stream) (old now : Played Script) (before some : List Intake) (x : T) → GoesBeside s old now before some (Ok x) → WentBeside s old now before some
 went-of s old now before some x h = record { same = h.ran.same; sound = h.ran.sound; told = h.ran.told; fed = h.fed }
 
--- what was told and what failed is the same for whoever hands it on
+-- a sink that hands on what it has tells as much and fails as often
 pub went-handed : (a b c : Option (List ℕ)) (i j k : ℕ) (old now : Played Script) (before some : List Intake) → c ≡ b → k ≡ j → WentBeside (stream a b i j) old now before some → WentBeside (stream a c i k) old now before some
 went-handed a b c i j k old now before some same faults p = rw (same, faults) p
 

@@ -1,4 +1,4 @@
--- What is left of each client behind the lines taken, and what a session's end says of it.
+-- What is left of each client after the lines taken, and what a session's end says of it.
 use Rattle.event_gate.proofs.Lines.{cond_other, cond_same, of-append, same_or}
 use Rattle.event_gate.specs.History.{IsClientHistory, lines_of}
 use Rattle.event_gate.specs.Port.{IsNumbered, of}
@@ -51,7 +51,7 @@ of-others c d (l ∷ ls) other all = cond_other l.client c (l ∷ of c ls) (of c
 
 -- ---- what is left
 
--- the lines of client c behind the first so many
+-- the lines of client c after those that were taken
 abbrev behind : List Line → List Took → ℕ → List Line
 behind posts takes c = drop (length (of c (lines_of (pairs_of takes)))) (of c posts)
 

@@ -1,4 +1,4 @@
--- From a run beside its threads to what a session of `run` says.
+-- From a run while threads post to what a session of `run` says.
 use Rattle.event_gate.proofs.Lines.{cond_other, cond_same, same_or}
 use Rattle.event_gate.specs.Inlet.{HasEvent, Intake, IsInletTaken}
 use Rattle.event_gate.specs.Port.{of}
@@ -135,7 +135,7 @@ texts-few script vs is posted = λ k d low.
     = texts-in vs k d low ∙ ap (λ ts. slice_index_or ts k []) is ∙ texts-at k 0 script.clients (lines_posted script) (omega (arith, low, many)) ∙ ap (λ n. texts_for n (lines_posted script)) (let e : 0 + k ≡ k = omega arith in e) in
     omega (arith, ap length at, length-map (of k (lines_posted script)) (λ (line : Line). line.text), posted.each k)
 
--- of clients behind that of a line, none has one text more by it
+-- of the clients after that of a line, none has one text more by it
 none-more : (a : ℕ) (clients : List ℕ) (l : Line) (ls : List Line) → l.client < a → sum_by length (texts_from a clients (l ∷ ls)) ≡ sum_by length (texts_from a clients ls)
 none-more a [] l ls low = refl
 none-more a (e ∷ es) l ls low =
@@ -215,7 +215,7 @@ so-far-of script turns r inlets posted h = record {
   history = history-of (HasEvent inlets) script.clients (lines_posted script) r.takes h.lost h.given (are-posts script posted);
 }
 
--- what is told behind all its steps
+-- what is told after all its steps
 told-of : (script : Script) (turns : ℕ) (r : Played Script) (old new : Option (List ℕ)) → Plays script turns r → new ≡ after_append old (run.trace_of body_next bodies_of proc_names r) → new ≡ after_append old (lines_after script r.takes r.calls)
 told-of script turns r old new it h = h ∙ ap (after_append old) (lines-is script turns r it)
 

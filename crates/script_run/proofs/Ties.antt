@@ -41,7 +41,7 @@ for_kept events before after same h =
 pub known_again : (texts : List (List (List ℕ))) (all : Bool) (c : ℕ) (t u : Intake) → u.place ≡ t.place → is_told c u.known ≡ is_told c t.known → lines_in_pass c u.known ≡ lines_in_pass c t.known → IsKnown texts all c t → IsKnown texts all c u
 known_again texts all c t u place told lines h = record { told = told ∙ h.told; count = h.count; posted = lines ∙ h.posted; whole = h.whole; sole = λ lane. h.sole (sym (ap is_lane place) ∙ lane) }
 
--- whoever fell short still does, where as much is known of what it has posted
+-- a client that fell short still does, where as much is known of what it has posted
 pub short_again : (events : List ℕ) (texts : List (List (List ℕ))) (n m : ℕ) (before after : List Intake) → m ≤ n → EachInlet IsSame before after
     → ((c : ℕ) → n ≤ c → c < length events → (k : ℕ) (d : Intake) → k < length before → (slice_index_or before k d).event ≡ event_of events c → lines_in_pass c (slice_index_or after k d).known ≡ lines_in_pass c (slice_index_or before k d).known)
     → FellShort events texts n before → FellShort events texts m after
@@ -77,7 +77,7 @@ gave_same before after gave = (
       },
 )
 
--- whoever takes lines, or finds none, keeps all ties
+-- a run that takes lines, or finds none, keeps all ties
 pub draws_keep_ties : DrawsKeepTies
 draws_keep_ties events texts all out before after h gave =
     let same = gave_same before after gave in

@@ -19,7 +19,7 @@ texts_from c (event ∷ clients) posts = texts_for c posts ∷ texts_from (c + 1
 abbrev pub count_taken : ℕ → List Took → ℕ
 count_taken c takes = length (of c (lines_of (pairs_of takes)))
 
--- how many of these texts are left of each client behind these takes, counted from c
+-- how many of these texts are left of each client after these takes, counted from c
 abbrev pub counts_of : ℕ → List (List (List ℕ)) → List Took → List ℕ
 counts_of c [] takes = []
 counts_of c (texts ∷ all) takes = (length texts - count_taken c takes) ∷ counts_of (c + 1) all takes

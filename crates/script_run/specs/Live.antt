@@ -58,28 +58,28 @@ pub record IsLived (turns : ℕ) (script : Script) (old new : Option (List ℕ))
   pub written : new ≡ after_append old (bytes_to_end turns script takes calls left halt)
   pub stuck : halt ≡ halts.Stuck → WantsNoneOf script takes calls left
 
--- it stopped between two steps, or behind the last one: the lines of its takes and calls
+-- it stopped between two steps, or after the last one: the lines of its takes and calls
 pub record IsLiveStopped (turns : ℕ) (script : Script) (old new : Option (List ℕ))
     (takes : List Took) (calls : ℕ) : Type 0 where
   pub left : List Line
   pub so_far : IsSoFar turns script takes calls left
   pub written : new ≡ after_append old (lines_after script takes calls)
 
--- it was over, and not all that stands behind its steps was written
-pub record IsCutBehind (turns : ℕ) (script : Script) (old new : Option (List ℕ)) (takes : List Took)
+-- it was over, and not all that follows its steps was written
+pub record IsCutAfter (turns : ℕ) (script : Script) (old new : Option (List ℕ)) (takes : List Took)
     (calls : ℕ) (left : List Line) : Type 0 where
   pub halt : Halt
   pub halted : EndsSo turns script takes calls left halt
   pub cut : AppendsCut old new (lines_after script takes calls) (bytes_to_end turns script takes calls left halt)
 
 -- it broke off in a write: the lines of all steps but the last were written, and not all of the last one's; or it broke
--- off behind them
+-- off after them
 pub record IsLiveBroken (turns : ℕ) (script : Script) (old new : Option (List ℕ))
     (takes : List Took) (calls : ℕ) : Type 0 where
   pub left : List Line
   pub so_far : IsSoFar turns script takes calls left
   pub cut : AppendsCut old new (lines_before script takes calls) (lines_after script takes calls)
-      ⊎ IsCutBehind turns script old new takes calls left
+      ⊎ IsCutAfter turns script old new takes calls left
 
 -- ---- what a session says
 
@@ -95,7 +95,7 @@ abbrev pub IsLiveRunBroken : ℕ → Script → Stream → Session → Type 0
 IsLiveRunBroken turns script sink session =
     (takes : List Took) × Tells session takes × IsLiveBroken turns script sink.old sink.new takes session.turns
 
--- a session as far as it came, where memory was wanting
+-- a session as far as it came, out of memory
 abbrev pub IsLiveRunStopped : ℕ → Script → Stream → Session → Type 0
 IsLiveRunStopped turns script sink session =
     (takes : List Took) × Tells session takes × IsLiveStopped turns script sink.old sink.new takes session.turns
@@ -115,7 +115,7 @@ pub record IsLivePlayed (turns : ℕ) (script : Script) (sink : Stream) (session
   pub status : session.status ≡ status_of session.end
   pub says : LiveSays turns script sink session session.end
 
--- what a session of `run` says, with so many turns allowed: the same as one of `plan`, but of a session with some
+-- what a session of `run` says, with so many turns allowed: it says as much as one of `plan`, but of a session with some
 -- takes, which it tells
 abbrev pub IsLive : ℕ → Stream → Stream → Session → Type 0
 IsLive turns source sink session = IsOf (λ script. LiveSays turns script sink session) source sink session

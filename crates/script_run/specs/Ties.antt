@@ -66,7 +66,7 @@ pub record AreTied (events : List ℕ) (texts : List (List (List ℕ))) (all : B
       → All (λ t. t.event ≡ event_of events c → IsKnown texts all c t) inlets
   pub short : all ≡ false → FellShort events texts (length out) inlets
 
--- whoever runs the pod keeps this: it only takes lines from the inlets, or none
+-- a run of the pod keeps this: it only takes lines from the inlets, or none
 abbrev pub IsTied : Outside → Type 0
 IsTied o = AreTied (events_of o) (all_texts o) o.all o.out.items (intakes o)
 

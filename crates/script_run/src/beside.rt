@@ -1,4 +1,4 @@
-// A run goes on beside the threads that post to it.
+// A run goes on while threads post to it.
 ghost use Rattle.event_gate.specs.Inlet.{EachInlet};
 ghost use Rattle.script_run.specs.Served.{Gave, lines_in_all};
 ghost use Rattle.script_run.specs.Ties.{IsClosed, IsSameOutside, IsTied, all_texts, events_of, intakes};
@@ -56,7 +56,7 @@ fn rest<K: Sink, R: Wait>(rt: &R, bell: &Bell, sink: &mut K)
 }
 
 // The run goes on until it is over or all threads have left the bell. Where it is quiet and some thread hasn't, it waits.
-fn go_beside<'s, K: Sink, R: Wait>(
+fn run_while_posting<'s, K: Sink, R: Wait>(
     rt: &R,
     played: &mut Run<'s, ThreadBody<'s>, ScriptProgram<'s>>,
     outside: &mut Outside<'s>,
@@ -81,8 +81,8 @@ fn go_beside<'s, K: Sink, R: Wait>(
     unreachable!()
 }
 
-// All threads have ended, and the run goes on to its end with whatever they have posted.
-fn go_behind<'s, K: Sink, R: Wait>(
+// All threads have ended, and the run goes on to its end with all that they have posted.
+fn drain<'s, K: Sink, R: Wait>(
     rt: &R,
     played: &mut Run<'s, ThreadBody<'s>, ScriptProgram<'s>>,
     outside: &mut Outside<'s>,
@@ -104,8 +104,8 @@ fn go_behind<'s, K: Sink, R: Wait>(
     }
 }
 
-/// The run goes on to its end: first beside the threads, and when all have ended with whatever they have posted. They have ended
-/// after an error too. A post that was refused is want of memory.
+/// The run goes on to its end: first while the threads post, and when all have ended with what they have posted. They have ended
+/// after an error too. A post that was refused counts as out of memory.
 pub fn go_to_end<'s, K: Sink, R: Threads + Wait>(
     rt: &R,
     played: &mut Run<'s, ThreadBody<'s>, ScriptProgram<'s>>,
@@ -125,12 +125,12 @@ pub fn go_to_end<'s, K: Sink, R: Threads + Wait>(
         (λ run. Halts body_next bodies_of played.new (intakes outside.new) run.halt) }
     ensures posted { IfOk result (λ run. run.posted ≡ Some (lines_in_all (all_texts outside.old))) }
 {
-    let beside = go_beside(rt, played, outside, bell, clients, sink);
+    let beside = run_while_posting(rt, played, outside, bell, clients, sink);
     let posted = outside.close(rt);
     beside?;
     if posted.is_none() {
         return Err(RunErr::NoMemory);
     }
-    let halt = go_behind(rt, played, outside, sink)?;
+    let halt = drain(rt, played, outside, sink)?;
     Ok(WholeRun { halt, posted })
 }

@@ -50,7 +50,7 @@ fn count_taken<'s>(played: &Run<'s, ThreadBody<'s>, ScriptProgram<'s>>, client: 
 }
 
 /// How many lines of each client a run has left, where the clients post these texts.
-pub fn counts_behind<'s>(
+pub fn counts_after<'s>(
     alloc: Global,
     texts: &[Vec<Text<'s>>],
     played: &Run<'s, ThreadBody<'s>, ScriptProgram<'s>>,

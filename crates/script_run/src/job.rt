@@ -1,5 +1,6 @@
-// What a thread does, whatever it is. A thread is started and joined for any job, so that what it takes along and brings back
-// names no lifetime there.
+// What a thread does. A thread is started and joined for a job of any type.
+// PROVER: a closure that takes along a value whose type names a lifetime tells its caller nothing of what it gives, so the job is a
+// type parameter, and the trait says what may come of it.
 ghost use Rattle.std.specs.Prelude.{◌≡◌, IfErr, IfOk};
 
 use std::sync::Wait;

@@ -13,7 +13,7 @@ ghost use denote.Param.Send.{IsSync};
 ghost use Rattle.streams.specs.Streams.{sides};
 
 use crate::beside::{WholeRun, go_to_end};
-use crate::clients::{client_texts, counts_behind};
+use crate::clients::{client_texts, counts_after};
 use crate::{AllPosted, Outside};
 use event_gate::{Bell, PostGate};
 use lwp_types::{Sink, Source, Text};
@@ -27,8 +27,8 @@ use std::thread::{self, Scope, Threads};
 use streams::write_all;
 use trace_text::end_lines;
 
-/// A session of a script whose lines are posted by threads, and behind its own end, be it ended, stuck or spent, that these have posted
-/// all of them.
+/// A session of a script whose lines are posted by threads, and if it has come to its own end, be it ended, stuck or spent, that these
+/// have posted all of them.
 #[derive(Drop)]
 pub struct LiveSession {
     pub session: Session,
@@ -47,7 +47,7 @@ impl LiveSession {
     }
 }
 
-// A run goes on to its end while threads post, and then what stands behind its lines is written. No thread is out behind it.
+// A run goes on to its end while threads post, and then what follows its lines is written. No thread posts any more then.
 fn run_out<'s, K: Sink, R: Threads + Wait>(
     rt: &R,
     alloc: Global,
@@ -84,7 +84,7 @@ fn run_out<'s, K: Sink, R: Threads + Wait>(
 {
     let clients = script.clients.len() as u32;
     let whole = go_to_end(rt, played, outside, bell, clients, sink)?;
-    let left = counts_behind(alloc, texts, played)?;
+    let left = counts_after(alloc, texts, played)?;
     let tail = end_lines(alloc, &whole.halt, turns, &left)?;
     match write_all(sink, &tail) {
         Ok(()) => Ok(whole),
@@ -93,7 +93,7 @@ fn run_out<'s, K: Sink, R: Threads + Wait>(
 }
 
 // The session of a script whose clients' threads are started in this scope.
-fn play_beside<'s, E, K: Sink, G: PostGate + Send + 's, R: Threads + Wait + Sync>(
+fn play_while_posting<'s, E, K: Sink, G: PostGate + Send + 's, R: Threads + Wait + Sync>(
     scope: &Scope<'s, E>,
     rt: &'s R,
     alloc: Global,
@@ -140,7 +140,7 @@ fn play_beside<'s, E, K: Sink, G: PostGate + Send + 's, R: Threads + Wait + Sync
     }
 }
 
-// The same from its start, and the sink is handed back, so that the scope can tell what was written.
+// Plays the session from its start, and hands the sink back, so that the scope can tell what was written.
 fn play_within<'s, 'k, E, K: Sink, G: PostGate + Send + 's, R: Threads + Wait + Sync>(
     scope: &Scope<'s, E>,
     rt: &'s R,
@@ -166,7 +166,7 @@ fn play_within<'s, 'k, E, K: Sink, G: PostGate + Send + 's, R: Threads + Wait + 
         let unread = Session::unread(alloc, SessionEnd::NoMemory);
         return (LiveSession::cut_off(unread), sink);
     };
-    let session = play_beside(
+    let session = play_while_posting(
         scope, rt, alloc, turns, script, texts, played, gates, bell, sink,
     );
     (session, sink)
@@ -213,7 +213,7 @@ fn play_live<K: Sink, G: PostGate + Send, R: Threads + Wait + Sync>(
 }
 
 /// Reads a script to its end and runs it, with so many turns allowed, while a thread for each client posts that client's lines.
-/// Client c asks gate c before each of its posts. All threads have ended when it returns. A post that was refused is want of memory,
+/// Client c asks gate c before each of its posts. All threads have ended when it returns. A refused post counts as out of memory,
 /// so where the session has come to its own end, all lines of the script were posted.
 pub fn run_main<S: Source, K: Sink, G: PostGate + Send, R: Threads + Wait + Sync>(
     rt: &R,

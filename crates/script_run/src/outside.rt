@@ -136,7 +136,7 @@ fn start_client<'s, E, G: PostGate + Send + 's, R: Threads + Wait + Sync>(
 }
 
 /// That all clients have posted all their lines, and how many these are. Contracts see the number. Nobody but `Outside::close` makes
-/// one, so whoever has one has been told so.
+/// one, so anyone who has one has been told so.
 #[derive(Drop)]
 pub struct AllPosted {
     lines: u32,
@@ -185,7 +185,7 @@ pub struct Outside<'s> {
     pub(crate) all: bool,
 }
 
-// By hand, so that whoever drops one calls this.
+// PROVER: written by hand, so that a function that drops one calls this instead of repeating its proof.
 impl<'s> Drop for Outside<'s> {
     fn drop(self) {
         let Outside {
@@ -282,7 +282,7 @@ impl<'s> Outside<'s> {
         }
     }
 
-    // Takes in the pass of the client behind all that are out, when its thread has ended.
+    // Takes in the pass of the client after all that are out, when its thread has ended.
     fn take_back<R: Threads>(&mut self, rt: &R, client: Client<'s>)
         requires { AreTied (events_of self.old) (all_texts self.old) self.old.all
             (self.old.out.items ++ client ∷ []) (intakes self.old) }

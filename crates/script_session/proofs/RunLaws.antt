@@ -67,7 +67,7 @@ pub no-lines : (procs : List (List ℕ)) (s : Setting ThreadBody) → lines proc
 unfolding play
 no-lines procs s = refl
 
--- what is told stands behind nothing of the trace
+-- nothing of the trace is told yet
 pub told-before : (script : Script) (turns : ℕ) (o : Played Script) (old : Option (List ℕ)) → o ≡ opening_run script turns → old ≡ after_append old (run.trace_of body_next bodies_of proc_names o)
 told-before script turns o old h =
     sym (ap (λ x. after_append old (run.trace_of body_next bodies_of proc_names x)) h ∙ ap (after_append old) (no-lines (proc_names script) (setting_of script)) ∙ appended-nil old)

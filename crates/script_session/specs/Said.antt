@@ -36,7 +36,7 @@ pub record IsUnread (sink : Stream) (session : Session) : Type 0 where
   pub taken : session.taken ≡ []
   pub calls : session.turns ≡ 0
 
--- the same of the script that the source held
+-- this holds of the script that the source held
 abbrev pub SourceSays : Stream → (Script → Type 0) → Type 0
 SourceSays source says = IsFaultless source × Says source.old says
 

@@ -38,7 +38,7 @@ AreDue script takes n = IsDefined (setting_of script) takes n
 unfoldable pub lines_after : Script → List Took → ℕ → List ℕ
 lines_after script takes n = lines (proc_names script) (session_at script takes n).steps
 
--- the same without those of its last step
+-- the lines of all its steps but the last
 unfoldable pub lines_before : Script → List Took → ℕ → List ℕ
 lines_before script takes n = lines (proc_names script) (but_last (session_at script takes n).steps)
 
@@ -46,7 +46,7 @@ lines_before script takes n = lines (proc_names script) (but_last (session_at sc
 abbrev pub IsHistory : Script → List Took → List Line → Type 0
 IsHistory script takes left = IsClientHistory script.clients (lines_posted script) (pairs_of takes) left
 
--- a script's names stand for nothing yet
+-- a script's names, which mean nothing yet
 abbrev pub opening_names : Script → Names
 opening_names script = null_names (length script.names.threads) (length script.names.mons) (length script.names.conds)
 

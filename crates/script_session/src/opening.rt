@@ -52,7 +52,7 @@ fn params_of(script: &Script) -> PodParams
     }
 }
 
-// A script's names, which stand for nothing yet.
+// A script's names, which mean nothing yet.
 fn names_for(alloc: Global, script: &Script) -> Result<Env, NoMemory>
     requires { IsWithinLimits script.now }
     ensures { IfOk result (λ env. env ≡ opening_names script.now) }

@@ -96,6 +96,7 @@ pub enum SessionEnd {
 }
 
 /// A session: the status that the program ends with, how it ended, the lines taken, and how many calls were made.
+// PROVER: derived, since `ending` moves fields out of a session, which a `Drop` by hand allows only where all are named.
 #[derive(Drop)]
 pub struct Session {
     pub status: u8,
@@ -157,7 +158,7 @@ impl Session {
         Session::new(end, TakeList::new(alloc), 0)
     }
 
-    /// The same session with another end.
+    /// This session with another end.
     pub fn ending(self, end: SessionEnd) -> Session
         ensures { result ≡ record self { status = status_of end; end = end } }
     {

@@ -48,7 +48,7 @@ judged_is_bad d before line why e p l t s a =
     let both : Err why ≡ Ok p = sym e ∙ good in
     absurd cc
 
--- what stands before the first bad line, and what stands from it on
+-- the lines before the first bad line, that line, and those after it
 record Stopped (d : Declared) (before : List Phrase) (lines : List (List ℕ)) (k : ℕ) (why : Reason) (more : List Phrase) (line : List ℕ) (rest : List (List ℕ)) : Type 0 where
   lines_are : lines ≡ map phrase_text more ++ line ∷ rest
   number : k ≡ suc (length (before ++ more))

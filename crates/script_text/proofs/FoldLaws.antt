@@ -96,7 +96,7 @@ good count stage declared mentions draft = record { count = count; stage = stage
 abbrev settled : Declared → Reader → List ℕ → Result Script (ℕ × Reason)
 settled d r tail = answer_by (first_missing d r.draft.script.names.procs r.mentions) r.bad r tail
 
--- behind a bad line only what is declared changes
+-- after a bad line only what is declared changes
 frozen : (d : Declared) (why : Reason) (count : ℕ) (stage : Stage) (declared : Declared) (mentions : List Mention) (draft : Draft) (lines : List (List ℕ)) (more tail : List ℕ) → settled d (knows (fold step (record { count = count; stage = stage; bad = Some why; declared = declared; mentions = mentions; draft = draft }) lines) more) tail ≡ answer_by (first_missing d draft.script.names.procs mentions) (Some why) (record { count = count; stage = stage; bad = Some why; declared = nothing; mentions = mentions; draft = draft }) tail
 frozen d why count stage declared mentions draft [] more tail = elim (first_missing d draft.script.names.procs mentions) as (λ o. answer_by o (Some why) (record { count = count; stage = stage; bad = Some why; declared = after_note declared more; mentions = mentions; draft = draft }) tail ≡ answer_by o (Some why) (record { count = count; stage = stage; bad = Some why; declared = nothing; mentions = mentions; draft = draft }) tail) [
   | None ↦ refl
@@ -122,7 +122,7 @@ stays_missed d n count stage declared mentions draft before (l ∷ ls) more tail
       stays_missed d n (count + 1) _ _ _ _ (before ++ p ∷ []) ls more tail g.1 missed
 ] refl
 
--- the answer behind good lines
+-- the answer after good lines
 all_ended : (d : Declared) (count : ℕ) (stage : Stage) (declared : Declared) (mentions : List Mention) (draft : Draft) (before : List Phrase) (tail : List ℕ) → Tracks count stage declared mentions draft before → first_undeclared d 1 before ≡ None → settled d (knows (good count stage declared mentions draft) tail) tail ≡ finish (Ok before) tail
 all_ended d count stage declared mentions draft before (b ∷ tail) k h =
     let line : count + 1 ≡ suc (length before) = omega (arith, k.count_is) in
@@ -131,7 +131,7 @@ all_ended d count stage declared mentions draft before [] k h =
     let line : count + 1 ≡ suc (length before) = omega (arith, k.count_is) in
     rw (k.mentions_tell d, h, line, k.draft_is) refl
 
--- the answer behind lines that are good so far
+-- the answer after lines that are good so far
 settles : (d : Declared) (count : ℕ) (stage : Stage) (declared : Declared) (mentions : List Mention) (draft : Draft) (before : List Phrase) (lines : List (List ℕ)) (tail : List ℕ) → Tracks count stage declared mentions draft before → first_undeclared d 1 before ≡ None → settled d (knows (fold step (good count stage declared mentions draft) lines) tail) tail ≡ finish (read_on d before lines) tail
 settles d count stage declared mentions draft before [] tail k h = all_ended d count stage declared mentions draft before tail k h
 settles d count stage declared mentions draft before (l ∷ ls) tail k h = elim (judge_alone stage declared draft.posted l) as (λ j. judge_alone stage declared draft.posted l ≡ j → settled d (knows (fold step (knows (after_verdict (good count stage declared mentions draft) j) l) ls) tail) tail ≡ finish (at_line (suc (length before)) (judge d before l) (λ p. read_on d (before ++ p ∷ []) ls)) tail) [

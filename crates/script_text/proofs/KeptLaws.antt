@@ -90,7 +90,7 @@ word_alike front x y h = elim (cases_lt (reach 32 front) (length front)) [
 
 -- ---- What two lines declare that begin alike.
 
--- behind a word, both have nothing, or begin alike still
+-- after a word, both have nothing, or begin alike still
 abbrev AreBehind : List ℕ → List ℕ → List ℕ → List ℕ → Type 0
 AreBehind w front x y = (behind w (front ++ x) ≡ []) × (behind w (front ++ y) ≡ []) ⊎ ((f : List ℕ) × (length front ≡ length w + length f) × (behind w (front ++ x) ≡ f ++ x) × (behind w (front ++ y) ≡ f ++ y))
 
@@ -253,7 +253,7 @@ answer_kept r (b ∷ bs) = by_cases (first_missing r.declared r.draft.script.nam
 pub kept_answer : (r : Reader) (tail : List ℕ) → answer_at r (kept_bytes tail) ≡ answer_at r tail
 kept_answer r tail = ap (λ q. answer q (kept_bytes tail)) (knows_alike (kept_bytes tail) tail (kept_alike tail) r) ∙ answer_kept (knows r tail) tail
 
--- ---- A piece behind what is kept.
+-- ---- A piece after what is kept.
 
 take_tail : (n : ℕ) (t : List ℕ) → IsTail t → IsTail (take n t)
 take_tail zero t h = refl
@@ -268,7 +268,7 @@ kept_tail t h = cut_push_rest (take 1024 t) (bad_mark (is_printable (drop 1024 t
     mark_tail true = refl
     mark_tail false = refl
 
--- the lines of a piece behind a tail, and what is kept behind them
+-- the lines of a piece after a tail, and what is kept after them
 abbrev lines_on : Reader → List ℕ → List ℕ → Reader
 lines_on r t piece = fold step r (line_cut (t ++ piece)).0
 

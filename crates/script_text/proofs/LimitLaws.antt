@@ -50,7 +50,7 @@ grown_alike (Some s) (Some p) = refl
 abbrev procs_in : Draft → ℕ
 procs_in d = length d.script.procs + length (option_to_list d.current)
 
--- what holds behind so many lines
+-- what holds after so many lines
 record Few (n : ℕ) (d : Draft) : Type 0 where
   procs : procs_in d ≤ n
   natives : length d.script.natives ≤ n
@@ -108,7 +108,7 @@ few_lines lines = subst (λ (m : ℕ). Few m (draft_of lines)) (omega arith) (fe
 abbrev Ranks : ℕ → Type 0
 Ranks m = (1 ≤ m) × (m ≤ 255)
 
--- behind the line of the pod the priority is within its limits, and before it there is no procedure
+-- after the line of the pod the priority is within its limits, and before it there is no procedure
 abbrev Ranked : Stage → ℕ → ℕ → Type 0
 Ranked stages.Start m held = held ≡ 0
 Ranked stages.Header m held = held ≡ 0
@@ -133,7 +133,7 @@ ranked_some stages.Skipping m held some h = h
 ranked_some stages.Ended m held some h = h
 ranked_some stages.Posts m held some h = h
 
--- whether only lines behind the pod have this role
+-- whether a line of this role comes after that of the pod
 abbrev comes_late : Role → Bool
 comes_late role.Header = false
 comes_late role.Pod = false
@@ -158,7 +158,7 @@ behind_pod stages.Skipping r m held l f h = h
 behind_pod stages.Ended r m held l f h = h
 behind_pod stages.Posts r m held l f h = h
 
--- a line that has ranks behind it, at the stage behind it
+-- a line after that of the pod keeps the priority within its limits
 late_ranked : (s : Stage) (r : Role) (m held : ℕ) → comes_late r ≡ true → Ranks m → follows s r ≡ true → Ranked (stage_after s r) m held
 late_ranked s role.Header m held l h f = absurd cc
 late_ranked s role.Pod m held l h f = absurd cc
@@ -251,7 +251,7 @@ ranked_more role.Again s known posted at d p t h =
     let f = (both (follows s role.Again) (keeps_rule known posted role.Again p) t).0 in
     late_ranked s role.Again d.script.maxpri (procs_in (after_add_at role.Again at d p)) refl (behind_pod s role.Again d.script.maxpri (procs_in d) refl f h) f
 
--- the same of lines
+-- a draft's ranks after these lines
 abbrev AreRanked : List Phrase → Type 0
 AreRanked lines = Ranked (stage_of lines) (draft_of lines).script.maxpri (procs_in (draft_of lines))
 

@@ -13,7 +13,7 @@ absent_by : (b : Bool) (rest : Bool) (m n : ℕ) → (b || rest) ≡ false → (
 absent_by true rest m n h f = absurd cc
 absent_by false rest m n h f = ap suc (f h)
 
--- it would stand behind the last
+-- it would come after the last
 pub absent_place : (names : List (List ℕ)) (w : List ℕ) → contains_name names w ≡ false → place names w ≡ length names
 absent_place [] w h = refl
 absent_place (n ∷ ns) w h = absent_by (bytes_eq n w) (contains_name ns w) (place ns w) (length ns) h (absent_place ns w)

@@ -39,7 +39,7 @@ said_declares d line p e = let f = phrase_found line p e in ap (after_note d) f.
 
 -- ---- Lines that start a procedure.
 
--- what stands behind a key changes nothing of its first word
+-- what follows a key changes nothing of its first word
 first_of_key : (w r : List ℕ) → reach 32 r ≡ 0 → first_word (w ++ r) ≡ first_word w
 first_of_key [] r s = rw s refl
 first_of_key (b ∷ bs) r s = elim (eqb b 32) as (λ v. take (cond v 0 (suc (reach 32 (bs ++ r)))) (b ∷ bs ++ r) ≡ take (cond v 0 (suc (reach 32 bs))) (b ∷ bs)) [

@@ -14,12 +14,12 @@ use Rattle.script_text.specs.Meaning.{contains_name, enter, draft_of, script_of}
 
 -- ---- The order of lines.
 
--- the first statement of a procedure says how it goes on; those behind it change nothing
+-- the first statement of a procedure says how it goes on; the later ones change nothing
 abbrev pub stage_behind_first : Stage → Stage → Stage
 stage_behind_first first stage.Proc = first
 stage_behind_first first s = s
 
--- what may come behind a line of this role
+-- what may come after a line of this role
 abbrev pub stage_after : Stage → Role → Stage
 stage_after s role.Header = stage.Header
 stage_after s role.Pod = stage.Pod
@@ -32,12 +32,12 @@ stage_after s role.Statement = stage_behind_first stage.Calling s
 stage_after s role.Skip = stage_behind_first stage.Skipping s
 stage_after s role.Again = stage.Ended
 
--- what may come behind these lines
+-- what may come after these lines
 abbrev pub stage_of : List Phrase → Stage
 stage_of lines = fold (λ s p. stage_after s (role_of p.op)) stage.Start lines
 
 -- The header comes first and once, then the pod, then at most one limit, then clients, then built-in procedures; then
--- procedures, each with its statements behind it; then posts. An `again` ends a procedure whose first statement makes a
+-- procedures, each followed by its statements; then posts. An `again` ends a procedure whose first statement makes a
 -- call.
 abbrev pub follows : Stage → Role → Bool
 follows stage.Start role.Header = true
@@ -107,11 +107,11 @@ keeps_rule d posted _ p = true
 abbrev pub may_stand_at : Stage → Declared → List ℕ → Phrase → Bool
 may_stand_at s d posted p = follows s (role_of p.op) && keeps_rule d posted (role_of p.op) p
 
--- whether a line may stand behind these lines
+-- whether a line may stand after these lines
 abbrev pub may_stand : List Phrase → Phrase → Bool
 may_stand before p = may_stand_at (stage_of before) (declared_of before) (posted_of before) p
 
--- each line may stand behind those before it
+-- each line may stand after those before it
 abbrev pub AllStand : List Phrase → List Phrase → Type 0
 AllStand before [] = Unit {0}
 AllStand before (p ∷ ps) = IsTrue (may_stand before p) × AllStand (before ++ p ∷ []) ps
@@ -122,11 +122,11 @@ is_declared d p = if starts p.op then has d (starts_any p.op) p.procedure else t
 
 -- ---- A script.
 
--- lines one behind the other
+-- lines one after the other
 abbrev pub spelling : List Phrase → List ℕ
 spelling lines = flat_map (λ p. with_newline (phrase_text p)) lines
 
--- The text is these lines, which keep every rule, and the script is what they say. A procedure may be declared behind
+-- The text is these lines, which keep every rule, and the script is what they say. A procedure may be declared after
 -- the line that starts it.
 pub record SpelledBy (text : List ℕ) (script : Script) (lines : List Phrase) : Type 0 where
   pub text_is : text ≡ spelling lines

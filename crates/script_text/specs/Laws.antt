@@ -28,12 +28,12 @@ pub record AreGood (declared : Declared) (lines : List Phrase) : Type 0 where
   pub stand : AllStand [] lines
   pub all_declared : AllByRecursion (λ p. IsTrue (is_declared declared p)) lines
 
--- the text of no line that may stand behind these, and starts a declared procedure if it starts one
+-- the text of no line that may stand after these, and starts a declared procedure if it starts one
 abbrev pub IsBadLine : Declared → List Phrase → List ℕ → Type 0
 IsBadLine declared before text = (p : Phrase) → IsLine p → text ≡ phrase_text p
     → may_stand before p ≡ true → is_declared declared p ≢ true
 
--- Behind these good lines the next one is bad, for its bytes or for what it is there; or the last has no end; or all
+-- After these good lines the next one is bad, for its bytes or for what it is there; or the last has no end; or all
 -- lines are good, and none begins a procedure.
 abbrev pub IsBadBehind : Declared → List Phrase → List (List ℕ) → List ℕ → Reason → Type 0
 IsBadBehind declared before (line ∷ lines) tail why = IsBadLine declared before line
@@ -41,7 +41,7 @@ IsBadBehind declared before (line ∷ lines) tail why = IsBadLine declared befor
 IsBadBehind declared before [] (b ∷ tail) why = why ≡ reason.Unended
 IsBadBehind declared before [] [] why = (length (script_of before).procs ≡ 0) × (why ≡ reason.Missing)
 
--- these lines, and what stands behind the last newline, are good lines, and then the one of this number, which is bad
+-- these lines, and the bytes after the last newline, are good lines, and then the one of this number, which is bad
 pub record IsFirstBad (lines : List (List ℕ)) (tail : List ℕ) (line : ℕ) (why : Reason)
     (before : List Phrase) (behind : List (List ℕ)) : Type 0 where
   pub lines_are : lines ≡ map phrase_text before ++ behind

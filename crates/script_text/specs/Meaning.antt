@@ -64,7 +64,7 @@ after_name names p = record {
 abbrev pub with_text_of : List (List ℕ) → Phrase → List (List ℕ)
 with_text_of texts p = if says p.op then texts ++ p.text ∷ [] else texts
 
--- where the names of a line stand, once they are entered, and where its text will stand behind these
+-- where the names of a line stand, once they are entered, and where its text will, after these
 abbrev pub places_of : Names → List (List ℕ) → Phrase → Places
 places_of names texts p = record {
   thread = place_of names.threads p.thread;

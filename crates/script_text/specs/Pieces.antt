@@ -15,7 +15,7 @@ pub record SoFar : Type 0 where
   pub total : ℕ
   -- what its lines say, where their end has come
   pub lines : Reader
-  -- the bytes that are kept of what stands behind them
+  -- what is kept of the bytes after them
   pub tail : List ℕ
 
 -- how a reader stands: memory was refused to it, or the text is too long, or it has this of the text

@@ -29,14 +29,14 @@ onto_first b c = onto c.0 c.1
     onto [] tail = ([], b ∷ tail)
     onto (l ∷ ls) tail = ((b ∷ l) ∷ ls, tail)
 
--- the lines that have ended, and what stands behind the last newline
+-- the lines that have ended, and the bytes after the last newline
 abbrev pub line_cut : List ℕ → List (List ℕ) × List ℕ
 line_cut [] = ([], [])
 line_cut (b ∷ bs) = if b == 10 then ([] ∷ (line_cut bs).0, (line_cut bs).1) else onto_first b (line_cut bs)
 
 -- ---- Why a line is bad.
 
--- whether a statement breaks the rule of `again`: it comes behind one, or it is one that may not end its procedure
+-- whether a statement breaks the rule of `again`: it comes after one, or it is one that may not end its procedure
 abbrev pub breaks_again : Stage → Role → Bool
 breaks_again stage.Proc role.Again = true
 breaks_again stage.Skipping role.Again = true
@@ -76,7 +76,7 @@ abbrev pub reason_of : Stage → List ℕ → Reason
 reason_of s line = reason_behind s (word_reason (first_word line))
     (option_map (λ (p : Phrase). role_of p.op) (phrase_at line))
 
--- the reason of a bad line of printable bytes behind these lines
+-- the reason of a bad line of printable bytes after these lines
 abbrev pub reason_at : List Phrase → List ℕ → Reason
 reason_at before line = reason_of (stage_of before) line
 
@@ -88,18 +88,18 @@ judge_phrase declared before line None = Err (reason_at before line)
 judge_phrase declared before line (Some p) = if may_stand before p && is_declared declared p then Ok p
     else Err (reason_at before line)
 
--- what a line says behind these lines, in a text that declares these procedures, or why it is bad
+-- what a line says after these lines, in a text that declares these procedures, or why it is bad
 abbrev pub judge : Declared → List Phrase → List ℕ → Result Phrase Reason
 judge declared before line = if is_printable line then judge_phrase declared before line (phrase_at line)
     else Err reason.Bytes
 
--- goes on behind a good line, and stops at a bad one with its number
+-- goes on after a good line, and stops at a bad one with its number
 abbrev pub at_line : ℕ → Result Phrase Reason → (Phrase → Result (List Phrase) (ℕ × Reason))
     → Result (List Phrase) (ℕ × Reason)
 at_line k (Ok p) f = f p
 at_line k (Err why) f = Err (k, why)
 
--- what lines say that come behind others, up to the first that is bad
+-- what lines say that come after others, up to the first that is bad
 abbrev pub read_on : Declared → List Phrase → List (List ℕ) → Result (List Phrase) (ℕ × Reason)
 read_on declared before [] = Ok before
 read_on declared before (line ∷ lines) =

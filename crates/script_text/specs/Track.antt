@@ -23,7 +23,7 @@ abbrev pub judge_phrase_at : Stage → Declared → List ℕ → List ℕ → Op
 judge_phrase_at s known posted line None = Err (reason_of s line)
 judge_phrase_at s known posted line (Some p) = if may_stand_at s known posted p then Ok p else Err (reason_of s line)
 
--- what a line says, or why it is bad whatever the lines behind it declare
+-- what a line says, or why it is bad whatever the later lines declare
 abbrev pub judge_alone : Stage → Declared → List ℕ → List ℕ → Result Phrase Reason
 judge_alone s known posted line = if is_printable line then judge_phrase_at s known posted line (phrase_at line)
     else Err reason.Bytes
@@ -50,7 +50,7 @@ abbrev pub after_verdict : Reader → Result Phrase Reason → Reader
 after_verdict r (Ok p) = after_take r p
 after_verdict r (Err why) = record r { bad = Some why }
 
--- behind a bad line no more lines are judged
+-- after a bad line no more lines are judged
 abbrev pub after_judge : Option Reason → Reader → List ℕ → Reader
 after_judge (Some why) r line = r
 after_judge None r line = after_verdict r (judge_alone r.stage r.declared r.draft.posted line)
@@ -85,7 +85,7 @@ abbrev pub answer_fine : Reader → List ℕ → Result Script (ℕ × Reason)
 answer_fine r (b ∷ tail) = Err (r.count + 1, reason.Unended)
 answer_fine r [] = whole (r.count + 1) (with_last_procedure r.draft)
 
--- A line that starts an undeclared procedure comes first: the lines behind one that is bad by itself aren't judged.
+-- A line that starts an undeclared procedure comes first: the lines after one that is bad by itself aren't judged.
 abbrev pub answer_by : Option ℕ → Option Reason → Reader → List ℕ → Result Script (ℕ × Reason)
 answer_by (Some k) bad r tail = Err (k, reason.Statement)
 answer_by None (Some why) r tail = Err (r.count + 1, why)
@@ -95,6 +95,6 @@ answer_by None None r tail = answer_fine r tail
 abbrev pub answer : Reader → List ℕ → Result Script (ℕ × Reason)
 answer r tail = answer_by (first_missing r.declared r.draft.script.names.procs r.mentions) r.bad r tail
 
--- the script of these lines and what is left behind them, or why there is none
+-- the script of these lines and what is left after them, or why there is none
 abbrev pub answer_at : Reader → List ℕ → Result Script (ℕ × Reason)
 answer_at r tail = answer (knows r tail) tail

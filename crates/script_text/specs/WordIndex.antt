@@ -18,12 +18,12 @@ pub record Numbered : Type 0 where
 abbrev pub bare : Numbered
 bare = record { short = []; wide = []; long = [] }
 
--- what stands under a word's number
+-- the entry under a word's number
 abbrev pub at_digits : Numbered → ℕ → Option ℕ
 at_digits i digits = if nat_le digits 18446744073709551615 then lookup (λ key. is_eq (nat_cmp digits key)) i.short
     else lookup (λ key. is_eq (nat_cmp digits key)) i.wide
 
--- what stands under a word, by its number if it has one and else by its bytes
+-- the entry under a word, by its number if it has one and else by its bytes
 abbrev pub entry_under : Numbered → List ℕ → Option ℕ → Option ℕ
 entry_under i word (Some digits) = at_digits i digits
 entry_under i word None = lookup (λ key. is_eq (slice_cmp nat_cmp word key)) i.long

@@ -18,7 +18,7 @@ pub struct Draft {
     pub posted: Counts,
 }
 
-// By hand, so that whoever drops a draft calls this.
+// PROVER: written by hand, so that a function that drops a draft calls this instead of repeating its proof.
 impl Drop for Draft {
     fn drop(self) {
         let Draft {
@@ -29,7 +29,7 @@ impl Drop for Draft {
     }
 }
 
-/// Where the names of a line stand in their lists, and its text in the list of texts.
+/// The places of a line's names in their lists, and of its text in the list of texts.
 #[derive(Clone, Copy)]
 pub struct Places {
     pub thread: u32,
@@ -39,7 +39,7 @@ pub struct Places {
     pub text: u32,
 }
 
-// Enters the names of a line. They stand at these places then, and its text will stand behind those before.
+// Enters the names of a line, and gives their places and the one that its text will have.
 fn name(names: &mut Names, texts: &TextList, phrase: &Phrase<'_>) -> Result<Places, NoMemory>
     ensures entered { OnOk result (names.new ≡ after_name names.old phrase.now) }
     ensures places { IfOk result
@@ -63,7 +63,7 @@ fn name(names: &mut Names, texts: &TextList, phrase: &Phrase<'_>) -> Result<Plac
 }
 
 // Enters the text of a line that has one.
-fn speak(texts: &mut TextList, phrase: &Phrase<'_>) -> Result<(), NoMemory>
+fn enter_text(texts: &mut TextList, phrase: &Phrase<'_>) -> Result<(), NoMemory>
     ensures { OnOk result (texts.new ≡ with_text_of texts.old phrase.now) }
 {
     if phrase.op.says() {
@@ -95,7 +95,7 @@ fn from_of(whom: Whom, name: u32) -> Option<Who>
     }
 }
 
-// Whom a line speaks of, whose names stand so.
+// Whom a line speaks of, whose names have these places.
 fn whom(at: Places, phrase: &Phrase<'_>) -> Who
     ensures { result ≡ who_of phrase.now.who at.thread }
 {
@@ -258,7 +258,7 @@ fn thread_statement(at: Places, phrase: &Phrase<'_>) -> Option<Stmt>
     }
 }
 
-// The statement of a line whose names and text stand so.
+// The statement of a line whose names and text have these places.
 fn statement_of(at: Places, phrase: &Phrase<'_>) -> Option<Stmt>
     ensures { result ≡ statement_of phrase.now.op at phrase.now }
 {
@@ -365,7 +365,7 @@ impl Draft {
         end(&mut self.script.procs, self.current.replace(next))
     }
 
-    // One more line of a client, whose text stands there.
+    // One more line of a client, whose text has this place.
     fn post(&mut self, client: u8, text: u32) -> Result<(), NoMemory>
         ensures { OnOk result (self.new ≡ with_post client text self.old) }
     {
@@ -436,7 +436,7 @@ impl Draft {
         self.post(client, place)
     }
 
-    /// One more line, and where its names stand.
+    /// Adds one more line, and gives the places of its names and its text.
     pub fn add(&mut self, alloc: Global, phrase: &Phrase<'_>) -> Result<Places, NoMemory>
         ensures draft { OnOk result (self.new ≡ after_add self.old phrase.now) }
         ensures places { IfOk result
@@ -446,7 +446,7 @@ impl Draft {
             phrase.now) }
     {
         let at = name(&mut self.script.names, &self.script.texts, phrase)?;
-        speak(&mut self.script.texts, phrase)?;
+        enter_text(&mut self.script.texts, phrase)?;
         self.add_at(alloc, phrase, at)?;
         Ok(at)
     }

@@ -14,17 +14,18 @@ use memchr::memchr;
 use script_lines::is_printable;
 use std::alloc::Global;
 
-// How many bytes are kept of a line that hasn't ended. No good line has as many.
+// How many bytes are kept of a line that hasn't ended. No good line has as many, so what a longer line says, and which
+// procedure it declares, is settled by these.
 const KEPT: usize = 1024;
 
-/// What is known of the lines that have ended, and what is kept of what stands behind the last newline.
+/// What is known of the lines that have ended, and what is kept of the bytes after the last newline.
 pub struct Lines {
     pub alloc: Global,
     pub reader: Reader,
     pub tail: Vec<u8>,
 }
 
-// By hand, so that whoever drops these calls this.
+// PROVER: written by hand, so that a function that drops these calls this instead of repeating its proof.
 impl Drop for Lines {
     fn drop(self) {
         let Lines {
@@ -35,7 +36,7 @@ impl Drop for Lines {
     }
 }
 
-// The first line and what stands behind its end.
+// The first line and the bytes after its end.
 fn first_line(text: &[u8]) -> Option<(&[u8], &[u8])>
     ensures some { IfSome result
         (λ x. line_cut text.now ≡ (x.0.now ∷ (line_cut x.1.now).0, (line_cut x.1.now).1)) }
@@ -83,7 +84,7 @@ impl Lines {
         }
     }
 
-    // One more line, which has ended; what is kept behind the last newline is its first part.
+    // One more line, which has ended; what is kept after the last newline is its first part.
     fn line(&mut self, line: &[u8]) -> Result<(), NoMemory>
         ensures reader { OnOk result
             (self.new.reader ≡ step self.old.reader (self.old.tail.items ++ line.now)) }
@@ -98,7 +99,7 @@ impl Lines {
         Ok(())
     }
 
-    /// The lines of a piece, and what is kept of what stands behind the last of them.
+    /// The lines of a piece, and what is kept of the bytes after the last of them.
     pub fn feed(&mut self, piece: &[u8]) -> Result<(), NoMemory>
         ensures reader { OnOk result
             (IsTail self.old.tail.items →

@@ -26,7 +26,7 @@ impl Model for NameList {
     ghost invariant = { λ l. IsIndexed l.names l.index };
 }
 
-// By hand, so that whoever drops a list calls this.
+// PROVER: written by hand, so that a function that drops a list calls this instead of repeating its proof.
 impl Drop for NameList {
     fn drop(self) {
         let NameList { names: _, index: _ } = self;
@@ -67,7 +67,7 @@ impl NameList {
         self.names.len()
     }
 
-    /// The bytes of the name at place `i`, counted from 0; none behind the last.
+    /// The bytes of the name at place `i`, counted from 0; none after the last.
     pub fn bytes(&self, i: usize) -> &[u8]
         ensures same { result.now ≡ text_at self.now i }
         ensures is_text { IsTrue (is_text result.now) }

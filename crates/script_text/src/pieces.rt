@@ -16,7 +16,7 @@ use std::marker::Model;
 /// The most bytes that a script has.
 const MOST: usize = 16_777_216;
 
-/// Reads a script in pieces, whatever they are. It is seen as how it stands: what it has of the text so far, or no more than that the
+/// Reads a script in pieces, whatever they are. It is seen as its state: what it has of the text so far, or no more than that the
 /// text is too long, or that memory was refused.
 pub struct ScriptReader {
     lines: Lines,
@@ -26,7 +26,7 @@ pub struct ScriptReader {
     failed: bool,
 }
 
-// By hand, so that whoever drops a reader calls this.
+// PROVER: written by hand, so that a function that drops a reader calls this instead of repeating its proof.
 impl Drop for ScriptReader {
     fn drop(self) {
         let ScriptReader {

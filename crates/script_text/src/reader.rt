@@ -34,7 +34,7 @@ pub struct Declared {
     pub natives: NameList,
 }
 
-// By hand, so that whoever drops these calls this.
+// PROVER: written by hand, so that a function that drops these calls this instead of repeating its proof.
 impl Drop for Declared {
     fn drop(self) {
         let Declared {
@@ -55,7 +55,7 @@ pub struct Reader {
     pub draft: Draft,
 }
 
-// By hand, so that whoever drops a reader calls this.
+// PROVER: written by hand, so that a function that drops a reader calls this instead of repeating its proof.
 impl Drop for Reader {
     fn drop(self) {
         let Reader {
@@ -117,7 +117,7 @@ fn proc_on(line: &[u8]) -> &[u8]
     }
 }
 
-// The first word, if a space stands behind it.
+// The first word, if a space follows it.
 fn spaced_word(words: &[u8]) -> &[u8]
     ensures { result.now ≡ spaced_word words.now }
 {
@@ -214,7 +214,7 @@ fn first_missing(declared: &Declared, names: &NameList, mentions: &[Mention]) ->
     None
 }
 
-// The script of a draft all of whose lines are good. `line` is the number of the one behind them.
+// The script of a draft all of whose lines are good. `line` is the number of the next one.
 fn close_at(line: u32, draft: Draft) -> Result<Script, ReadErr>
     ensures { Gives (whole line (with_last_procedure draft)) result }
 {
@@ -406,7 +406,7 @@ impl Reader {
         self.declared.note(line)
     }
 
-    // The first bad line of those that have ended, or `line`, the one behind them, if it isn't empty.
+    // The first bad line of those that have ended, or `line`, the next one, if it isn't empty.
     fn fault(&self, line: u32, tail: &[u8]) -> Option<(u32, Reason)>
         requires { line ≡ self.now.count + 1 }
         ensures some { IfSome result (λ x. answer self.now tail.now ≡ Err x) }
@@ -461,7 +461,7 @@ impl Reader {
         draft
     }
 
-    /// The script of the lines and what is left behind the last end, which declares a procedure too.
+    /// The script of the lines and what is left after the last end, which declares a procedure too.
     pub fn finish(mut self, tail: &[u8]) -> Result<Script, ReadErr>
         ensures { Gives (answer_at self tail.now) result }
     {

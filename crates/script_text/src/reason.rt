@@ -25,7 +25,7 @@ pub enum Reason {
     Proc,
     /// A line that begins with `post`, and may not stand there, or isn't a text of a client that may post one more.
     Post,
-    /// An `again` that may not end its procedure, or a statement behind one.
+    /// An `again` that may not end its procedure, or a statement after one.
     Again,
     /// A line that isn't a statement of a procedure, or one that names an undeclared procedure.
     Statement,

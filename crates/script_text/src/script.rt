@@ -1,4 +1,4 @@
-// A script as a program sees it. A name or a text is the place at which it stands in the list of its kind.
+// A script as a program sees it. A name or a text is its place in the list of its kind.
 use crate::names::NameList;
 use lists::TextList;
 use lwp_types::{Flags, Func, Mode, Pattern, Sequence};
@@ -228,7 +228,7 @@ pub struct Script {
     pub texts: TextList,
 }
 
-// By hand, so that whoever drops a script calls this.
+// PROVER: written by hand, so that a function that drops a script calls this instead of repeating its proof.
 impl Drop for Script {
     fn drop(self) {
         let Script {

@@ -1,4 +1,4 @@
-// Where the next line of a script will stand.
+// The parser's state: what the lines so far have come to, and which may follow.
 ghost use Rattle.std.specs.Prelude.{◌≡◌};
 ghost use Rattle.script_text.specs.Grammar.{stage_behind_first, stage_after, follows};
 ghost use Rattle.script_text.specs.Spelling.{breaks_again};
@@ -41,7 +41,7 @@ fn opened(first: Stage, stage: Stage) -> Stage
 }
 
 impl Stage {
-    /// The stage behind one more line.
+    /// The stage after one more line.
     pub fn after(self, role: Role) -> Stage
         ensures { result ≡ stage_after self role }
     {

@@ -23,7 +23,7 @@ pub struct WordIndex {
     long: BTreeMap<Vec<u8>, u32>,
 }
 
-// By hand, so that whoever drops one calls this.
+// PROVER: written by hand, so that a function that drops an index calls this instead of repeating its proof.
 impl Drop for WordIndex {
     fn drop(self) {
         let WordIndex {

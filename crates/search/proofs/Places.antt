@@ -1,4 +1,4 @@
--- What stands at a place of a list.
+-- The element at a place of a list.
 use Rattle.std.proofs.Common.{List, Some, [], ap, arith, inl, inr, length, refl, suc, zero, ℕ, ◌++◌, ◌<◌, ◌⊎◌, ◌∷◌, ◌≡◌}
 use Rattle.std.specs.Prelude.{slice_get}
 
@@ -20,7 +20,7 @@ module _ {X : Type 0} where
   get_cases (z ∷ xs) y zero x e = inl e
   get_cases (z ∷ xs) y (suc i) x e = elim (get_cases xs y i x e) [ inl h ↦ inl h | inr h ↦ inr (ap suc h.0, h.1) ]
 
-  -- what stands at a place within a list
+  -- the element at a place within a list
   pub get_within : (xs : List X) (i : ℕ) → i < length xs → (x : X) × (slice_get xs i ≡ Some x)
   get_within [] i h = absurd (omega (arith, h))
   get_within (x ∷ xs) zero h = (x, refl)

@@ -1,4 +1,4 @@
--- Which cores the rows of a search stand for, and what is said of them.
+-- Which cores the rows of a search mean, and what is said of them.
 use Rattle.search.specs.Moves.{IsPath, IsReachable, Moves}
 use Rattle.search.specs.Paths.{IsBefore}
 use Rattle.search.specs.declared.found.Row.{Row}

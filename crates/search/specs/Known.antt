@@ -25,7 +25,7 @@ abbrev pub HasRowsInOrder : List Row → Type 0
 HasRowsInOrder rows = (i j : ℕ) (a b : Row) → i < j → slice_get rows (suc i) ≡ Some a → slice_get rows (suc j) ≡ Some b
     → ComesBefore a.parent a.step b.parent b.step
 
--- what stands in a list stays where it is, and more may follow
+-- each element of a list stays where it is, and more may follow
 abbrev pub Stays : {X : Type 0} → List X → List X → Type 0
 Stays {X} old new = (at : ℕ) (x : X) → slice_get old at ≡ Some x → slice_get new at ≡ Some x
 

@@ -1,7 +1,8 @@
 -- What a machine can do, and where that leads.
 use Rattle.std.specs.Prelude.{List, Option, Some, [], option_and_then, slice_get, ℕ, ◌∷◌, ◌≡◌}
 
--- where a machine begins, where the steps from each core lead, in order, the bytes that stand for a core, and a core's kind if it has one
+-- where a machine begins, where the steps from each core lead, in order, the bytes that encode a core, and a core's
+-- kind if it has one
 pub record Moves (C : Type 0) : Type 0 where
   pub first : C
   pub after : C → List C

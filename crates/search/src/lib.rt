@@ -1,10 +1,10 @@
 //! A breadth-first search over a machine that a trait gives: which cores it reaches, each once, with its first path.
 //!
 //! A *core* is all of a machine that counts for how it goes on. What a machine can do is a record of its `Moves`
-//! (`specs/Moves.antt`): the first core, where the steps from each core lead, the bytes that stand for a core, and its kind. What was
-//! found is a list of rows, and `cores_of` says which cores these are (`specs/Found.antt`). Paths have an order, the shorter first
-//! and then by their steps (`specs/Paths.antt`), and the cores are found in the order of their first paths. The definitions speak of
-//! paths alone, and never of the search.
+//! (`specs/Moves.antt`): the first core, where the steps from each core lead, the bytes that encode a core, and its
+//! kind. What was found is a list of rows, and `cores_of` says which cores these are (`specs/Found.antt`). Paths have
+//! an order, the shorter first and then by their steps (`specs/Paths.antt`), and the cores are found in the order of
+//! their first paths. The definitions speak of paths alone, and never of the search.
 //!
 //! `keys` has bytes as keys for values: two values have the same bytes only if they are the same value. The crate stands on nothing
 //! but std.

@@ -31,7 +31,7 @@ pub trait Machine: Drop {
         ensures same { OnOk result (moves self.new ≡ moves self.old) }
         ensures there { OnOk result (slice_get ((moves self.old).after (core self.old)) number ≡ Some (core self.new)) };
 
-    /// Writes the bytes that stand for the core, in place of what the buffer held.
+    /// Writes the bytes that encode the core, in place of what the buffer held.
     fn key(&self, key: &mut Vec<u8>) -> Result<(), NoMemory>
         ensures { OnOk result (key.new.items ≡ (moves self.now).key (core self.now)) };
 

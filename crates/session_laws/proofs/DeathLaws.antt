@@ -14,7 +14,7 @@ use Rattle.std.proofs.Common.{List, None, [], arith, count_by, refl, true, zero,
 use Rattle.std.proofs.lemmas.Bool.{or_parts}
 use Rattle.std.proofs.lemmas.List.Sums.{sum_by_push}
 
--- the state is lawful, and whoever died in these steps did so once and is gone
+-- the state is lawful, and each that died in these steps did so once and is gone
 pub record Buried (s : State) (steps : List Made) : Type 0 where
   pub lawful : Lawful s None
   pub gone : (n : ℕ) → 1 ≤ deaths n steps → IsGone s n

@@ -1,5 +1,5 @@
--- What a call or a take of a pod with its own events does to exit procedures and to the dead: what one step of the machine does at
--- most, with a delivery behind it.
+-- What a call or a take of a pod with its own events does to exit procedures and to the dead: what one step of the
+-- machine does at most, with a delivery after it.
 use Rattle.lwp_types.specs.Agents.{deliver, is_event_armed}
 use Rattle.lwp_types.specs.Case.{Case}
 use Rattle.lwp_types.specs.Choice.{choice}
@@ -70,7 +70,7 @@ number_now s k (Some t) c = number_set s k t c (what_it_sets c)
 
 -- ---- deaths in a step of the machine
 
--- whoever dies in a step was there before it, and dies once
+-- one that dies in a step was there before it, and dies once
 pub record Dies (s : State) (n told : ℕ) : Type 0 where
   pub few : told ≤ 1
   pub lived : 1 ≤ told → is_thread s n ≡ true
@@ -141,7 +141,7 @@ module _ (u : ℕ) (p : ExitTest) where
   dead_run : (s : State) → Lawful s None → is_thread s u ≡ false → (c : Call) → exits_passing (is_set_by u p) (step s c).effects ≡ 0
   dead_run s was gone c = omega (arith, exits_run_once s was c (is_set_by u p), none_left s.threads gone, dead_set s was gone c)
 
--- ---- what is told behind a call
+-- ---- what is told after a call
 
 -- it tells of no call, and of no trap
 abbrev is_later : Effect → Bool
@@ -195,7 +195,7 @@ later-rites dead (e ∷ es) h = by_effect e (and_parts (is_later e) (list_all is
 later-deliver : (s : State) (e : ℕ) (text : List ℕ) → list_all is_later (deliver s e text).effects ≡ true
 later-deliver s e text = later-tame (deliver s e text).effects (mild_tame (deliver s e text).effects (mild_deliver s e text).tells)
 
--- behind the call of a step
+-- after the call of a step
 later-step : (s : State) (t : ℕ) (c : Call) → choice s ≡ Some t → list_all is_later (drop 1 (step s c).effects) ≡ true
 unfolding step step_by
 later-step s t c turn = by_choice (choice s) turn
@@ -358,7 +358,7 @@ calls_unasked s was t c turn none = record {
   lawful = Lawful-step s was c;
 }
 
--- behind a trap
+-- after a trap
 calls_trapped : (s after : State) (es : List Effect) (t e : ℕ) → Calls s after es → Calls s after (effect.Trapped t e ∷ es)
 calls_trapped s after es t e calls = record {
   sets = calls.sets;
@@ -406,7 +406,7 @@ rites-same q asks dead (x ∷ xs) = omega (arith, count-cons q (as_rites dead x)
     same (effect.Trapped t f) = refl
     same (effect.Rites a d) = refl
 
--- with the report behind it
+-- with the report after it
 said_moved : (from s : State) (es : List Effect) (reports : List ℕ) → Calls from s es → Moved from (after_rites s es reports).state (after_rites s es reports).effects
 said_moved from s es reports calls = by_armed (is_event_armed s rites_event) refl reports
   where

@@ -16,12 +16,12 @@ use Rattle.std.proofs.lemmas.List.{drop-append-le, drop_all, length_push, take-a
 use Rattle.std.proofs.lemmas.List.Sums.{sum_by-take-le}
 use Rattle.std.specs.Prelude.{nat_le}
 
--- whoever died in the first of these steps has run nothing in the others
+-- one that died in the first of these steps has run nothing in the others
 record Silent (s : State) (steps : List Made) : Type 0 where
   buried : Buried s steps
   silent : (u m : ℕ) → 1 ≤ deaths u (take m steps) → (p : ExitTest) → exits_run (is_set_by u p) (drop m steps) ≡ 0
 
--- one step more, in which nothing runs of whoever has died before
+-- one step more, in which nothing runs of those that have died before
 silent_push : (s : State) (steps : List Made) (made : Made) → Silent s steps → ((u : ℕ) → is_thread s u ≡ false → (p : ExitTest) → exits_passing (is_set_by u p) made.effects ≡ 0)
     → (u m : ℕ) → 1 ≤ deaths u (take m (steps ++ made ∷ [])) → (p : ExitTest) → exits_run (is_set_by u p) (drop m (steps ++ made ∷ [])) ≡ 0
 silent_push s steps made was none u m died p = by_length (nat_le m (length steps)) refl

@@ -60,7 +60,7 @@ module _ (p : ExitTest) where
       by_choice None = refl
       by_choice (Some t) = case_told s t c (end_effects (case_of s t c).after) (what_it_sets c)
 
-  -- whatever is told behind the step
+  -- whatever is told after the step
   pub step_told_before : (s : State) (t : ℕ) (c : Call) (rest : List Effect) → choice s ≡ Some t → exits_set_in p ((step s c).effects ++ rest) ≡ sets_of_step p s (choice s) c
   unfolding step step_by
   step_told_before s t c rest turn = by_choice (choice s) turn

@@ -10,7 +10,7 @@ use Rattle.std.specs.Prelude.{List, drop, take, ℕ, ◌≡◌, ◌≤◌}
 abbrev pub deaths : ℕ → List Made → ℕ
 deaths n steps = sum_by (λ made. count_by (is_died n) made.effects) steps
 
--- whoever died in any step so far isn't there, and no list names it
+-- one that died in any step so far isn't there, and no list names it
 abbrev pub TheDeadStayForgotten : {B : Type 0} → Session B → Type 0
 TheDeadStayForgotten session = (n : ℕ) → 1 ≤ deaths n session.steps → IsForgotten session.live.pod.state n
 

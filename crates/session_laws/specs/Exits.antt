@@ -89,7 +89,7 @@ EachExitHasItsFate session = (k : ℕ) → Fate session k
 abbrev pub is_set_by : ℕ → ExitTest → ExitTest
 is_set_by u p t n x = (t == u) && p t n x
 
--- whoever isn't live has nothing set still: all that it has set has run
+-- one that isn't live has nothing set still: all that it has set has run
 abbrev pub TheDeadHaveRunTheirExits : {B : Type 0} → Session B → Type 0
 TheDeadHaveRunTheirExits session = (u : ℕ) → is_thread session.live.pod.state u ≡ false
     → (p : ExitTest) → exits_run (is_set_by u p) session.steps ≡ exits_set (is_set_by u p) session.steps

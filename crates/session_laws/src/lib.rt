@@ -33,7 +33,7 @@ pub fn every_exit<B: Body>()
     ensures { InEverySession B EachExitOnce }
 {}
 
-/// The same in words: an exit procedure whose number was given is set still and hasn't run, or has run and isn't set any more.
+/// An exit procedure whose number was given is set still and hasn't run, or has run and isn't set any more.
 pub fn every_fate<B: Body>()
     ensures { InEverySession B EachExitHasItsFate }
 {}
@@ -53,7 +53,7 @@ pub fn every_step_after_a_death<B: Body>()
     ensures { InEverySession B TheDeadRunNothing }
 {}
 
-/// Whoever died in any step so far isn't there, and no list names it.
+/// One that died in any step so far isn't there, and no list names it.
 pub fn every_dead<B: Body>()
     ensures { InEverySession B TheDeadStayForgotten }
 {}

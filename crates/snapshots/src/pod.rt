@@ -20,9 +20,9 @@ pub struct ThreadCopy<'s> {
 pub struct StateCopy<'s> {
     /// In birth order.
     pub threads: Sequence<ThreadCopy<'s>>,
-    /// Those that may run, in the order in which they would.
+    /// The run queue: those that may run, in the order in which they would.
     pub order: IdList,
-    /// First come first.
+    /// In FIFO order.
     pub timers: Sequence<TimerRow>,
     /// In the order of their sending.
     pub letters: Sequence<Letter<'s>>,
@@ -30,11 +30,11 @@ pub struct StateCopy<'s> {
     pub monitors: IdList,
     /// In the order in which they were acquired.
     pub locks: Sequence<Lock>,
-    /// First come first.
+    /// In FIFO order.
     pub requests: Sequence<Request>,
     /// In birth order.
     pub conditions: Sequence<CondRow>,
-    /// First come first.
+    /// In FIFO order.
     pub waits: Sequence<WaitRow>,
     /// In birth order.
     pub agents: Sequence<AgentRow>,

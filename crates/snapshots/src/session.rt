@@ -2,8 +2,8 @@
 use crate::PodCopy;
 use lwp_types::{Answer, Call, Sequence, Tid};
 
-/// What a session knows of a live thread beside its pod: the procedure that it began in, the answer that it is polled with next, and the
-/// call that it gave last, if it gave one.
+/// What a session, and not its pod, knows of a live thread: the procedure that it began in, the answer that it is
+/// polled with next, and the call that it gave last, if it gave one.
 #[derive(Drop)]
 pub struct ThreadNote<'s> {
     pub tid: Tid,

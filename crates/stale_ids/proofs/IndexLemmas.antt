@@ -53,7 +53,7 @@ IsRising-remove [] (suc i) rising = tt
 IsRising-remove (e ∷ es) zero rising = rising.1
 IsRising-remove (e ∷ es) (suc i) rising = (All-remove (IsLater e) es i rising.0, IsRising-remove es i rising.1)
 
--- of two places the one behind has the greater number
+-- of two places the later has the greater number
 pub rises : (es : List Place) (i j : ℕ) (d : Place) → IsRising es → i < j → j < length es → (get_or es i d).number < (get_or es j d).number
 rises [] i j d rising lt within = absurd (omega arith)
 rises (e ∷ es) zero zero d rising lt within = absurd (omega arith)

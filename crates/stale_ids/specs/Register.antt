@@ -37,7 +37,7 @@ module _ {T : Type 0} where
   abbrev pub numbers : List (ℕ × T) → List ℕ
   numbers live = map (λ p. p.0) live
 
-  -- each was born before those behind it
+  -- each was born before those after it
   abbrev pub AreRising : List (ℕ × T) → Type 0
   AreRising [] = Unit {0}
   AreRising (p ∷ live) = AllByRecursion (λ q. p.0 < q.0) live × AreRising live

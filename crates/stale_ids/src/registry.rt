@@ -21,7 +21,7 @@ pub struct Registry<T> {
     places: usize,
 }
 
-// By hand, so that whoever drops one calls this.
+// PROVER: written by hand, so that a function that drops one calls this instead of repeating its proof.
 impl<T: Drop> Drop for Registry<T> {
     fn drop(self) {
         let Registry {
@@ -125,13 +125,14 @@ impl<T> Registry<T> {
         }
     }
 
-    // The same, of the one at a place of the index.
+    // The value at a place of the index, to be written.
     fn value_at(&mut self, n: u64, at: usize) -> &mut T
         requires within { at < length self.old.live }
         requires here { slice_index (numbers self.old.live) at ≡ n }
         ensures* writes_back { sem 𝓛 (lends_living T.row self.entry n result) }
         ensures value { value_of n self.old.live ≡ Some result.now }
     {
+        // PROVER: the number is there for the clauses alone.
         let _ = n;
         let slot = self.index[at].slot;
         &mut self.values[slot]

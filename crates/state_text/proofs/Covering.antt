@@ -14,7 +14,7 @@ mapped : {A B : Type 0} (f : A → B) (o : Option A) → is_some (option_map f o
 mapped f None h = absurd (false≢true h)
 mapped f (Some x) h = refl
 
--- whoever m comes from goes on to m, or to another that m comes from
+-- a thread that m comes from goes on to m, or to another that m comes from
 pub record Step (next : ℕ → Option ℕ) (m n here u : ℕ) : Type 0 where
   pub left : ℕ
   pub is : suc left ≡ n
@@ -48,7 +48,7 @@ module _ (next : ℕ → Option ℕ) where
       by_less true e g = absurd (false≢true g)
       by_less false e g = record { left = n; is = refl; least = ltb-false here m e; goes = by_same (eqb u m) refl g }
 
-  -- m is not greater than whoever it comes from
+  -- m is not greater than one that it comes from
   pub not_less : (m n here : ℕ) → comes next m n here ≡ true → m ≤ here
   not_less m zero here h = absurd (false≢true h)
   not_less m (suc n) here h = by_less (ltb here m) refl h
@@ -58,7 +58,7 @@ module _ (next : ℕ → Option ℕ) where
       by_less false e g = ltb-false here m e
 
   module _ (many : ℕ) where
-    -- it is so from whoever goes on to one from whom it is so
+    -- it is so from one that goes on to another from which it is so
     pub covers_back : (found : List ℕ) (here u : ℕ) → next here ≡ Some u → IsCovered next many found u → IsCovered next many found here
     covers_back found here u is covered m n few back h =
         let step = goes_on m n here u is h in

@@ -70,7 +70,6 @@ not_member : (found : List ℕ) (t : ℕ) → IsAbsent found t 0 (length found) 
 not_member [] t absent = refl
 not_member (x ∷ xs) t absent = rw (absent 0 (omega arith) (omega arith)) (not_member xs t (λ j ge lt. absent (suc j) (omega arith) (omega (arith, lt))))
 
--- the same many
 pub as_many : (copy : StateCopy) → length (map row_in copy.threads) ≡ length copy.threads
 as_many copy = length-map copy.threads row_in
 

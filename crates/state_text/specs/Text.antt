@@ -180,7 +180,7 @@ abbrev pub client_lines : List ℕ → ℕ → List ClientLines → List ℕ
 client_lines taken c [] = []
 client_lines taken c (client ∷ clients) = client_line taken c client ++ client_lines taken (c + 1) clients
 
--- threads that wait in a cycle
+-- a deadlock: threads that wait in a cycle
 abbrev pub cycle_line : List ℕ → List ℕ
 cycle_line ts = codes "cycle" ++ (thread_words ts ++ codes "\n")
 

@@ -1,4 +1,4 @@
--- Who waits for whom, and who waits in a cycle.
+-- Who waits for whom, and the deadlocks: who waits in a cycle.
 use Rattle.lwp_types.specs.Messages.{is_letter_of}
 use Rattle.lwp_types.specs.MonitorRelease.{lock_of}
 use Rattle.lwp_types.specs.State.{State, ThreadRow, is_thread, thread_of}
@@ -36,7 +36,7 @@ awaited_by s t block.Sleeping = None
 abbrev pub awaited : State → ThreadRow → Option ℕ
 awaited s row = awaited_by s row.number row.block
 
--- the same by the thread's number
+-- the one thread that the thread of this number waits for, if there is one
 abbrev pub next_of : State → ℕ → Option ℕ
 next_of s t = option_and_then (awaited s) (thread_of s t)
 

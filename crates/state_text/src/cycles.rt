@@ -1,4 +1,4 @@
-// Who waits in a cycle.
+// Deadlocks: who waits in a cycle.
 ghost use Rattle.std.specs.Prelude.{◌≡◌, ◌<◌, ◌++◌, IfOk, OnOk, length, true, ℕ};
 ghost use Rattle.std.specs.List.{flat_map};
 ghost use Rattle.snapshots.specs.Copies.{state_in};

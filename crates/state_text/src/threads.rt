@@ -121,7 +121,7 @@ fn add_began(out: &mut Vec<u8>, procs: &TextList, began: Option<u32>) -> Result<
     }
 }
 
-/// What is told of threads, beside their state.
+/// What is told of threads, apart from their state.
 #[derive(Clone, Copy)]
 pub(crate) struct Cast<'c, 's> {
     pub(crate) procs: &'c TextList,

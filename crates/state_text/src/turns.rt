@@ -40,7 +40,7 @@ fn better(pod: &PodCopy, tables: &Tables, best: Option<Tid>, tid: Tid) -> Tid
     }
 }
 
-/// Who has the greatest priority in the order, and stands there first.
+/// Who has the greatest priority in the run queue, and stands there first.
 pub(crate) fn choice(pod: &PodCopy, tables: &Tables) -> Option<Tid>
     requires { AreTables pod.now.state tables.now }
     ensures { result ≡ choice (state_in pod.now.state) }

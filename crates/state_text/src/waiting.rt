@@ -69,7 +69,7 @@ pub(crate) fn awaited(pod: &PodCopy, tables: &Tables, row: &ThreadCopy) -> Optio
     }
 }
 
-/// The same by the thread's number.
+/// The one thread that the thread of this number waits for, if there is one.
 pub(crate) fn next_of(pod: &PodCopy, tables: &Tables, tid: Tid) -> Option<Tid>
     requires { AreTables pod.now.state tables.now }
     ensures { result ≡ next_of (state_in pod.now.state) tid }

@@ -8,7 +8,7 @@ ghost use Rattle.trace_text.specs.Lines.{id_text, letter_if};
 use lwp_types::{IdList, NoMemory};
 use trace_text::{add_number, add_text};
 
-// A number behind the letter of its kind, or `none`.
+// A number after the letter of its kind, or `none`.
 pub(crate) fn add_id(out: &mut Vec<u8>, letter: &[u8], n: u64) -> Result<(), NoMemory>
     ensures { OnOk result (out.new.items ≡ out.old.items ++ id_text letter.now n) }
 {
@@ -19,7 +19,7 @@ pub(crate) fn add_id(out: &mut Vec<u8>, letter: &[u8], n: u64) -> Result<(), NoM
     add_number(out, n)
 }
 
-// A word, and a number behind the letter of its kind.
+// A word, and a number after the letter of its kind.
 pub(crate) fn add_word_id(
     out: &mut Vec<u8>,
     word: &[u8],

@@ -112,7 +112,7 @@ pub fn read_up_to<S: Source>(
     Ok(text)
 }
 
-/// All bytes that a source has left; or some of them are gone, and a read failed or memory was wanting.
+/// All bytes that a source has left; or some of them are gone, and a read failed or memory ran out.
 pub fn read_all<S: Source>(alloc: Global, source: &mut S) -> Result<Vec<u8>, ReadFailure>
     ensures read { IfOk result (λ text. HasRead (S.left source.old) (S.left source.new) text.items) }
     ensures part { OnErr result (IsReadPart (S.left source.old) (S.left source.new)) }

@@ -1,7 +1,8 @@
 //! The tests of ports and lanes, and of many inputs at once, with threads of the system.
 //!
-//! A test calls public functions as a caller would, and looks at what no clause says. A crate with tests of its own is proved once
-//! more with them, so those of several crates stand here, in a crate that has no code besides, and each of those is proved once.
+//! A test calls public functions as a caller would, and looks at what no clause says. A crate with tests of its own is
+//! proved once more with them, so those of several crates stand here, in a crate that has no other code, and each of
+//! those is proved once.
 #![tactic(auto)]
 
 #[cfg(test)]

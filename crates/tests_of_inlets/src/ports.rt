@@ -173,7 +173,7 @@ struct Harvest {
 }
 
 // Threads post while this one takes ten thousand lines, and the rest when they have ended.
-fn take_beside<'s, E, R: Threads + Wait + Sync>(
+fn take_while_posting<'s, E, R: Threads + Wait + Sync>(
     scope: &Scope<'s, E>,
     rt: &'s R,
     alloc: Global,
@@ -216,7 +216,7 @@ fn rush_of_sixteen<R: Threads + Wait + Sync>(
         rt,
         move |scope| -> Result<Harvest, NoMemory>
             requires { IsSync R.row × (length texts.now ≤ 1000) }
-        { take_beside(scope, rt, alloc, texts, bell) },
+        { take_while_posting(scope, rt, alloc, texts, bell) },
     )
 }
 

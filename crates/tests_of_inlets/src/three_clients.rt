@@ -117,8 +117,8 @@ fn count_posted(posted: Option<AllPosted>) -> u32 {
     }
 }
 
-// What came of it, how many lines were posted, as it was told before the last lines were taken and behind them, and whether nothing
-// was left.
+// What came of it, how many lines were posted, as it was told before the last lines were taken and after them, and
+// whether nothing was left.
 #[derive(Drop)]
 struct Harvest {
     tally: Tally,
@@ -127,7 +127,11 @@ struct Harvest {
 }
 
 // Lines are taken until all clients have left the bell, and the rest when their threads have ended.
-fn take_beside<'s, R: Threads + Wait>(rt: &R, outside: &mut Outside<'s>, bell: &Bell) -> Harvest
+fn take_while_posting<'s, R: Threads + Wait>(
+    rt: &R,
+    outside: &mut Outside<'s>,
+    bell: &Bell,
+) -> Harvest
     requires { IsTied outside.old }
 {
     let mut tally = Tally {
@@ -164,7 +168,7 @@ fn start_and_take<'s, E, R: Threads + Wait + Sync>(
     requires gates { length gates.items ≡ 3 }
 {
     let mut outside = Outside::start(scope, rt, alloc, &[7, 0, 7], texts, gates, bell)?;
-    Ok(take_beside(rt, &mut outside, bell))
+    Ok(take_while_posting(rt, &mut outside, bell))
 }
 
 fn run_three<R: Threads + Wait + Sync>(

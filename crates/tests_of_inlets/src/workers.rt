@@ -134,7 +134,7 @@ impl Job for Counting<'_> {
     }
 }
 
-// How often it is asked by so many threads, if memory isn't wanting.
+// How often it is asked by so many threads, if memory doesn't run out.
 fn times_asked<R: Threads + Sync>(rt: &R, alloc: Global, threads: u32, text: &[u8]) -> Option<u64>
     requires { (1 ≤ threads) × (threads ≤ 16) }
 {

@@ -98,7 +98,7 @@ const STEPS: [Step; 19] = [
     (b's', B, 0, Some(A)),
     (b'u', B, 0, Some(A)),
     (b'p', B, 3, Some(A)),
-    // It was away, so it stands behind A.
+    // It was away, so it comes after A.
     (b'r', B, 0, Some(A)),
     (b'p', A, 3, Some(A)),
     (b'y', A, 0, Some(B)),

@@ -51,7 +51,8 @@ const ASKING: [Call<'static>; 15] = [
     Call::Agents,
 ];
 
-// How many effects the call of whoever's turn it is has besides itself; None if it is nobody's turn, or memory is refused.
+// How many other effects the call of the thread whose turn it is has; None if it is nobody's turn, or memory is
+// refused.
 fn makes<'s>(pod: &mut Pod<'s>, effects: &mut Effects<'s>, call: &Call<'s>) -> Option<usize> {
     if pod.current().is_none() || pod.call(call, effects).is_err() {
         return None;
@@ -79,7 +80,7 @@ fn is_answered(effects: &Effects) -> bool {
     }
 }
 
-// Whether whoever asks for memory is given it. Then the first thread lives, another, and the first one's agent.
+// Whether calls that ask for memory are given it. Then the first thread lives, another, and the first one's agent.
 fn gives_memory<'s>(pod: &mut Pod<'s>, effects: &mut Effects<'s>) -> bool {
     for call in &ASKING {
         if makes(pod, effects, call) != Some(1) || !is_answered(effects) {

@@ -14,7 +14,7 @@ const AGENT: Tid = Tid { number: 1 };
 
 const WORKER: Tid = Tid { number: 2 };
 
-// How many effects the call of whoever's turn it is has; none if it is nobody's turn, or memory is refused.
+// How many effects the call of the thread whose turn it is has; none if it is nobody's turn, or memory is refused.
 fn makes<'s>(pod: &mut EventPod<'s, Pod<'s>>, effects: &mut Effects<'s>, call: &Call<'s>) -> usize {
     if pod.current().is_none() || pod.call(call, effects).is_err() {
         return 0;

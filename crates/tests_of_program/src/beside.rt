@@ -1,5 +1,5 @@
-// Runs whose gate and sink wait for each other. They end well only where lines are posted, and taken, beside the pod, and what is
-// written is handed on before the pod waits.
+// Runs whose gate and sink wait for each other. They end well only where lines are posted, and taken, while the pod runs, and what
+// is written is handed on before the pod waits.
 ghost use Rattle.std.specs.Prelude.{◌≤◌};
 
 use crossbeam_utils::atomic::AtomicCell;
@@ -137,7 +137,7 @@ fn a_line_is_posted_once_the_one_before_it_has_its_reply(rt: HostRuntime) -> Res
 }
 
 // Whether a run in which the pod is never idle before its line has come takes one that is posted while the sink waits.
-fn is_taken_beside<R: Threads + Wait + Sync>(
+fn is_taken_meanwhile<R: Threads + Wait + Sync>(
     rt: &R,
     alloc: Global,
     script: &[u8],
@@ -162,7 +162,7 @@ const BUSY: &[u8] =
 
 #[test]
 fn a_line_is_taken_from_a_port_while_the_pod_is_busy(rt: HostRuntime) -> Result<(), Fail> {
-    let taken = is_taken_beside(&rt, rt.alloc(), BUSY)?;
+    let taken = is_taken_meanwhile(&rt, rt.alloc(), BUSY)?;
     assert!(rt; taken);
     Ok(())
 }
@@ -173,7 +173,7 @@ const BUSY_ALONE: &[u8] =
 
 #[test]
 fn a_line_is_taken_from_a_lane_while_the_pod_is_busy(rt: HostRuntime) -> Result<(), Fail> {
-    let taken = is_taken_beside(&rt, rt.alloc(), BUSY_ALONE)?;
+    let taken = is_taken_meanwhile(&rt, rt.alloc(), BUSY_ALONE)?;
     assert!(rt; taken);
     Ok(())
 }

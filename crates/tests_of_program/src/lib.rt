@@ -2,7 +2,7 @@
 //! said of an end.
 //!
 //! A test calls public functions as a caller would, and looks at what no clause says. A crate with tests of its own is proved once
-//! more with them, so those of `lwp_serve` stand here, in a crate that has no code besides.
+//! more with them, so those of `lwp_serve` stand here, in a crate that has no other code.
 #![tactic(auto)]
 
 #[cfg(test)]

@@ -85,7 +85,7 @@ fn take<'s>(
     run.offer(taken.event, line, sink)
 }
 
-// All lines are taken at their turns, and calls made between and behind them.
+// All lines are taken at their turns, and calls made between and after them.
 fn replay<'s>(
     run: &mut Run<'s, ThreadBody<'s>, ScriptProgram<'s>>,
     session: &'s Session,
@@ -113,7 +113,7 @@ fn play_takes<'s>(
     replay(&mut run, session, sink)
 }
 
-// The same, for the script that these bytes spell. Answers whether there is one, and it could be played.
+// Plays the script that these bytes spell by the takes of a session. Answers whether there is one, and it could be played.
 fn play_text(
     alloc: Global,
     bytes: &[u8],
@@ -191,7 +191,7 @@ fn is_replayed<R: Threads + Wait + Sync>(
     )
 }
 
-// Main serves three clients of two events, while a thread beside it makes over a hundred calls.
+// Main serves three clients of two events, while another thread makes over a hundred calls.
 const SERVED: &[u8] =
     b"lwp 1\npod 1\nclient 0 5\nclient 1 5\nclient 2 6\nproc main\ncreate w long 1 -\nagent g 5\nagent h 6\n\
 call serve\ncall serve\ncall serve\ncall serve\ncall serve\ncall serve\n\

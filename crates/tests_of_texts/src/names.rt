@@ -3,7 +3,7 @@ use script_text::{NameList, WordIndex};
 use std::alloc::Global;
 use std::test::Fail;
 
-// Words that differ in their length, in their last byte, in a byte that is 0, and in a byte behind the sixteenth.
+// Words that differ in their length, in their last byte, in a byte that is 0, and in a byte after the sixteenth.
 const WORDS: [&[u8]; 10] = [
     b"a",
     b"aa",

@@ -5,7 +5,7 @@ use std::alloc::Global;
 const FIRST_RUN: &[u8] =
     b"lwp 1\npod 1\nproc main\ncreate a worker 1 -\nyield self\nproc worker\nsay hi\n";
 
-// Each row of the table behind the first lines.
+// Each row of the table after the first lines.
 const EVERY_ROW: &[u8] =
     b"lwp 1\npod 9\nlimit births 7\nclient 0 31\nclient 1 0\nnative n store\nnative s session 3 db\nproc p\ncreate a n 1 snv\ncreate b p 4294967295 -\ndestroy a\nping self\nyield first\nsuspend sender\nresume none\njoin b\nsleep 4294967295\nresched 0\nsetpri a 1\nsetmaxpri 1\nself\nsetexit 1\ngetexit\npodexit 0\nthreads\nsend a 240  two\nsend a 0\nrecv any poll\nrecv c wait\nrecv self 4294967295\nreply sender\nsenders\nreceivers\nmoncreate m\ncvcreate c m\nmondestroy m\nenter m\ncondenter m\nmonexit m\nmonbreak m\nmonwaiters m\nmonitors\ncvdestroy c\nwait c\nnotify c\nbroadcast c\ncvsend c a\ncvwaiters c\nconditions\ncall q\nreturn\nhandle all - 0\nhandle 7 give 1\nhandle 8 sum 2\nunhandle\nraise 1\nexcnotify 1\nbound 1\nuniqpatt\nonexit monexit m\nonexit monbreak m\nonexit notify c\nonexit broadcast c\nonexit reply a x\nonexit resume a\nonexit setexit 1\nonexit note\nagent g 40\nagents\nsay\nsay x\nskip ok\nskip err\nskip caught\nskip is 4294967295\nagain\nproc q\npost 0 a\npost 1\npost 0  b\n";
 

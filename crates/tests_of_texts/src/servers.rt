@@ -5,7 +5,7 @@ use std::test::Fail;
 
 // Whether a store that begins, or whose reply was taken, waits for a text.
 fn waits<'s>(body: &mut StoreBody<'s>, env: &mut Env) -> Result<bool, NoMemory> {
-    // The checker asks for the types that a call holds.
+    // PROVER: the checker asks for the types that a call holds.
     let _inside: Option<(Call, ExitCall, Answer)> = None;
     let mut call = Call::Return;
     body.poll(env, &Answer::Value(0), &mut call)?;
@@ -27,7 +27,7 @@ fn tells<'s>(
     text: &'s [u8],
     told: &[u8],
 ) -> Result<bool, NoMemory> {
-    // The checker asks for the types that a call holds.
+    // PROVER: the checker asks for the types that a call holds.
     let _inside: Option<(Call, ExitCall, Answer)> = None;
     let from = Tid { number: from };
     let text = Text::new(text).unwrap_or(Text::empty());

@@ -74,7 +74,7 @@ fn writes_lines(rt: HostRuntime) {
 const TAKEN: &[u8] = b"event 31 client 15 seq 20 put k v\n";
 
 fn is_told_alone(alloc: Global) -> Result<bool, NoMemory> {
-    // The checker asks for the types that an effect holds.
+    // PROVER: the checker asks for the types that an effect holds.
     let _inside: Option<(Call, Answer)> = None;
     let (client, seq) = (15, 20);
     let text = Text::new(b"put k v").unwrap_or(Text::empty());

@@ -53,7 +53,7 @@ fn a_text_is_told_in_one_piece(rt: HostRuntime) {
     assert!(rt; is_told(&Text::thread(b"17"), b"t17"));
 }
 
-// Who the thread is and what the names of two threads, a monitor and the last of three conditions stand for, each with a name
+// Who the thread is and what the names of two threads, a monitor and the last of three conditions mean, each with a name
 // more than there is.
 fn numbers(env: &Env) -> [u64; 7] {
     [

@@ -261,7 +261,7 @@ outcome xs (answer.Caught depth mark p) h = absurd (cc)
 outcome xs (answer.Ids k ids) h = absurd (cc)
 outcome xs (answer.Refused e) h = let r = refusal e in rw (ended xs (answer_text (answer.Refused e)) r.0, r.1) refl
 
--- an id with an answer behind it
+-- an id with an answer after it
 named : (b m : ℕ) (a : Answer) → m ≤ null_id → id_of (id_text (b ∷ []) m ++ answer_text a) ≡ m
 named b m a le = id_again b m (answer_text a) le (begins a)
 

@@ -4,7 +4,7 @@ use Rattle.std.proofs.lemmas.Bool.{le-ltb}
 use Rattle.std.proofs.lemmas.List.{length-drop}
 use Rattle.trace_lines.specs.Words.{starts, value_after, value_of}
 
--- behind a number, digits never make it smaller
+-- digits after a number never make it smaller
 pub value_ge : (n : ℕ) (ds : List ℕ) → n ≤ value_after n ds
 value_ge n [] = omega arith
 value_ge n (d ∷ ds) = omega (arith, value_ge (10 * n + (d - 48)) ds)

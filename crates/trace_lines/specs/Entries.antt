@@ -50,7 +50,7 @@ verb_of w =
     else if bytes_eq w (codes "note") then Some verb.Other
     else key_verb (op_at w)
 
--- a number behind a letter, or nobody
+-- a number after a letter, or nobody
 abbrev pub id_of : List ℕ → ℕ
 id_of text = unwrap_or (number (drop 1 text)) null_id
 
@@ -58,7 +58,7 @@ id_of text = unwrap_or (number (drop 1 text)) null_id
 abbrev pub who_of : ℕ → List ℕ → ℕ
 who_of me text = if starts (codes "self") text then me else id_of text
 
--- whom or what a call names, by what stands behind its word
+-- whom or what a call names, by what follows its word
 abbrev pub target_of : Verb → ℕ → List ℕ → ℕ
 target_of verb.Create me text = null_id
 target_of verb.OnExit me text = null_id
@@ -78,7 +78,7 @@ target_of verb.MonExit me text = id_of text
 target_of verb.MonBreak me text = id_of text
 target_of verb.Wait me text = id_of text
 
--- a new thread begins suspended: its flags stand behind its procedure and its priority
+-- a new thread begins suspended: its flags follow its procedure and its priority
 abbrev pub is_suspended : Verb → List ℕ → Bool
 is_suspended verb.Create text = starts (codes "s") (rest (rest text))
 is_suspended _ text = false
@@ -87,7 +87,7 @@ abbrev pub call_entry_by : ℕ → List ℕ → Option Verb → Option Entry
 call_entry_by tid text None = None
 call_entry_by tid text (Some v) = Some (entry.Called tid v (target_of v tid text) (is_suspended v text))
 
--- the line of a call, behind the thread
+-- the line of a call, after the thread
 abbrev pub call_entry : ℕ → List ℕ → Option Entry
 call_entry tid text = call_entry_by tid (rest text) (verb_of (word text))
 
@@ -107,11 +107,11 @@ abbrev pub trap_entry_by : ℕ → Option ℕ → Option Entry
 trap_entry_by tid None = None
 trap_entry_by tid (Some event) = Some (entry.Trapped tid event)
 
--- the line of a trap that is raised, behind its word: a number, and nothing else
+-- the line of a trap that is raised, after its word: a number, and nothing else
 abbrev pub trap_entry : ℕ → List ℕ → Option Entry
 trap_entry tid text = trap_entry_by tid (whole_number text)
 
--- the line of an answer or a death, or of a trap, behind the thread
+-- the line of an answer or a death, or of a trap, after the thread
 abbrev pub answer_entry : ℕ → List ℕ → Option Entry
 answer_entry tid text =
     if starts (codes " = ") text then Some (entry.Answered tid (gain_of (drop 3 text)))
@@ -121,7 +121,7 @@ answer_entry tid text =
     else if starts (codes " trap ") text then trap_entry tid (drop 6 text)
     else None
 
--- what stands behind the number of a thread
+-- what follows the number of a thread
 abbrev pub thread_entry : Option ℕ → List ℕ → Option Entry
 thread_entry None text = None
 thread_entry (Some tid) text = if starts (codes ": ") text then call_entry tid (drop 2 text) else answer_entry tid text
@@ -132,7 +132,7 @@ exit_entry_by reg text None = None
 exit_entry_by reg text (Some v) =
     Some (entry.Exited reg v (target_of v null_id (rest text)) (not (ends (codes " = 0") text)))
 
--- the line of an exit procedure, behind its number
+-- the line of an exit procedure, after its number
 abbrev pub exit_entry : Option ℕ → List ℕ → Option Entry
 exit_entry None text = None
 exit_entry (Some reg) text = if starts (codes " ") text
@@ -157,7 +157,7 @@ abbrev pub event_entry_by : ℕ → Option (ℕ × ℕ) → Option Entry
 event_entry_by event None = None
 event_entry_by event (Some line) = Some (entry.Event event line.0 line.1)
 
--- the line of a delivery, behind its event
+-- the line of a delivery, after its event
 abbrev pub event_entry : Option ℕ → List ℕ → Option Entry
 event_entry None text = None
 event_entry (Some event) text = event_entry_by event (taken_post text)
@@ -166,7 +166,7 @@ abbrev pub also_entry_by : Option ℕ → Option Entry
 also_entry_by None = None
 also_entry_by (Some agent) = Some (entry.Also agent)
 
--- the line of a later delivery, behind its letter: a number, and nothing else
+-- the line of a later delivery, after its letter: a number, and nothing else
 abbrev pub also_entry : List ℕ → Option Entry
 also_entry text = also_entry_by (whole_number text)
 
@@ -174,7 +174,7 @@ abbrev pub rites_entry_by : ℕ → Option ℕ → Option Entry
 rites_entry_by dead None = None
 rites_entry_by dead (Some agent) = Some (entry.Rites agent dead)
 
--- the line of a report, behind the letter of the dead: its number, and the agent that hears of it
+-- the line of a report, after the letter of the dead: its number, and the agent that hears of it
 abbrev pub rites_entry : Option ℕ → List ℕ → Option Entry
 rites_entry None text = None
 rites_entry (Some dead) text = if starts (codes " to t") text then rites_entry_by dead (whole_number (drop 5 text))
@@ -184,12 +184,12 @@ abbrev pub tick_entry_by : ℕ → Option (ℕ × ℕ) → Option Entry
 tick_entry_by now None = None
 tick_entry_by now (Some line) = Some (entry.Tick now line.0 line.1)
 
--- the line of a tick, behind its number
+-- the line of a tick, after its number
 abbrev pub tick_entry : Option ℕ → List ℕ → Option Entry
 tick_entry None text = None
 tick_entry (Some now) text = tick_entry_by now (taken_post text)
 
--- whether the line stands behind the last step
+-- whether the line comes after the last step
 abbrev pub is_closing : List ℕ → Bool
 is_closing line = starts (codes "pod ends ") line || bytes_eq line (codes "stuck")
     || starts (codes "spent ") line || starts (codes "left client ") line

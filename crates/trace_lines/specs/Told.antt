@@ -163,7 +163,7 @@ abbrev pub RitesAreRead : List (List ℕ) → Option Line → ℕ → ℕ → Ty
 RitesAreRead procs took agent dead = agent < null_id → dead < null_id
     → entry_of (line_text procs took (effect.Rites agent dead)) ≡ Some (entry.Rites agent dead)
 
--- the lines behind the last step are read back; each is what `end_text` prints, without its newline
+-- the lines after the last step are read back; each is what `end_text` prints, without its newline
 pub record EndsAreRead : Type 0 where
   pub pod : (procs : List (List ℕ)) (took : Option Line) (status : ℕ)
       → entry_of (line_text procs took (effect.Ended status)) ≡ Some entry.Closing

@@ -21,7 +21,7 @@ reach c (b ∷ bs) = if b == c then 0 else suc (reach c bs)
 abbrev pub word : List ℕ → List ℕ
 word line = take (reach 32 line) line
 
--- what stands behind the first word and a space
+-- what follows the first word and a space
 abbrev pub rest : List ℕ → List ℕ
 rest line = drop (suc (reach 32 line)) line
 
@@ -30,7 +30,7 @@ abbrev pub digits : List ℕ → ℕ
 digits [] = 0
 digits (b ∷ bs) = if is_ascii_digit b then suc (digits bs) else 0
 
--- the value of digits that come behind a number
+-- the value of digits that follow a number
 abbrev pub value_after : ℕ → List ℕ → ℕ
 value_after n [] = n
 value_after n (d ∷ ds) = value_after (10 * n + (d - 48)) ds
@@ -44,7 +44,7 @@ value_of (d ∷ ds) = if nat_lt (value_after 0 (d ∷ ds)) (2 ^ 64) then Some (v
 abbrev pub number : List ℕ → Option ℕ
 number line = value_of (take (digits line) line)
 
--- what stands behind the number in front
+-- what follows the number in front
 abbrev pub behind : List ℕ → List ℕ
 behind line = drop (digits line) line
 

@@ -93,6 +93,6 @@ pub enum Entry {
         agent: u64,
         dead: u64,
     },
-    /// A line behind the last step.
+    /// A line after the last step.
     Closing,
 }

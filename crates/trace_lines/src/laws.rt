@@ -73,7 +73,7 @@ pub fn only_reports()
     ensures trap_followed { entry_of (codes "t1 trap 5 x") ≡ None }
 {}
 
-/// The lines behind the last step are read back.
+/// The lines after the last step are read back.
 pub fn closed_again()
     ensures { EndsAreRead }
 {}

@@ -57,7 +57,7 @@ fn verb_of(word: &[u8]) -> Option<Verb>
     }
 }
 
-// A number behind a letter, or nobody.
+// A number after a letter, or nobody.
 fn id_of(text: &[u8]) -> u64
     ensures { result ≡ id_of text.now }
 {
@@ -138,7 +138,7 @@ fn gain_of(text: &[u8]) -> Gain
     }
 }
 
-// The line of a trap that is raised, behind its word: nothing stands behind the number.
+// The line of a trap that is raised, after its word: nothing follows the number.
 fn trap_entry(tid: u64, text: &[u8]) -> Option<Entry>
     ensures { result ≡ trap_entry tid text.now }
 {
@@ -170,7 +170,7 @@ fn answer_entry(tid: u64, text: &[u8]) -> Option<Entry>
     None
 }
 
-// The line of a thread, behind its letter.
+// The line of a thread, after its letter.
 fn thread_entry(text: &[u8]) -> Option<Entry>
     ensures { result ≡ thread_entry (number text.now) (behind text.now) }
 {
@@ -197,7 +197,7 @@ fn exit_call(reg: u64, text: &[u8]) -> Option<Entry>
     })
 }
 
-// The line of an exit procedure, behind its letter.
+// The line of an exit procedure, after its letter.
 fn exit_entry(text: &[u8]) -> Option<Entry>
     ensures { result ≡ exit_entry (number text.now) (behind text.now) }
 {
@@ -231,7 +231,7 @@ fn posted(text: &[u8]) -> Option<(u64, u64)>
     posted_by(skip(8, text))
 }
 
-// The line of a delivery, behind its word.
+// The line of a delivery, after its word.
 fn event_entry(text: &[u8]) -> Option<Entry>
     ensures { result ≡ event_entry (number text.now) (behind text.now) }
 {
@@ -240,7 +240,7 @@ fn event_entry(text: &[u8]) -> Option<Entry>
     Some(Entry::Event { event, client, seq })
 }
 
-// The line of a later delivery, behind its letter: nothing stands behind the number.
+// The line of a later delivery, after its letter: nothing follows the number.
 fn also_entry(text: &[u8]) -> Option<Entry>
     ensures { result ≡ also_entry text.now }
 {
@@ -248,7 +248,7 @@ fn also_entry(text: &[u8]) -> Option<Entry>
     Some(Entry::Also { agent })
 }
 
-// The line of a report, behind the letter of the dead: nothing stands behind the agent.
+// The line of a report, after the letter of the dead: nothing follows the agent.
 fn rites_entry(text: &[u8]) -> Option<Entry>
     ensures { result ≡ rites_entry (number text.now) (behind text.now) }
 {
@@ -261,7 +261,7 @@ fn rites_entry(text: &[u8]) -> Option<Entry>
     Some(Entry::Rites { agent, dead })
 }
 
-// The line of a tick, behind its word.
+// The line of a tick, after its word.
 fn tick_entry(text: &[u8]) -> Option<Entry>
     ensures { result ≡ tick_entry (number text.now) (behind text.now) }
 {

@@ -2,7 +2,7 @@
 ghost use Rattle.std.specs.Prelude.{◌≡◌, ◌≤◌, drop, length};
 ghost use Rattle.trace_lines.specs.Words.{behind, digits, ends, number, reach, rest, starts, value_of, whole_number, word};
 
-/// Whether these bytes stand in front.
+/// Whether the line begins with these bytes.
 pub(crate) fn starts(front: &[u8], line: &[u8]) -> bool
     ensures { result ≡ starts front.now line.now }
 {
@@ -17,7 +17,7 @@ pub(crate) fn starts(front: &[u8], line: &[u8]) -> bool
     true
 }
 
-/// Whether these bytes stand at the end.
+/// Whether the line ends with these bytes.
 pub(crate) fn ends(back: &[u8], line: &[u8]) -> bool
     ensures { result ≡ ends back.now line.now }
 {
@@ -37,7 +37,7 @@ pub fn reach(byte: u8, bytes: &[u8]) -> usize
     bytes.len()
 }
 
-// How many digits stand in front.
+// How many digits the bytes begin with.
 fn digits(bytes: &[u8]) -> usize
     ensures value { result ≡ digits bytes.now }
     ensures within { result ≤ length bytes.now }
@@ -50,7 +50,7 @@ fn digits(bytes: &[u8]) -> usize
     bytes.len()
 }
 
-/// What stands behind so many bytes.
+/// What follows so many bytes.
 pub fn skip(count: usize, line: &[u8]) -> &[u8]
     ensures { result.now ≡ drop count line.now }
 {
@@ -68,7 +68,7 @@ pub fn word(line: &[u8]) -> &[u8]
     &line[..reach(b' ', line)]
 }
 
-/// What stands behind the first word and a space.
+/// What follows the first word and a space.
 pub fn rest(line: &[u8]) -> &[u8]
     ensures { result.now ≡ rest line.now }
 {
@@ -101,7 +101,7 @@ pub(crate) fn number(line: &[u8]) -> Option<u64>
     value_of(&line[..digits(line)])
 }
 
-/// What stands behind the number in front.
+/// What follows the number in front.
 pub(crate) fn behind(line: &[u8]) -> &[u8]
     ensures { result.now ≡ behind line.now }
 {

@@ -122,7 +122,7 @@ path_keeps plain x y to_x to_y = record {
       on ((path_begins plain).begins names) (on ((move_goes x y).goes inside) (on ((line_goes to_x to_y).goes inside) (closes (codes "path") names)));
 }
 
--- a label is open behind its front
+-- a label is open after its front
 label_opens : {class : List ℕ} → Plain class → (x y : ℕ) (names : List (List ℕ)) → Brings (at Outside names) (label_text class x y) (at Outside (codes "text" ∷ names))
 unfolding after_byte read_on label_text
 label_opens plain x y names =

@@ -26,7 +26,7 @@ no_line (b ∷ bs) e = by_head (eqb b 10) e (λ h. no_line bs h)
     by_head true h later = absurd (omega (arith, h))
     by_head false h later = ap (onto_first b) (later (omega (arith, h)))
 
--- whether a text ends with a newline is told by what stands behind its first line
+-- whether a text ends with a newline depends on what follows its first line
 pub whole_behind : (text : List ℕ) → reach 10 text < length text → is_whole text ≡ is_whole (drop (suc (reach 10 text)) text)
 whole_behind [] lt = absurd (omega arith)
 whole_behind (b ∷ []) lt = by_head (eqb b 10) lt
@@ -58,7 +58,7 @@ not_whole (b ∷ c ∷ bs) e some = by_head (eqb b 10) e (λ h. not_whole (c ∷
 
 -- ---- the loop over the lines
 
--- what stands behind the last newline is no line
+-- bytes after the last newline are no line
 pub unended : (number n : ℕ) (rest text : List ℕ) → reach 10 rest ≡ length rest → 0 < length rest → bad_from number (is_whole rest) (whole_lines rest) ≡ first_bad text → number ≡ n → first_bad text ≡ Some n
 unended number n rest text e some bad same =
     sym bad ∙ (rw (no_line rest e, not_whole rest e some) refl ∙ ap Some same)

@@ -12,7 +12,7 @@ use Rattle.trace_lines.specs.declared.entry.Verb.TheVariants as verb
 use Rattle.trace_page.specs.Page.{after_entry_by, after_line, after_lines, after_note_by}
 use Rattle.trace_page.specs.Scene.{Seen, after_draw, after_put, lane_of, opening, place, with_lane}
 use Rattle.trace_page.specs.Shapes.{escaped_byte, escaped_text}
-use Rattle.trace_page.specs.Steps.{after_act, after_carry_out, after_create, after_entry, after_exit, after_give_up, after_grant, after_meet, after_meet_thread, after_name, after_note, after_park, after_say, after_set, after_settle, after_speak, is_past, is_shown, room, with_agent}
+use Rattle.trace_page.specs.Steps.{after_act, after_carry_out, after_create, after_draw_said, after_entry, after_exit, after_give_up, after_grant, after_meet, after_meet_thread, after_name, after_note, after_park, after_say, after_set, after_settle, is_past, is_shown, room, with_agent}
 use Rattle.trace_page.specs.Titles.{LinesAreTitles, TextsArePlain, is_plain, titles}
 use Rattle.trace_page.specs.declared.scene.Lane.{Lane}
 use Rattle.trace_page.specs.declared.scene.Shape.TheVariants as shape
@@ -134,7 +134,7 @@ base_said tid s = by (ltb s.time.call (lane_of s tid).clear)
     by true = refl
     by false = refl
 
-base_spoken : (tid : ℕ) (v : Verb) (s : Seen) → (after_speak tid v s).base ≡ s.base
+base_spoken : (tid : ℕ) (v : Verb) (s : Seen) → (after_draw_said tid v s).base ≡ s.base
 base_spoken tid verb.Say s = base_said tid s
 base_spoken tid verb.Wait s = refl
 base_spoken tid verb.Create s = refl

@@ -1,4 +1,4 @@
--- What stands around the picture: the page's head with its style and its legend, and what comes behind the last line.
+-- The frame of the picture: the page's head with its style and its legend, and what comes after the last line.
 use Rattle.lwp_types.specs.Names.{null_id}
 use Rattle.std.specs.Fmt.{decimal}
 use Rattle.std.specs.List.{flat_map}
@@ -145,7 +145,7 @@ name_text s lane = label_text (codes "name") 4 (y_of s lane.id + foot) ++ (name_
 unfoldable pub names_text : Seen → List ℕ
 names_text s = names_open ++ (flat_map (λ lane. name_text s lane) s.lanes ++ names_closed)
 
--- the number of a tenth call: of this many behind the first that is drawn
+-- the number of a tenth call: of this many after the first that is drawn
 abbrev pub tenth : Seen → ℕ → ℕ
 tenth s n = min (10 * (s.base / 10 + 1 + n)) (2 ^ 64 - 1)
 
@@ -183,7 +183,7 @@ sheet_text s = sheet_open
     ++ (decimal (height_of s)
     ++ (codes " " ++ (decimal (width_of s + names_width) ++ (sheet_turned ++ (decimal (height_of s) ++ sheet_closed)))))
 
--- says so, where calls behind the last aren't drawn
+-- says so, where calls after the last aren't drawn
 unfoldable pub more_text : Seen → List ℕ
 more_text s = if s.more then more_open ++ (decimal s.last ++ more_closed) else []
 
@@ -218,7 +218,7 @@ stuck_text s = if s.more then [] else stuck_open
     ++ (flat_map (λ hop. hop_text hop) s.hops
     ++ (stuck_between ++ (flat_map (λ lane. wait_line s lane) s.lanes ++ stuck_closed)))
 
--- what goes on still behind the last line
+-- what is still open after the last line, drawn to the end
 unfoldable pub end_text : Seen → List ℕ
 end_text s = group_open ++ (shapes_text s [] s.shapes ++ group_closed)
 
@@ -230,6 +230,6 @@ around s = end_text s ++ (names_text s ++ (numbers_text s ++ size_text s))
 unfoldable pub beyond : Seen → List ℕ
 beyond s = strip_text s ++ (more_text s ++ (stuck_text s ++ (sheet_text s ++ script)))
 
--- all that stands behind the last line
+-- all that comes after the last line
 unfoldable pub tail : Seen → List ℕ
 tail s = around s ++ (beyond s ++ page_closed)

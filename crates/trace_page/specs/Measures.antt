@@ -11,11 +11,11 @@ first_call = 40
 abbrev pub call_width : ℕ
 call_width = 16
 
--- from a call to what is drawn behind it and before the next
+-- from a call to what is drawn after it and before the next
 abbrev pub half_call : ℕ
 half_call = 8
 
--- how many calls stand apart: 5,000 are drawn at most, and behind them stand what comes last and whom it waits for
+-- how many calls have columns of their own: 5,000 are drawn at most, and after them come what comes last and whom it waits for
 abbrev pub most_calls : ℕ
 most_calls = 5003
 
@@ -27,11 +27,11 @@ most_tenths = 501
 abbrev pub most_right : ℕ
 most_right = 80096
 
--- behind the last call, room for the words that tell the end
+-- after the last call, room for the words that tell the end
 abbrev pub end_width : ℕ
 end_width = 420
 
--- behind the last call, room for the arrows to whom somebody waits for, before the words that tell it
+-- after the last call, room for the arrows to whom somebody waits for, before the words that tell it
 abbrev pub due_gap : ℕ
 due_gap = 42
 

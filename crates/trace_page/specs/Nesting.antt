@@ -7,24 +7,24 @@ use Rattle.std.specs.Str.{bytes_eq}
 pub data Place : Type 0 where
   -- in the text outside of all tags
   Outside : Place
-  -- behind a `<`
+  -- after a `<`
   Begun : Place
   -- in the name of a tag that opens an element, and in that of one that closes it; so much of the name was read
   Opening : List ℕ → Place
   Closing : List ℕ → Place
-  -- in a tag, behind its name or behind a value
+  -- in a tag, after its name or after a value
   Inside : Place
-  -- behind the space before an attribute, in the attribute's name, and behind its `=`
+  -- after the space before an attribute, in the attribute's name, and after its `=`
   Spaced : Place
   Attribute : Place
   Equals : Place
   -- in a value, which ends with this quote
   Quoted : ℕ → Place
-  -- behind the `/` of an element that has nothing inside
+  -- after the `/` of an element that has nothing inside
   Slashed : Place
   -- in `<!DOCTYPE html>`
   Declared : Place
-  -- behind something that is out of place
+  -- after something that is out of place
   Lost : Place
 
 -- a reader, and the names of the elements that are open around it, the innermost first
@@ -42,22 +42,22 @@ is_letter b = (nat_le 97 b && nat_le b 122) || (nat_le 65 b && nat_le b 90)
 abbrev pub is_void : List ℕ → Bool
 is_void name = bytes_eq name (codes "meta")
 
--- behind the `>` of a tag that opens the innermost element
+-- after the `>` of a tag that opens the innermost element
 abbrev pub behind_start_tag : List (List ℕ) → Reader
 behind_start_tag [] = at Lost []
 behind_start_tag (name ∷ names) = at Outside (if is_void name then names else name ∷ names)
 
--- behind the `>` of a tag that closes an element of this name: the innermost has to be one
+-- after the `>` of a tag that closes an element of this name: the innermost has to be one
 abbrev pub behind_end_tag : List ℕ → List (List ℕ) → Reader
 behind_end_tag name [] = at Lost []
 behind_end_tag name (innermost ∷ names) = if bytes_eq innermost name then at Outside names else at Lost names
 
--- behind the `/>` of the innermost element
+-- after the `/>` of the innermost element
 abbrev pub behind_whole_tag : List (List ℕ) → Reader
 behind_whole_tag [] = at Lost []
 behind_whole_tag (name ∷ names) = at Outside names
 
--- a byte in a tag, behind its name or behind a value
+-- a byte in a tag, after its name or after a value
 abbrev pub inside : ℕ → List (List ℕ) → Reader
 inside b names = if b == 62 then behind_start_tag names
     else at (if b == 47 then Slashed else if b == 32 then Spaced else Lost) names
@@ -82,7 +82,7 @@ after_byte Declared names b =
     at (if b == 62 then Outside else if is_letter b || (b == 32) then Declared else Lost) names
 after_byte Lost names b = at Lost names
 
--- behind all these bytes
+-- after all these bytes
 unfoldable pub read_on : Reader → List ℕ → Reader
 read_on reader bytes = fold (λ r b. after_byte r.place r.names b) reader bytes
 

@@ -17,13 +17,13 @@ abbrev pub whole_lines : List ℕ → List (List ℕ)
 whole_lines [] = []
 whole_lines (b ∷ bs) = if b == 10 then [] ∷ whole_lines bs else onto_first b (whole_lines bs)
 
--- nothing stands behind the last newline
+-- nothing follows the last newline
 abbrev pub is_whole : List ℕ → Bool
 is_whole [] = true
 is_whole (b ∷ []) = b == 10
 is_whole (b ∷ c ∷ bs) = is_whole (c ∷ bs)
 
--- the first of these that is no line of a trace, where the first has this number; or the one behind them, where there
+-- the first of these that is no line of a trace, where the first has this number; or the one after them, where there
 -- is more
 abbrev pub bad_from : ℕ → Bool → List (List ℕ) → Option ℕ
 bad_from n whole [] = if whole then None else Some n
@@ -51,7 +51,7 @@ abbrev pub calls_of : List (List ℕ) → ℕ
 calls_of [] = 0
 calls_of (l ∷ ls) = line_calls l + calls_of ls
 
--- what is known behind a line
+-- what is known after a line
 abbrev pub after_entry_by : Option Entry → Seen → Seen
 after_entry_by None s = s
 after_entry_by (Some e) s = after_entry e s
@@ -64,7 +64,7 @@ after_note_by (Some e) l s = after_note e l s
 unfoldable pub after_line : List ℕ → Seen → Seen
 after_line l s = after_entry_by (entry_of l) (after_note_by (entry_of l) l s)
 
--- behind these lines
+-- after these lines
 abbrev pub after_lines : Seen → List (List ℕ) → Seen
 after_lines s [] = s
 after_lines s (l ∷ ls) = after_lines (after_line l s) ls
@@ -77,7 +77,7 @@ abbrev pub groups : Seen → List (List ℕ) → List ℕ
 groups s [] = []
 groups s (l ∷ ls) = group_if_shown (after_line l s) l ++ groups (after_line l s) ls
 
--- the page of the calls behind `base`, up to `last`
+-- the page of the calls after `base`, up to `last`
 abbrev pub page : ℕ → ℕ → List (List ℕ) → List ℕ
 page base last lines = head
     ++ (groups (opening base last) lines ++ tail (after_finish (after_lines (opening base last) lines)))

@@ -15,7 +15,7 @@ use Rattle.trace_page.specs.declared.scene.Setting.{Setting}
 use Rattle.trace_page.specs.declared.scene.Shape.{Shape}
 use Rattle.trace_page.specs.declared.scene.Span.{Span}
 
--- The calls behind `base`, up to `last`, are drawn; there are more where a call came behind the last. `time` is when
+-- The calls after `base`, up to `last`, are drawn; there are more where a call came after the last. `time` is when
 -- the last line happened, the caller who made the last call, and the agent who sent the last letter. The words are what
 -- the last call says, or the procedure of the thread that it creates. Lanes stand in the order of birth.
 pub record Seen : Type 0 where
@@ -72,7 +72,7 @@ same_bool false b = not b
 abbrev pub together : Moment → Moment → Bool
 together one other = (one.call == other.call) && same_bool one.late other.late
 
--- the place of a thread or an agent among the lanes; behind them all, where it isn't there
+-- the place of a thread or an agent among the lanes; after them all, where it isn't there
 abbrev pub place : ℕ → List Lane → ℕ
 place id [] = 0
 place id (lane ∷ lanes) = if lane.id == id then 0 else suc (place id lanes)

@@ -61,7 +61,7 @@ sign_open name = use_open ++ name
 unfoldable pub class_text : List ℕ → List ℕ → List ℕ
 class_text name class = codes "<" ++ (name ++ (codes " class='" ++ class))
 
--- behind an attribute comes another, which is a number
+-- another attribute follows, which is a number
 unfoldable pub value_text : List ℕ → ℕ → List ℕ
 value_text name n = codes "' " ++ (name ++ (codes "='" ++ decimal n))
 
@@ -231,7 +231,7 @@ held_words need.Death by = []
 held_words need.Clock by = []
 held_words need.Nothing by = []
 
--- the same with what the call names, and who has it
+-- what a thread waits for: the kind of it, what the call names, and who has it
 unfoldable pub waits_text : Need → ℕ → ℕ → List ℕ
 waits_text need target by = codes "waits for " ++ (wanted_text need ++ (named_text need target ++ held_words need by))
 

@@ -62,7 +62,7 @@ turned_spans (change.Wakes t now) span = record span { kind = kind.Held; since =
 turned_spans (change.Stays t) span = record span { kind = kind.Held } ∷ []
 turned_spans change.Ends span = []
 
--- what goes on behind a change
+-- what goes on after a change
 abbrev pub after : Change → Span → List Span
 after c span = if touches c span then turned_spans c span else span ∷ []
 
@@ -70,7 +70,7 @@ after c span = if touches c span then turned_spans c span else span ∷ []
 abbrev pub bar : Change → Moment → Span → List Shape
 bar c to span = if is_drawn c span then shape.Bar span to ∷ [] else []
 
--- the same of all that goes on
+-- what is drawn at a change of all that goes on
 abbrev pub bars : Change → Moment → List Span → List Shape
 bars c to spans = flat_map (λ span. bar c to span) spans
 

@@ -75,29 +75,29 @@ abbrev pub after_say : ℕ → Seen → Seen
 after_say tid s = if nat_lt s.time.call (lane_of s tid).clear then s
     else after_draw (shape.Said tid s.time) (after_put (record (lane_of s tid) { clear = room s }) s)
 
-abbrev pub after_speak : ℕ → Verb → Seen → Seen
-after_speak tid verb.Say s = after_say tid s
-after_speak tid verb.Wait s = s
-after_speak tid verb.Create s = s
-after_speak tid verb.Destroy s = s
-after_speak tid verb.Suspend s = s
-after_speak tid verb.Resume s = s
-after_speak tid verb.Join s = s
-after_speak tid verb.Sleep s = s
-after_speak tid verb.Send s = s
-after_speak tid verb.Receive s = s
-after_speak tid verb.Enter s = s
-after_speak tid verb.CondEnter s = s
-after_speak tid verb.MonExit s = s
-after_speak tid verb.MonBreak s = s
-after_speak tid verb.Agent s = s
-after_speak tid verb.OnExit s = s
-after_speak tid verb.Other s = s
+abbrev pub after_draw_said : ℕ → Verb → Seen → Seen
+after_draw_said tid verb.Say s = after_say tid s
+after_draw_said tid verb.Wait s = s
+after_draw_said tid verb.Create s = s
+after_draw_said tid verb.Destroy s = s
+after_draw_said tid verb.Suspend s = s
+after_draw_said tid verb.Resume s = s
+after_draw_said tid verb.Join s = s
+after_draw_said tid verb.Sleep s = s
+after_draw_said tid verb.Send s = s
+after_draw_said tid verb.Receive s = s
+after_draw_said tid verb.Enter s = s
+after_draw_said tid verb.CondEnter s = s
+after_draw_said tid verb.MonExit s = s
+after_draw_said tid verb.MonBreak s = s
+after_draw_said tid verb.Agent s = s
+after_draw_said tid verb.OnExit s = s
+after_draw_said tid verb.Other s = s
 
 abbrev pub after_call : ℕ → Verb → ℕ → Bool → Seen → Seen
 after_call tid v target suspended s =
     let begins = after_meet_thread tid (after_count tid s) in
-    after_give_up tid v (after_speak tid v
+    after_give_up tid v (after_draw_said tid v
     (after_draw (shape.Tick tid begins.time) (asking tid v target suspended begins)))
 
 -- ---- an answer
@@ -378,19 +378,19 @@ after_note (entry.Trapped tid event) line s = s
 after_note (entry.Rites agent dead) line s = s
 after_note entry.Closing line s = s
 
--- the line stands behind the last call that is drawn
+-- the line comes after the last call that is drawn
 abbrev pub is_past : Entry → Seen → Bool
 is_past e s = s.more || (is_call e && (s.time.call == s.last))
 
--- all that is known behind a line
+-- all that is known after a line
 unfoldable pub after_entry : Entry → Seen → Seen
 after_entry e s = if is_past e s then record s { more = true; shapes = [] } else after_act e (record s { shapes = [] })
 
--- a line is drawn: it belongs to a call behind the first
+-- a line is drawn: it belongs to a call after the first
 unfoldable pub is_shown : Seen → Bool
 is_shown s = not s.more && ((s.base == 0) || nat_lt s.base s.time.call)
 
--- ---- behind all lines
+-- ---- after all lines
 
 -- so far right is whom somebody waits for
 abbrev pub aside : Moment → Moment

@@ -15,7 +15,7 @@ abbrev pub titles : Seen → List (List ℕ) → List (List ℕ)
 titles s [] = []
 titles s (l ∷ ls) = title_lines (after_line l s) l ++ titles (after_line l s) ls
 
--- a page from the first call on, behind whose last call there is none, has each line as a title, once and in order
+-- a page from the first call on, after whose last call there is none, has each line as a title, once and in order
 abbrev pub LinesAreTitles : ℕ → List (List ℕ) → Type 0
 LinesAreTitles last lines = (after_lines (opening 0 last) lines).more ≡ false → titles (opening 0 last) lines ≡ lines
 

@@ -36,7 +36,7 @@ IsCut range sink text =
     (bad_line text ≡ None)
     × AppendsPart sink.old sink.new (page_of range text) × IsFaulty sink
 
--- what each end says, where so many calls are asked for; want of memory is the one free answer, and no read or write
+-- what each end says, where so many calls are asked for; out of memory is the one free answer, and no read or write
 -- has failed then
 abbrev pub EndSays : Range → Stream → Stream → ViewEnd → Type 0
 EndSays range source sink end.Shown = Says source (IsShown range sink)

@@ -63,13 +63,13 @@ hops_from links start (suc left) at begins =
     record { from = (link_at links at).id; to = (link_at links next).id; begins = begins }
     ∷ (if next == start then [] else hops_from links start left next false)
 
--- the cycle of threads that begins at this place: they wait for one another, and none was born before the first
+-- the deadlock that begins at this place: threads that wait for one another, none of them born before the first
 abbrev pub cycle : List Link → ℕ → List Hop
 cycle links start = if comes_back links start (length links) start
     then hops_from links start (length links) start true
     else []
 
--- all cycles, in order of their first threads
+-- all deadlocks, in order of their first threads
 abbrev pub cycles : List Link → List Hop
 cycles links = each_from (λ start. cycle links start) 0 (length links)
 
@@ -78,6 +78,6 @@ abbrev pub is_stuck : ℕ → List Hop → Bool
 is_stuck id [] = false
 is_stuck id (hop ∷ hops) = if hop.from == id then true else is_stuck id hops
 
--- all cycles of threads that wait for one another
+-- all deadlocks among these lanes
 abbrev pub deadlocks : List Lane → List Span → List Hop
 deadlocks lanes spans = cycles (links_of lanes spans lanes)

@@ -1,4 +1,4 @@
-// What stands around the picture.
+// The frame of the picture: what comes before it and after it.
 ghost use Rattle.std.specs.Prelude.{◌≡◌, ◌+◌, ◌++◌, ◌<◌, ◌≤◌, OnOk};
 ghost use Rattle.std.specs.List.{flat_map};
 ghost use Rattle.trace_page.specs.Measures.{end_width, most_down, most_right, most_tenths};
@@ -224,7 +224,7 @@ fn add_head_key(out: &mut Vec<u8>) -> Result<(), NoMemory>
     add_text(out, key_marks())
 }
 
-/// All that stands before the picture.
+/// All that comes before the picture.
 #[tactic(auto, unfolding(crate::specs::Frame::head))]
 pub(crate) fn add_head(out: &mut Vec<u8>) -> Result<(), NoMemory>
     ensures { OnOk result (out.new.items ≡ out.old.items ++ head) }
@@ -529,7 +529,7 @@ impl<'t> Scene<'t> {
         add_text(out, script())
     }
 
-    /// All that stands behind the last line.
+    /// All that comes after the last line.
     #[tactic(auto, unfolding(crate::specs::Frame::tail))]
     pub(crate) fn add_tail(&self, out: &mut Vec<u8>) -> Result<(), NoMemory>
         ensures { OnOk result (out.new.items ≡ out.old.items ++ tail self.now) }

@@ -2,12 +2,12 @@
 //!
 //! `view` takes words, a source and a sink. Its contract says: where the words ask for calls of the trace, the source is read to its
 //! end, and where it held lines of a trace, the sink is told exactly the page of these lines; or the end names what was in the way: a
-//! read or a write that failed, the first line that is no line of a trace, or want of memory. Nothing is written then, but where a
+//! read or a write that failed, the first line that is no line of a trace, or that memory was refused. Nothing is written then, but where a
 //! write failed the first part of the page.
 //!
 //! `add_page` builds the page, in HTML with an inline SVG. Its contract is `page` in `specs/Page.antt`: the page is a function of the
 //! trace's lines and of the calls that are to be drawn. `Scene.antt`, `Spans.antt` and `Steps.antt` in `specs` say what is known
-//! behind each line and what is drawn for it; `Waits.antt` says who waits for whom at the end, and which threads are in a deadlock;
+//! after each line and what is drawn for it; `Waits.antt` says who waits for whom at the end, and which threads are in a deadlock;
 //! `Shapes.antt` and `Frame.antt` are the text of that, by the measures of `Measures.antt`.
 //!
 //! The crate stands on `trace_lines`, which reads the lines, on `trace_text` for numbers, and reads and writes by `streams`.

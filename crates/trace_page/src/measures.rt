@@ -8,19 +8,19 @@ pub(crate) const FIRST_CALL: u64 = 40;
 /// From a call to the next.
 pub(crate) const CALL_WIDTH: u64 = 16;
 
-/// From a call to what is drawn behind it and before the next.
+/// From a call to what is drawn after it and before the next.
 pub(crate) const HALF_CALL: u64 = 8;
 
-/// How many calls stand apart: 5,000 are drawn at most, and behind them stand what comes last and whom it waits for.
+/// How many calls have columns of their own: 5,000 are drawn at most, and after them come what comes last and whom it waits for.
 pub(crate) const MOST_CALLS: u64 = 5003;
 
 /// How many tenth calls have their number.
 pub(crate) const MOST_TENTHS: u64 = 501;
 
-/// Behind the last call, room for the words that tell the end.
+/// After the last call, room for the words that tell the end.
 pub(crate) const END_WIDTH: u64 = 420;
 
-/// Behind the last call, room for the arrows to whom somebody waits for, before the words that tell it.
+/// After the last call, room for the arrows to whom somebody waits for, before the words that tell it.
 pub(crate) const DUE_GAP: u64 = 42;
 
 /// The column of the lanes' names.

@@ -119,7 +119,7 @@ pub fn count_calls(text: &[u8]) -> u64
     calls
 }
 
-/// Puts the page of a trace behind the bytes so far: one HTML page with an inline SVG, of the calls behind `base`, up to `last`.
+/// Appends the page of a trace to the bytes so far: one HTML page with an inline SVG, of the calls after `base`, up to `last`.
 pub fn add_page(
     alloc: Global,
     out: &mut Vec<u8>,

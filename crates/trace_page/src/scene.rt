@@ -4,7 +4,7 @@ ghost use Rattle.std.specs.Prelude.{◌≡◌, length};
 use std::marker::Model;
 use trace_lines::{Gain, Verb};
 
-/// When something happens: at a call, by its number counted from 1, or behind it, where lines are taken before the next.
+/// When something happens: at a call, by its number counted from 1, or after it, where lines are taken before the next.
 #[derive(Clone, Copy)]
 pub struct Moment {
     pub call: u64,
@@ -92,7 +92,7 @@ impl<'t> Words<'t> {
         Words { bytes }
     }
 
-    /// The same once more.
+    /// Another view of these bytes.
     pub(crate) fn again(&self) -> Words<'t>
         ensures { result ≡ self.now }
     {
@@ -131,11 +131,11 @@ pub enum Way {
     Also,
     /// A thread waits, for that one, when all is told.
     Blocked,
-    /// The same in a cycle of threads that wait for one another.
+    /// A thread waits for another of its deadlock, when all is told.
     Deadlock,
 }
 
-/// A thread of a cycle of threads that wait for one another, and whom it waits for.
+/// A thread of a deadlock, and whom it waits for.
 #[derive(Clone, Copy)]
 pub struct Hop {
     pub from: u64,
@@ -220,7 +220,7 @@ pub enum Shape {
         tid: u64,
         at: Moment,
     },
-    /// A line behind the last step, and how many such lines came before.
+    /// A line after the last step, and how many such lines came before.
     Closing {
         nth: u64,
         at: Moment,

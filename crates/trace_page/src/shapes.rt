@@ -44,7 +44,7 @@ pub(crate) fn add_escaped(out: &mut Vec<u8>, text: &[u8]) -> Result<(), NoMemory
     Ok(())
 }
 
-/// A number behind a text.
+/// A number after a text.
 pub(crate) fn add_counted(out: &mut Vec<u8>, before: &[u8], n: u64) -> Result<(), NoMemory>
     ensures { OnOk result (out.new.items ≡ out.old.items ++ (before.now ++ decimal n)) }
 {
@@ -97,7 +97,7 @@ fn add_place(out: &mut Vec<u8>, x: u64, y: u64) -> Result<(), NoMemory>
     add_value(out, b"y", y)
 }
 
-// A point of a path, behind what the path does there.
+// A point of a path, after what the path does there.
 fn add_point(out: &mut Vec<u8>, step: &[u8], x: u64, y: u64) -> Result<(), NoMemory>
     ensures { OnOk result
         (out.new.items ≡ out.old.items ++ (step.now ++ (decimal x ++ (codes " " ++ decimal y)))) }

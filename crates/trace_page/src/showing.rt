@@ -112,7 +112,7 @@ fn show<S: Source, K: Sink>(alloc: Global, range: Range, source: &mut S, sink: &
     }
 }
 
-/// Reads a trace and writes its page, by the program's words, which stand behind its name: none, or the numbers of the first call
+/// Reads a trace and writes its page, by the program's words, which follow its name: none, or the numbers of the first call
 /// that is to be drawn and of the last, or `--last` and how many at the end are. Other words are no command: nothing is read or written then.
 pub fn view<S: Source, K: Sink>(
     alloc: Global,

@@ -13,7 +13,7 @@ pub enum Change {
     Dies { tid: u64 },
     /// A suspended thread is resumed.
     Resumes { tid: u64 },
-    /// A monitor is released, whoever holds it.
+    /// A monitor is released, no matter who holds it.
     Breaks { mon: u64 },
     /// A thread leaves the monitor of this level.
     Leaves { tid: u64, level: u64 },
@@ -127,7 +127,7 @@ fn add_after(out: &mut Vec<Span>, change: Change, span: Span) -> Result<(), NoMe
     Ok(())
 }
 
-/// What goes on behind a change.
+/// What goes on after a change.
 pub fn add_kept(out: &mut Vec<Span>, change: Change, spans: &[Span]) -> Result<(), NoMemory>
     ensures { OnOk result (out.new.items ≡ out.old.items ++ spans_after change spans.now) }
 {

@@ -2,7 +2,7 @@
 ghost use Rattle.std.specs.Prelude.{◌≡◌, ◌++◌, ◌&&◌, OnOk};
 ghost use Rattle.trace_page.specs.Scene.{after_begin, after_draw, after_put, blank, lane_of, need_of, one_more, opening, place, together, with_lane};
 ghost use Rattle.trace_page.specs.Spans.{after_change, next_hold};
-ghost use Rattle.trace_page.specs.Steps.{after_act, after_also, after_answer, after_call, after_carry_out, after_count, after_create, after_die, after_entry, after_event, after_exit, after_finish, after_give_up, after_grant, after_leave, after_meet, after_name, after_note, after_park, after_report, after_row, after_say, after_send, after_set, after_settle, after_show_answer, after_speak, after_tick, after_trap, all_due, arrival_shapes, aside, asking, drawable, due, has_room, has_waited, hop_shape, hop_shapes, is_call, is_due, is_past, is_shown, may_wait, owner_of, room, toward, wait_shapes, wake_shapes, wide, with_agent, with_closing, words_of};
+ghost use Rattle.trace_page.specs.Steps.{after_act, after_also, after_answer, after_call, after_carry_out, after_count, after_create, after_die, after_draw_said, after_entry, after_event, after_exit, after_finish, after_give_up, after_grant, after_leave, after_meet, after_name, after_note, after_park, after_report, after_row, after_say, after_send, after_set, after_settle, after_show_answer, after_tick, after_trap, all_due, arrival_shapes, aside, asking, drawable, due, has_room, has_waited, hop_shape, hop_shapes, is_call, is_due, is_past, is_shown, may_wait, owner_of, room, toward, wait_shapes, wake_shapes, wide, with_agent, with_closing, words_of};
 
 use crate::scene::{
     Hop, Kind, Lane, Moment, Naming, Need, Rows, Scene, Setting, Shape, Span, Way, Words,
@@ -25,7 +25,7 @@ fn together(one: Moment, other: Moment) -> bool
     one.call == other.call && one.late == other.late
 }
 
-/// The place of a thread or an agent among the lanes; behind them all, where it isn't there.
+/// The place of a thread or an agent among the lanes; after them all, where it isn't there.
 pub fn place(id: u64, lanes: &[Lane]) -> usize
     ensures { result ≡ place id lanes.now }
 {
@@ -282,7 +282,7 @@ fn drawable(text: &[u8]) -> Words<'_>
 }
 
 impl<'t> Scene<'t> {
-    /// Before the first line. The calls behind `base`, up to `last`, are to be drawn.
+    /// Before the first line. The calls after `base`, up to `last`, are to be drawn.
     pub fn new(alloc: Global, base: u64, last: u64) -> Scene<'t>
         ensures { result ≡ opening base last }
     {
@@ -433,7 +433,7 @@ impl<'t> Scene<'t> {
         }
     }
 
-    // The first call behind the words of the last one.
+    // The first call after the words of the last one.
     fn room(&self) -> u64
         ensures { result ≡ room self.now }
     {
@@ -455,8 +455,8 @@ impl<'t> Scene<'t> {
         self.draw(Shape::Said { tid, at })
     }
 
-    fn speak(&mut self, tid: u64, verb: Verb) -> Result<(), NoMemory>
-        ensures { OnOk result (self.new ≡ after_speak tid verb self.old) }
+    fn draw_said(&mut self, tid: u64, verb: Verb) -> Result<(), NoMemory>
+        ensures { OnOk result (self.new ≡ after_draw_said tid verb self.old) }
     {
         match verb {
             Verb::Say => self.say(tid),
@@ -487,7 +487,7 @@ impl<'t> Scene<'t> {
         let at = self.time;
         self.ask(tid, verb, target, suspended);
         self.draw(Shape::Tick { tid, at })?;
-        self.speak(tid, verb)?;
+        self.draw_said(tid, verb)?;
         self.give_up(tid, verb)
     }
 

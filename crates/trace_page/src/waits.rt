@@ -171,7 +171,7 @@ pub fn is_stuck(id: u64, hops: &[Hop]) -> bool
     false
 }
 
-/// All cycles of threads that wait for one another, step by step.
+/// All deadlocks: the cycles of threads that wait for one another, step by step.
 pub fn deadlocks(alloc: Global, lanes: &[Lane], spans: &[Span]) -> Result<Vec<Hop>, NoMemory>
     ensures { IfOk result (λ hops. hops.items ≡ deadlocks lanes.now spans.now) }
 {

@@ -4,7 +4,7 @@ ghost use Rattle.trace_page.specs.Words.{call_of, from_to, last_by, pair_of, ran
 
 use trace_lines::whole_number;
 
-/// The calls behind `base`, up to `last`.
+/// The calls after `base`, up to `last`.
 #[derive(Clone, Copy)]
 pub struct Window {
     pub base: u64,

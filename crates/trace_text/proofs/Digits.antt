@@ -21,7 +21,7 @@ decimal_of_two n least most =
 pub two_behind : (from last : List ℕ) (a b : ℕ) → last ≡ (from ++ a ∷ []) ++ b ∷ [] → last ≡ from ++ a ∷ b ∷ []
 two_behind from last a b put = put ∙ append_assoc from (a ∷ []) (b ∷ [])
 
--- a number of more than two digits: how many hundreds it has, and two digits behind them
+-- a number of more than two digits: how many hundreds it has, and the last two digits
 pub decimal_of_hundreds : (n : ℕ) → 100 ≤ n → n < 1000000 → decimal n ≡ decimal (n / 100) ++ pair_of (n % 100)
 decimal_of_hundreds n least most =
     let hundreds : n / 10 / 10 ≡ n / 100 = omega arith in
@@ -33,7 +33,7 @@ decimal_of_hundreds n least most =
     (ones ∙ ap (λ d. decimal (n / 10) ++ (48 + d) ∷ []) one
     ∙ ap (λ ds. ds ++ (48 + n % 100 % 10) ∷ []) (tens ∙ ap (λ m. decimal m ++ (48 + n / 10 % 10) ∷ []) hundreds ∙ ap (λ d. decimal (n / 100) ++ (48 + d) ∷ []) ten))
 
--- those two digits behind the others
+-- the last two digits put after the others
 pub put_behind : (from last : List ℕ) (n : ℕ) → 100 ≤ n → n < 1000000 → last ≡ (from ++ decimal (n / 100)) ++ pair_of (n % 100) → last ≡ from ++ decimal n
 put_behind from last n least most put =
     put

@@ -1,4 +1,4 @@
--- A loop over a list puts behind a text what each item gives.
+-- A loop over a list appends to a text what each item gives.
 use Rattle.lwp_types.specs.declared.call.Effect.{Effect}
 use Rattle.lwp_types.specs.declared.call.Line.{Line}
 use Rattle.std.proofs.Common.{List, None, Option, [], ap, append-nil, append_assoc, drop, get_or, length, refl, sym, ℕ, ◌++◌, ◌+◌, ◌<◌, ◌∷◌, ◌≡◌, ◌≤◌, ◌∙◌}

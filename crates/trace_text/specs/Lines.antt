@@ -1,4 +1,4 @@
--- The lines of a trace: one for each effect, and the lines behind the last step.
+-- The lines of a trace: one for each effect, and the lines after the last step.
 use Rattle.lwp_types.specs.State.{passes}
 use Rattle.lwp_types.specs.declared.call.Answer.{Answer}
 use Rattle.lwp_types.specs.declared.call.Call.{Call}
@@ -32,7 +32,7 @@ abbrev pub with_space : List ℕ → List ℕ
 with_space [] = []
 with_space (b ∷ bs) = 32 ∷ b ∷ bs
 
--- a number behind the letter of its kind, or `none`
+-- a number after the letter of its kind, or `none`
 abbrev pub id_text : List ℕ → ℕ → List ℕ
 id_text letter n = if n == null_id then codes "none" else letter ++ decimal n
 
@@ -168,13 +168,13 @@ error_text error.NotOwned = codes "LE_NOTOWNED"
 error_text error.IllPrio = codes "LE_ILLPRIO"
 error_text error.NoWait = codes "LE_NOWAIT"
 
--- each number behind a space
+-- each number after a space
 abbrev pub ids_text : IdKind → List ℕ → List ℕ
 ids_text kind.Thread ids = flat_map (λ n. 32 ∷ thread_text n) ids
 ids_text kind.Monitor ids = flat_map (λ n. 32 ∷ monitor_text n) ids
 ids_text kind.Cond ids = flat_map (λ n. 32 ∷ condition_text n) ids
 
--- an answer, as it stands behind the thread
+-- an answer, as it is printed after the thread
 abbrev pub answer_text : Answer → List ℕ
 answer_text (answer.Value v) = codes " = " ++ signed_decimal v
 answer_text (answer.Thread t) = codes " = " ++ thread_text t
@@ -193,11 +193,11 @@ abbrev pub posted_text : Line → List ℕ
 posted_text line = codes " client "
     ++ (decimal line.client ++ (codes " seq " ++ (decimal line.seq ++ with_space line.text)))
 
--- the same, at its event
+-- a posted line that an event has taken
 abbrev pub taken_text : ℕ → Line → List ℕ
 taken_text e line = codes "event " ++ (decimal e ++ posted_text line)
 
--- the same, at the clock, which has ticked so often
+-- a posted line that the clock has taken, which has ticked so often
 abbrev pub ticked_text : ℕ → Line → List ℕ
 ticked_text now line = codes "tick " ++ (decimal now ++ posted_text line)
 
@@ -256,11 +256,11 @@ abbrev pub left_text : ℕ → ℕ → List ℕ
 left_text c count = if count == 0 then []
     else codes "left client " ++ (decimal c ++ (codes " " ++ (decimal count ++ codes "\n")))
 
--- the same of all clients, counted from c
+-- the lines of all clients that have lines left, counted from c
 abbrev pub left_texts : ℕ → List ℕ → List ℕ
 left_texts c [] = []
 left_texts c (count ∷ counts) = left_text c count ++ left_texts (c + 1) counts
 
--- what stands behind the last step: the end, and how many lines of each client are left
+-- after the last step: the end, and how many lines of each client are left
 abbrev pub end_text : ℕ → List ℕ → Halt → List ℕ
 end_text turns left halt = halt_text turns halt ++ left_texts 0 left

@@ -9,7 +9,7 @@ use crate::rows::{put_error, put_func, put_number, put_spaced, put_word};
 use itoa::Buffer;
 use lwp_types::{Answer, Func, IdKind, IdList, LwpErr, NoMemory, Text, Tid};
 
-// A number behind a space and a letter.
+// A number after a space and a letter.
 #[inline(always)]
 fn add_id(row: &mut Vec<u8>, at: usize, letter: u8, n: u64) -> Result<usize, NoMemory>
     requires { at < length row.old.items }
@@ -22,7 +22,7 @@ fn add_id(row: &mut Vec<u8>, at: usize, letter: u8, n: u64) -> Result<usize, NoM
     Ok(put_word_id(row.as_mut_slice(), at, b" ", letter, n))
 }
 
-// The numbers of a list, each behind a space and a letter.
+// The numbers of a list, each after a space and a letter.
 fn add_ids(row: &mut Vec<u8>, at: usize, letter: u8, list: &IdList) -> Result<usize, NoMemory>
     requires { at < length row.old.items }
     ensures text { IfOk result

@@ -1,4 +1,4 @@
-// How a session comes to its end, and the lines behind its last step.
+// How a session comes to its end, and the lines after its last step.
 ghost use Rattle.std.specs.Prelude.{◌≡◌, ◌++◌, OnOk, IfOk};
 ghost use Rattle.trace_text.specs.Lines.{halt_text, left_text, end_text};
 
@@ -43,7 +43,7 @@ fn add_left(out: &mut Vec<u8>, client: u64, count: u32) -> Result<(), NoMemory>
     add_word(out, b"\n")
 }
 
-/// The lines behind those of the last step. `turns` is how many calls were allowed, and `left` how many lines of each client are
+/// The lines after those of the last step. `turns` is how many calls were allowed, and `left` how many lines of each client are
 /// left, by client.
 pub fn end_lines(alloc: Global, halt: &Halt, turns: u64, left: &[u32]) -> Result<Vec<u8>, NoMemory>
     ensures { IfOk result (λ out. out.items ≡ end_text turns left.now halt.now) }

@@ -74,7 +74,7 @@ fn put_text(row: &mut [u8], at: usize, text: &[u8]) -> usize
     }
 }
 
-// A text behind a space; nothing, where it is empty.
+// A text after a space; nothing, where it is empty.
 pub(crate) fn put_spaced(row: &mut [u8], at: usize, text: &Text) -> usize
     requires { at + 241 ≤ length row.old }
     ensures len { length row.new ≡ length row.old }
@@ -237,7 +237,7 @@ pub(crate) fn put_number(row: &mut [u8], at: usize, n: u64) -> usize
     }
 }
 
-// A number behind its letter, or `none` for the number that nobody has.
+// A number after its letter, or `none` for the number that nobody has.
 #[inline(always)]
 pub(crate) fn put_id(row: &mut [u8], at: usize, letter: u8, n: u64) -> usize
     requires { at + 21 ≤ length row.old }

@@ -12,7 +12,8 @@ use std::marker::Model;
 /// The lines of a step, seen as their bytes, in memory that the lines of the next step are put into.
 #[derive(Drop)]
 pub struct StepLines {
-    // The lines, and behind them room for others.
+    // The lines, and after them what earlier steps left there, as room for the next line. The row is never cut off: a row that each line
+    // lengthens and cuts off again costs more, and so do words pushed one by one, since each push asks for room.
     row: Vec<u8>,
     // How many bytes the lines have.
     end: usize,
@@ -69,7 +70,7 @@ impl StepLines {
         Ok(())
     }
 
-    /// The same of a call that a thread makes: the line of the call itself, and a line for each effect.
+    /// Puts the lines of a call that a thread makes in the place of what was there: the line of the call, and a line for each effect.
     #[inline(always)]
     pub fn set_call(
         &mut self,

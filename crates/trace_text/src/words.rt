@@ -27,7 +27,7 @@ pub(crate) fn add_word(out: &mut Vec<u8>, word: &[u8]) -> Result<(), NoMemory>
     Ok(())
 }
 
-/// A text behind a space; nothing, where it is empty.
+/// A text after a space; nothing, where it is empty.
 pub fn add_spaced(out: &mut Vec<u8>, text: &[u8]) -> Result<(), NoMemory>
     ensures { OnOk result (out.new.items ≡ out.old.items ++ with_space text.now) }
 {
@@ -38,7 +38,7 @@ pub fn add_spaced(out: &mut Vec<u8>, text: &[u8]) -> Result<(), NoMemory>
     Ok(())
 }
 
-/// The same of a text that is lent.
+/// A lent text after a space; nothing, where it is empty.
 pub fn add_spaced_text(out: &mut Vec<u8>, text: &Text) -> Result<(), NoMemory>
     ensures { OnOk result (out.new.items ≡ out.old.items ++ with_space text.now) }
 {
@@ -66,7 +66,7 @@ fn open(out: &mut Vec<u8>) -> Result<usize, NoMemory>
     Ok(from)
 }
 
-/// A number in decimal. It needs no memory but for the bytes so far and a row behind them.
+/// A number in decimal. It needs no memory but for the bytes so far and a row after them.
 pub fn add_number(out: &mut Vec<u8>, n: u64) -> Result<(), NoMemory>
     ensures { OnOk result (out.new.items ≡ out.old.items ++ decimal n) }
 {

@@ -27,7 +27,7 @@ agent_without_reply = record {
   takes = took 1 5 (line 0 0 (codes "one")) ∷ [];
 }
 
--- The same with just as many turns as it takes: stuck, and not spent.
+-- With just as many turns as it takes: stuck, and not spent.
 abbrev pub agent_without_reply_exact_turns : Row
 agent_without_reply_exact_turns = record agent_without_reply { turns = 3 }
 
@@ -199,7 +199,7 @@ lists_of_ids = record {
   takes = [];
 }
 
--- Whoever waits for the agent is refused as its owner dies.
+-- A thread that waits for the agent is refused as its owner dies.
 --   lwp 1 / pod 1
 --   proc main / create a w 1 - / yield self / recv g wait
 --   proc w / agent g 5 / yield self
@@ -425,7 +425,7 @@ two_agents_of_one_owner = record {
   takes = took 1 5 (line 0 0 (codes "x")) ∷ took 4 5 (line 0 1 (codes "y")) ∷ [];
 }
 
--- Of two owners one waits: it goes on in the midst of the delivery, behind its own agent's part of it.
+-- Of two owners one waits: it goes on in the midst of the delivery, after its own agent's part of it.
 --   lwp 1 / pod 1
 --   client 0 5
 --   proc main / agent g 5 / recv g wait / create a w 1 - / yield self / reply g ok / recv g wait / reply g ok

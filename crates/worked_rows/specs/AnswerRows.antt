@@ -26,7 +26,7 @@ answers_of_one = map reply (numbers_to requests) ++ codes "bye" ∷ []
 abbrev pub as_lines : List (List ℕ) → List ℕ
 as_lines texts = flat_map (λ text. text ++ codes "\n") texts
 
--- a client that gets what the other has put, is told that it isn't a command, and quits; what it posts behind that
+-- a client that gets what the other has put, is told that it isn't a command, and quits; what it posts after that
 -- isn't answered
 abbrev pub texts_of_a : List (List ℕ)
 texts_of_a = codes "get k" ∷ codes "what" ∷ codes "quit" ∷ codes "get k" ∷ []

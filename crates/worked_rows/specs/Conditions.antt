@@ -226,7 +226,7 @@ broadcast_in_arrival_order = record {
   takes = [];
 }
 
--- A woken thread comes behind those who wait to enter already.
+-- A woken thread comes after those who wait to enter already.
 --   lwp 1 / pod 1
 --   proc main / moncreate m / cvcreate c m / create a w 1 - / yield self / enter m / create b e 1 - / yield self /
 --     notify c / monwaiters m / monexit m
@@ -248,7 +248,7 @@ the_woken_come_last = record {
   takes = [];
 }
 
--- Whoever waits to enter has the monitor as its owner begins to wait, however deep that was.
+-- A thread that waits to enter has the monitor as its owner begins to wait, however deep that was.
 --   lwp 1 / pod 1
 --   proc main / moncreate m / cvcreate c m / enter m / enter m / create a e 1 - / yield self / wait c / monexit m /
 --     monexit m

@@ -46,7 +46,7 @@ its_own_letter = record {
   takes = [];
 }
 
--- The same once it was received: there is nobody to reply to.
+-- The letter was received before its sender was destroyed: there is nobody to reply to.
 --   lwp 1 / pod 1
 --   proc main / create a s 1 - / yield self / recv any wait / destroy a / senders / reply a x
 --   proc s / send first 9 hi
@@ -206,7 +206,7 @@ locks_last_acquired_first = record {
   takes = [];
 }
 
--- Its agents end in the order of their births, whatever their events, and refuse whoever waits for them.
+-- Its agents end in the order of their births, whatever their events, and refuse each thread that waits for them.
 --   lwp 1 / pod 1
 --   proc main / create a o 1 - / create b r 1 - / create c q 1 - / yield self / join a
 --   proc o / agent g 5 / agent h 4 / yield self
@@ -249,7 +249,7 @@ senders_in_send_order = record {
   takes = [];
 }
 
--- Whoever waits for its letter by name is refused in the order of birth, whoever began first.
+-- Those that wait for its letter by name are refused in the order of birth, whichever began first.
 --   lwp 1 / pod 1
 --   proc main / create a n 1 - / create b n 1 - / yield b / yield a
 --   proc n / recv first wait
@@ -267,7 +267,7 @@ named_receivers_in_birth_order = record {
   takes = [];
 }
 
--- Whoever has joined it is answered 0, in the order of birth.
+-- Those that have joined it are answered 0, in the order of birth.
 --   lwp 1 / pod 1
 --   proc main / create a j 1 - / create b j 1 - / yield b / yield a
 --   proc j / join first

@@ -110,7 +110,7 @@ statuses_at_both_ends = record {
   takes = [];
 }
 
--- The pod ends at once, whoever could still run, and the caller isn't answered.
+-- The pod ends at once, though others could still run, and the caller isn't answered.
 --   lwp 1 / pod 1
 --   proc main / create a w 1 - / setexit 5 / podexit 99
 --   proc w / say never

@@ -141,7 +141,7 @@ numbers_over_all_threads = record {
   takes = [];
 }
 
--- What a name stands for counts as the exit procedure is set, and not as it runs.
+-- What a name means counts as the exit procedure is set, and not as it runs.
 --   lwp 1 / pod 1
 --   proc main / create a w 1 s / onexit resume a / create a w 1 s / ping a
 --   proc w

@@ -90,7 +90,7 @@ reported_to_two_agents = record {
   takes = [];
 }
 
--- Thread 0 is reported like any other, behind the reply to the report before.
+-- Thread 0 is reported like any other, after the reply to the report before.
 --   lwp 1 / pod 1
 --   proc main / create s v 1 - / create a w 1 - / yield self / say m
 --   proc v / agent g 32 / recv g wait / reply g ok / recv g wait / reply g ok / recv g poll
@@ -112,7 +112,7 @@ the_first_thread_is_reported = record {
   takes = [];
 }
 
--- Who is destroyed is reported, unless it is marked; the report comes behind the answer.
+-- Who is destroyed is reported, unless it is marked; the report comes after the answer.
 --   lwp 1 / pod 1
 --   proc main / agent g 32 / create a w 1 n / create b w 1 - / destroy a / destroy b / recv g wait
 --   proc w

@@ -37,11 +37,11 @@ sixty_four_frames = record {
   takes = [];
 }
 
--- The same with just as many turns as it takes.
+-- With just as many turns as it takes.
 abbrev pub sixty_four_frames_exact_turns : Row
 sixty_four_frames_exact_turns = record sixty_four_frames { turns = 65 }
 
--- The same with one turn fewer.
+-- With one turn fewer.
 abbrev pub sixty_four_frames_one_turn_fewer : Row
 sixty_four_frames_one_turn_fewer = record sixty_four_frames {
   turns = 64;

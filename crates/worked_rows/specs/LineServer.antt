@@ -24,7 +24,7 @@ requests = 39
 abbrev pub joined : List (List ℕ) → List ℕ
 joined pieces = flat_map (λ piece. piece) pieces
 
--- the command of a client's line number k, with the same for every client: put, get and del, of key after key
+-- the command of a client's line number k, one for every client: put, get and del, of key after key
 abbrev pub command : ℕ → List ℕ
 command k = joined (slice_index_or (codes "put k" ∷ codes "get k" ∷ codes "del k" ∷ []) (k % 3) []
     ∷ decimal (k / 3)
@@ -39,7 +39,7 @@ reply k = if k % 3 == 1 then codes "is v" ++ decimal (k / 3) else codes "ok"
 abbrev pub text : ℕ → List ℕ
 text k = if nat_lt k requests then command k else codes "quit"
 
--- the same, as it is posted
+-- line number k of client c, as it is posted
 abbrev pub posted_line : ℕ → ℕ → Line
 posted_line c k = line c k (text k)
 
@@ -133,7 +133,7 @@ taken = flat_map (λ k. map (λ c. took (turn c k) (c + 1) (posted_line c k)) (n
 --   native s2 session 3 db
 --   proc main / create db db 2 v / create a s0 1 - / create b s1 1 - / create c s2 1 - / join a / join b / join c
 --   post 0 put k0 v0 / post 0 get k0 / post 0 del k0, and so on up to k12 / post 0 quit
---   and the same for the clients 1 and 2
+--   and as many for the clients 1 and 2, alike
 abbrev pub line_server : Row
 line_server = record {
   script = posted (1 ∷ 2 ∷ 3 ∷ [])
@@ -153,11 +153,11 @@ line_server = record {
   takes = taken;
 }
 
--- The same with just as many turns as it takes.
+-- With just as many turns as it takes.
 abbrev pub line_server_exact_turns : Row
 line_server_exact_turns = record line_server { turns = 606 }
 
--- The same with one turn fewer: the first thread doesn't return any more.
+-- With one turn fewer: the first thread doesn't return any more.
 abbrev pub line_server_one_turn_fewer : Row
 line_server_one_turn_fewer = record line_server {
   turns = 605;

@@ -81,7 +81,7 @@ entered_again_and_again = record {
   takes = [];
 }
 
--- Nobody leaves a monitor for its owner; whoever waits has it at the owner's death.
+-- Nobody leaves a monitor for its owner; a thread that waits has it at the owner's death.
 --   lwp 1 / pod 1
 --   proc main / moncreate m / enter m / create a w 1 - / yield self
 --   proc w / monexit m / condenter m / enter m
@@ -118,7 +118,7 @@ the_greatest_priority_enters_next = record {
   takes = [];
 }
 
--- A break ends every level of the owner's, and whoever waits enters at once, at the first level.
+-- A break ends every level of the owner's, and the one that waits enters at once, at the first level.
 --   lwp 1 / pod 1
 --   proc main / moncreate m / enter m / enter m / create a e 1 - / create b w 1 - / yield self / monexit m
 --   proc e / enter m / monexit m / monexit m
@@ -138,7 +138,7 @@ a_broken_lock_passes_on = record {
   takes = [];
 }
 
--- The lists: monitors in birth order, and whoever waits to enter, first come first.
+-- The lists: monitors in birth order, and the threads that wait to enter, FIFO.
 --   lwp 1 / pod 1
 --   proc main / moncreate m / moncreate n / moncreate o / mondestroy n / monitors / enter m / create a w 1 - /
 --     create b w 1 - / yield self / monwaiters m / monwaiters o

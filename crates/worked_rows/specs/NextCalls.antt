@@ -39,7 +39,7 @@ value n = answer.Value (pos n)
 abbrev pub letter : List ℕ → Answer
 letter text = answer.Letter 1 text 240
 
--- a procedure at its third statement, with the places behind so many handlers
+-- a procedure at its third statement, with the places after so many handlers
 abbrev pub frame : List ℕ → Frame
 frame handlers = record { number = 0; place = 2; handlers = handlers }
 

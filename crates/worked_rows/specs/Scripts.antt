@@ -1,4 +1,4 @@
--- What the statements of a procedure mean that make no call, what names stand for, and how texts are printed.
+-- What the statements of a procedure mean that make no call, what names mean, and how texts are printed.
 use Rattle.trace_text.specs.declared.ends.Halt.TheVariants.{Ended}
 use Rattle.std.specs.Prelude.{None, Some, [], codes, ◌++◌, ◌∷◌}
 use Rattle.worked_rows.specs.Words.{Row, limited, longest_x, named, plain, pod, procedure, speaking}
@@ -113,7 +113,7 @@ again_until_skipped = record {
   takes = [];
 }
 
--- A thread goes on behind the handler that caught, and a refused one doesn't count.
+-- A thread goes on after the handler that caught, and a refused one doesn't count.
 --   lwp 1 / pod 1
 --   proc main / handle 0 - 0 / handle 5 - 0 / skip caught / raise 5 / say end
 abbrev pub a_refused_handle_has_no_place : Row
@@ -146,7 +146,7 @@ a_removed_handler_has_no_place = record {
   takes = [];
 }
 
--- Without a skip a thread does once more what stands behind the handler.
+-- Without a skip a thread does once more what follows the handler.
 --   lwp 1 / pod 1
 --   proc main / handle 1 - 0 / raise 1
 abbrev pub caught_without_a_skip : Row
@@ -178,7 +178,7 @@ a_name_is_set_as_its_thread_goes_on = record {
   takes = [];
 }
 
--- A name stands for the last thread that it was given to; a refused create leaves it.
+-- A name means the last thread that it was given to; a refused create leaves it.
 --   lwp 1 / pod 1
 --   proc main / create a w 1 - / create a w 2 - / ping a / create a w 1 - / destroy a / threads / agent a 1 / ping a
 --   proc w

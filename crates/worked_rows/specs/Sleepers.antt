@@ -65,7 +65,7 @@ arrival_before_priority = record {
   takes = beat 0 0 ∷ beat 1 1 ∷ beat 2 2 ∷ beat 3 3 ∷ beat 3 4 ∷ beat 4 5 ∷ [];
 }
 
--- Each timer has its own tick, whoever came before.
+-- Each timer has its own tick, whichever came before.
 --   lwp 1 / pod 2
 --   client 0 0
 --   proc main / create a w 1 - / sleep 4
@@ -579,7 +579,7 @@ stuck_with_lines_of_another_event = record {
 abbrev pub at_time : ℕ → State
 at_time n = record alone { now = n }
 
--- the same, but its thread sleeps until then
+-- a pod whose first and only thread sleeps until then
 abbrev pub asleep_until : ℕ → ℕ → State
 asleep_until due n = record alone {
   threads = record (opening_thread 1) { block = block.Sleeping } ∷ [];

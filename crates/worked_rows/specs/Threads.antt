@@ -24,7 +24,7 @@ first_run = record {
   takes = [];
 }
 
--- The same with nothing to say: a procedure without statements returns.
+-- The other has nothing to say: a procedure without statements returns.
 --   lwp 1 / pod 1
 --   proc main / create a worker 1 - / yield self
 --   proc worker
@@ -265,7 +265,7 @@ flags_in_all_forms = record {
   takes = [];
 }
 
--- A ping finds threads and agents until they end; a name that stands for nobody is refused.
+-- A ping finds threads and agents until they end; a name that means nobody is refused.
 --   lwp 1 / pod 1
 --   proc main / create a w 1 - / agent g 3 / ping a / ping g / ping self / ping first / ping none / ping b /
 --     destroy g / ping g / destroy a / ping a

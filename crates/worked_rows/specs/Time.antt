@@ -47,7 +47,7 @@ timed_receive = record {
       ∷ took 2 0 (line 0 2 (codes "c")) ∷ took 3 0 (line 0 3 (codes "d")) ∷ took 3 0 (line 0 4 (codes "e")) ∷ [];
 }
 
--- Nobody sleeps for no tick; and where no tick is left, whoever sleeps is stuck.
+-- Nobody sleeps for no tick; and where no tick is left, a thread that sleeps is stuck.
 --   lwp 1 / pod 1
 --   client 0 0
 --   proc main / sleep 0 / sleep 1 / sleep 1
@@ -90,7 +90,7 @@ due_at_once = record {
       ∷ took 4 0 (line 0 4 (codes "e")) ∷ took 5 0 (line 0 5 (codes "f")) ∷ took 5 0 (line 0 6 (codes "g")) ∷ [];
 }
 
--- Whoever has a letter in time isn't timed out later.
+-- A thread that has a letter in time isn't timed out later.
 --   lwp 1 / pod 1
 --   client 0 0
 --   proc main / create a w 1 - / recv any 2 / reply a ok

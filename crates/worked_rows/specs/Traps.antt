@@ -10,7 +10,7 @@ use Rattle.lwp_types.specs.declared.call.Mode.TheVariants as mode
 use Rattle.lwp_types.specs.declared.call.Pattern.TheVariants as pattern
 use Rattle.lwp_types.specs.declared.call.Func.TheVariants as func
 
--- A trap is caught: the thread makes no call, and goes on behind its handler. Of the next trap it dies.
+-- A trap is caught: the thread makes no call, and goes on after its handler. Of the next trap it dies.
 --   lwp 1 / pod 1
 --   client 0 5
 --   proc main / handle 5 - 0 / skip caught / trap 5 / say one
@@ -46,7 +46,7 @@ the_trap_sum = record {
   takes = took 2 5 (line 0 0 (codes "x")) ∷ [];
 }
 
--- The same, by the other function.
+-- The handler gives a value by the other function.
 --   lwp 1 / pod 1
 --   client 0 5
 --   proc main / handle 5 give 7 / trap 5 / say one
@@ -135,7 +135,7 @@ a_name_is_set_though_nothing_is_called = record {
   takes = took 5 5 (line 0 0 (codes "x")) ∷ took 6 5 (line 0 1 (codes "y")) ∷ [];
 }
 
--- A handler that was set by the call before catches the trap: the thread goes on behind it, at the statement that it
+-- A handler that was set by the call before catches the trap: the thread goes on after it, at the statement that it
 -- was about to call.
 --   lwp 1 / pod 1
 --   client 0 5

@@ -55,15 +55,15 @@ pod maxpri names procs = record {
   texts = [];
 }
 
--- the same, with these texts; elsewhere each is its place among them, counted from 0
+-- a script with these texts; elsewhere each is its place among them, counted from 0
 abbrev pub speaking : List (List ℕ) → Script → Script
 speaking texts script = record script { texts = texts }
 
--- the same, with fewer births allowed
+-- a script with fewer births allowed
 abbrev pub limited : ℕ → Script → Script
 limited births script = record script { births = births }
 
--- the same, with built-in procedures
+-- a script with these built-in procedures
 abbrev pub with_natives : List Native → Script → Script
 with_natives natives script = record script { natives = natives }
 
@@ -72,7 +72,7 @@ abbrev pub posts_from : ℕ → List Line → List Post
 posts_from n [] = []
 posts_from n (l ∷ ls) = record { client = l.client; seq = l.seq; text = n } ∷ posts_from (n + 1) ls
 
--- the same, with the event of each client, and the lines that they post
+-- a script with the event of each client, and the lines that they post
 abbrev pub posted : List ℕ → List Line → Script → Script
 posted clients lines script = record script {
   clients = clients;
@@ -108,6 +108,6 @@ took turn event line = record { turn = turn; line = line; event = event }
 abbrev pub longest_x : List ℕ
 longest_x = replicate 240 120
 
--- the same of another
+-- the longest text of another letter
 abbrev pub longest_y : List ℕ
 longest_y = replicate 240 121

@@ -11,14 +11,14 @@ pub fn two_clients()
     ensures nobody { IsToldIn 5 answers_apart [] }
 {}
 
-/// Three clients that ask for the same: forty lines for each.
+/// Three clients that ask alike: forty lines for each.
 pub fn each_of_three()
     ensures the_first { IsToldIn 0 line_server (as_lines answers_of_one) }
     ensures the_second { IsToldIn 1 line_server (as_lines answers_of_one) }
     ensures the_third { IsToldIn 2 line_server (as_lines answers_of_one) }
 {}
 
-/// How a client's lines are answered, whoever else there is.
+/// How a client's lines are answered, whatever other clients there are.
 pub fn lines_alone()
     ensures one { AreAnswered texts_of_one answers_of_one }
     ensures a { AreAnswered texts_of_a answers_of_a }

@@ -2,7 +2,7 @@
 ghost use Rattle.worked_rows.specs.Deaths.{destroyed_while_waiting, its_own_letter, its_received_letter, its_wait, its_entry_request, its_join, a_woken_waiter, death_with_received_letter, exits_of_all_frames, locks_last_acquired_first, agents_in_birth_order, senders_in_send_order, named_receivers_in_birth_order, joiners_in_birth_order, all_at_once, the_same_in_another_order};
 ghost use Rattle.worked_rows.specs.Words.{IsWorked};
 
-/// First the dying thread is out of whatever it waited in.
+/// First the dying thread is out of all that it waited in.
 pub fn withdrawn()
     ensures destroyed_while_waiting { IsWorked destroyed_while_waiting }
     ensures its_own_letter { IsWorked its_own_letter }
@@ -13,7 +13,7 @@ pub fn withdrawn()
     ensures a_woken_waiter { IsWorked a_woken_waiter }
 {}
 
-/// Then it gives up what it had, and whoever waited for that goes on.
+/// Then it gives up what it had, and those that waited for that go on.
 pub fn given_up()
     ensures death_with_received_letter { IsWorked death_with_received_letter }
     ensures exits_of_all_frames { IsWorked exits_of_all_frames }

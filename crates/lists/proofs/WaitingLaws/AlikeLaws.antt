@@ -40,7 +40,7 @@ alike_remove (e ∷ es) (suc i) alike = all_remove es i alike
     all_remove (x ∷ xs) zero all = all.1
     all_remove (x ∷ xs) (suc j) all = (all.0, all_remove xs j all.1)
 
--- whoever waits alone
+-- one that waits alone
 pub alike_one : (es : List Entry) → length es ≤ 1 → AreAlike es
 alike_one [] one = tt
 alike_one (e ∷ []) one = tt
@@ -73,7 +73,7 @@ module _ (es : List Entry) where
   few_keys [] arrived sorted = (omega arith, omega (arith, ap length sorted.1))
   few_keys (k ∷ ks) arrived sorted = (omega (arith, sorted.0.len), omega (arith, sorted.1.len))
 
--- ---- whoever came first
+-- ---- the first that came
 
 module _ (n : ℕ) where
   stays_best : (e : Entry) (xs : List Entry) → AllByRecursion (λ (f : Entry). (f.what ≡ e.what) × (f.prio ≡ e.prio)) xs → fold (better_by (λ (w : Waiting). w.prio)) (Some (waiting_of e)) (filter (is_for n) (map waiting_of xs)) ≡ Some (waiting_of e)

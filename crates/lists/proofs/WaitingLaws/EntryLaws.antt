@@ -51,7 +51,7 @@ any_default [] i d d' within = absurd (omega arith)
 any_default (e ∷ es) zero d d' within = refl
 any_default (e ∷ es) (suc i) d d' within = any_default es i d d' (omega arith)
 
--- whoever has that priority keeps it
+-- one that has that priority keeps it
 pub prioritized_itself : (es : List Entry) (i p : ℕ) (e : Entry) → i < length es → e ≡ get_or es i e → e.prio ≡ p → es ≡ set es i (record e { prio = p; filed = (get_or es i e).filed })
 prioritized_itself es i p e within here same =
     sym (ap (λ q. set es i (record e { prio = q; filed = (get_or es i e).filed })) (sym same)
@@ -63,7 +63,7 @@ prioritized_itself es i p e within here same =
     set_itself (y ∷ ys) zero x within is = ap (λ z. z ∷ ys) is
     set_itself (y ∷ ys) (suc j) x within is = ap (λ zs. y ∷ zs) (set_itself ys j x (omega (arith, within)) is)
 
--- whoever stood there, read in two ways
+-- the entry that was there, read in two ways
 pub prioritized_set : (es : List Entry) (i p q : ℕ) (b e : Entry) → i < length es → b ≡ get_or es i b → e ≡ get_or es i e
     → set es i (record b { prio = p; filed = q }) ≡ set es i (record e { prio = p; filed = (get_or (set es i (record b { prio = p; filed = q })) i e).filed })
 prioritized_set es i p q b e within was here =
@@ -129,7 +129,7 @@ abbrev count_of : ℕ → ℕ → List Waiting → ℕ
 count_of n p ws = count_by (is_at n p) ws
 
 module _ (n p : ℕ) where
-  -- whoever is of the greatest priority stays the best
+  -- one of the greatest priority stays the best
   stays : (ws : List Waiting) (x : Waiting) → x.prio ≡ p → ((q : ℕ) → p < q → count_of n q ws ≡ 0) → fold (better_by (λ (w : Waiting). w.prio)) (Some x) (filter (is_for n) ws) ≡ Some x
   stays [] x same above = refl
   stays (w ∷ ws) x same above = by_test (stays ws x same (λ q lt. omega (arith, above q lt, count-cons (is_at n q) w ws))) (is_for n w) refl

@@ -1,4 +1,4 @@
--- Each call keeps what a `WaitingList` keeps of its fields; and what the entries say of those that wait.
+-- Each call keeps the invariant of a `WaitingList`'s fields; and what the entries say of those that wait.
 use Rattle.lwp_types.proofs.Ranks.{map-filter}
 use Rattle.lwp_types.specs.Choice.{best_by}
 use Rattle.lwp_types.specs.CountLaws.{count-cons, count-push, count_and-le, count_any, count_none, find_none, one, one-le}

@@ -31,7 +31,7 @@ mixed a b c p q r first second rest = elim (cases_eq b a) [
   ]
 ]
 
--- the same where greater numbers come first
+-- such an order where greater numbers come first
 mixed_back : (a b c : ℕ) (p q r : Bool) → by_numbers a b p ≡ false → by_numbers c b q ≡ true → (p ≡ false → q ≡ true → r ≡ true) → by_numbers c a r ≡ true
 mixed_back a b c p q r first second rest = elim (cases_eq a b) [
   | inl ab ↦ elim (cases_eq c b) [
@@ -125,7 +125,7 @@ other_default [] i d d' within = absurd (omega (arith, within))
 other_default (k ∷ ks) zero d d' within = refl
 other_default (k ∷ ks) (suc i) d d' within = other_default ks i d d' (omega (arith, within))
 
--- behind the last of the keys, where that one stands before k
+-- after the last of the keys, where that one stands before k
 pub place_last : (k : Key) (ks : List Key) (i : ℕ) (l : Key) → IsSorted ks → i + 1 ≡ length ks → l ≡ get_or ks i l → is_before l k ≡ true → IsPlace k ks (length ks)
 place_last k ks i l sorted end here less = record {
   within = omega arith;
@@ -158,7 +158,7 @@ All-insert P ks zero k within all here = (here, all)
 All-insert P [] (suc at) k within all here = absurd (omega arith)
 All-insert P (l ∷ ks) (suc at) k within all here = (all.0, All-insert P ks at k (omega arith) all.1 here)
 
--- a key may stand where it stands before none of those before it, and none of those behind stands before it
+-- a key may stand where it stands before none of those before it, and none of those after it stands before it
 IsSorted-between : (ks : List Key) (at : ℕ) (k : Key) → IsSorted ks → at ≤ length ks
     → ((j : ℕ) (d : Key) → j < at → is_before k (get_or ks j d) ≡ false)
     → ((j : ℕ) (d : Key) → at ≤ j → j < length ks → is_before (get_or ks j d) k ≡ false)
@@ -252,19 +252,19 @@ ahead_of_passed k ks at i x next within here goes d lt =
     ap (λ l. is_before l k) (ap (λ n. get_or (set ks at x) n d) next ∙ get_or-set_same ks at x d within)
     ∙ before_one_way k x (ap (is_before k) here ∙ goes.before i x next)
 
--- it may stand behind the one that it went past
+-- it may stand after the one that it went past
 pub behind_passed : (k : Key) (ks : List Key) (at i : ℕ) (x : Key) → i ≡ suc at → x ≡ get_or ks i x → GoesBack k ks at → IsBehind k (set ks at x) i
 behind_passed k ks at i x next here goes j d before =
     let same : j ≡ at = omega (arith, next, before) in
     ap (is_before k) (ap (λ n. get_or (set ks at x) n d) same ∙ get_or-set_same ks at x d (omega (arith, goes.some)))
     ∙ before_one_way x k (ap (λ l. is_before l k) (here ∙ ap (λ n. get_or ks n x) next) ∙ goes.before x)
 
--- what belongs behind the key behind a place may stand behind the one before it
+-- what belongs after the key after a place may stand after the one before it
 pub behind_both : (ks : List Key) (at : ℕ) (k : Key) → IsSorted ks → GoesBack k ks at → IsBehind k ks at
 behind_both ks at k sorted goes j d next =
     before_one_way (get_or ks j d) k (before_mixed (get_or ks j d) (get_or ks (suc at) d) k (ordered ks j (suc at) d sorted (omega (arith, next)) goes.some) (goes.before d))
 
--- what stands before the key at a place belongs no further back
+-- a key that stands before the one at a place belongs no further back
 pub ahead_before : (ks : List Key) (at : ℕ) (k l : Key) → IsSorted ks → StandsAt l ks at → is_before k l ≡ true → IsAhead k ks at
 ahead_before ks at k l sorted stands less d lt =
     let here : get_or ks at d ≡ l = other_default ks at d l stands.within ∙ stands.here in

@@ -105,7 +105,7 @@ module _ (n : ℕ) where
       by_test rest true = (All-filter (λ l. is_before l k ≡ false) (is_of n) ks sorted.0, rest)
       by_test rest false = rest
 
-  -- whoever came later and waits for the same has a later key
+  -- one that came later and waits for the same has a later key
   all_later : (e : Entry) (xs : List Entry) → e.what ≡ n → AllByRecursion (λ m. e.arrival < m) (arrivals xs) → AllByRecursion (λ l. is_before l (arrival_key e) ≡ false) (filter (is_of n) (map arrival_key xs))
   all_later e [] same all = tt
   all_later e (x ∷ xs) same all = by_test (all_later e xs same all.1) (eqb x.what n) refl

@@ -1,4 +1,5 @@
--- What a search comes to in a list whose numbers rise: for the crates above, which keep such lists beside those that wait.
+-- What a search comes to in a list whose numbers rise: for the crates above, which keep such lists together with those
+-- that wait.
 use Rattle.lwp_types.specs.CountLaws.{count-cons, one}
 use Rattle.std.proofs.Common.{Bool, List, [], ap, arith, count_by, eqb, false, get_or, inl, inr, length, ltb, refl, suc, true, ℕ, ◌<◌, ◌∷◌, ◌≡◌, ◌≤◌}
 use Rattle.std.proofs.lemmas.Bool.{cases_lt, ltb-false, ltb-true, ne_eqb}

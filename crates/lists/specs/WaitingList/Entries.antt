@@ -9,11 +9,11 @@ use Rattle.lists.specs.declared.waiting_list.keys.Key.{Key}
 use Rattle.lists.specs.declared.waiting_list.rows.Entry.{Entry}
 use Rattle.lists.specs.declared.waiting_list.rows.Waiting.{Waiting}
 
--- whoever came n-th
+-- the entry of one that came n-th
 abbrev pub entry_of : ℕ → Waiting → Entry
 entry_of n w = record { arrival = n; what = w.what; tid = w.tid; prio = w.prio; depth = w.depth; filed = 0 }
 
--- whoever it is, whenever it came
+-- the entry without its arrival
 abbrev pub waiting_of : Entry → Waiting
 waiting_of e = record { what = e.what; tid = e.tid; prio = e.prio; depth = e.depth }
 
@@ -64,24 +64,24 @@ tid_or (Some e) = e.tid
 abbrev pub tid_in : List Entry → ℕ → ℕ
 tid_in es n = tid_or (find (has_arrival n) es)
 
--- whoever stands there came n-th
+-- the entry there came n-th
 pub record IsAt (n : ℕ) (es : List Entry) (i : ℕ) : Type 0 where
   pub within : i < length es
   pub here : (d : Entry) → (slice_index_or es i d).arrival ≡ n
 
--- whoever stands there is thread t
+-- the entry there is of thread t
 pub record IsThreadAt (t : ℕ) (es : List Entry) (i : ℕ) : Type 0 where
   pub within : i < length es
   pub here : (d : Entry) → (slice_index_or es i d).tid ≡ t
 
--- whoever stands there is the first of the greatest priority of those that wait for n
+-- the entry there is the first of the greatest priority of those that wait for n
 pub record IsBestAt (n : ℕ) (es : List Entry) (i : ℕ) : Type 0 where
   pub within : i < length es
   pub best : (d : Entry)
       → best_by (λ (w : Waiting). w.prio) (filter (is_for n) (map waiting_of es))
       ≡ Some (waiting_of (slice_index_or es i d))
 
--- whoever stands there came first of those that wait for n
+-- the entry there came first of those that wait for n
 pub record IsFirstAt (n : ℕ) (es : List Entry) (i : ℕ) : Type 0 where
   pub within : i < length es
   pub first : (d : Entry) → find (is_for n) (map waiting_of es) ≡ Some (waiting_of (slice_index_or es i d))
@@ -97,7 +97,7 @@ abbrev pub AreAlike : List Entry → Type 0
 AreAlike [] = Unit {0}
 AreAlike (e ∷ es) = AllByRecursion (λ f. (f.what ≡ e.what) × (f.prio ≡ e.prio)) es
 
--- e waits for the same with the same priority as whoever came first
+-- e waits for the same with the same priority as the first entry
 abbrev pub IsLike : Entry → List Entry → Type 0
 IsLike e es = (d : Entry) → 0 < length es
     → (e.what ≡ (slice_index_or es 0 d).what) × (e.prio ≡ (slice_index_or es 0 d).prio)
@@ -113,12 +113,12 @@ pub record IsIndexed (es : List Entry) (ranks arrived : List Key) : Type 0 where
   pub rising : AreRising (arrivals es)
   pub sorted : IsSortedOut es ranks arrived
 
--- whoever stands there is the best of those that wait for n, and came first of them
+-- the entry there is the best of those that wait for n, and came first of them
 pub record IsFrontAt (n : ℕ) (es : List Entry) (i : ℕ) : Type 0 where
   pub best : IsBestAt n es i
   pub first : IsFirstAt n es i
 
--- whoever stands there has this priority, and another guess where its rank stands
+-- the entry there has this priority, and another guess where its rank stands
 abbrev pub IsPrioritized : ℕ → ℕ → List Entry → List Entry → Type 0
 IsPrioritized i p es es' = (e : Entry) → e ≡ slice_index_or es i e
     → es' ≡ slice_set es i (record e { prio = p; filed = (slice_index_or es' i e).filed })

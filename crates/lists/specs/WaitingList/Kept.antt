@@ -1,4 +1,4 @@
--- What a `WaitingList` keeps of its fields. No public clause cites this module.
+-- The invariant of a `WaitingList`'s fields. No public clause cites this module.
 use Rattle.std.specs.Prelude.{List, length, ℕ, ◌≤◌}
 use Rattle.lists.specs.ThreadIndex.{Found, width_of}
 use Rattle.lists.specs.WaitingList.Entries.{IsIndexed, IsKnown, IsOnce}

@@ -51,7 +51,7 @@ pub record IsEnd (n : ℕ) (ks : List Key) (i : ℕ) : Type 0 where
 abbrev pub IsBehind : Key → List Key → ℕ → Type 0
 IsBehind k ks i = (j : ℕ) (d : Key) → suc j ≡ i → is_before k (slice_index_or ks j d) ≡ false
 
--- the key behind this place, if there is one, doesn't stand before k
+-- the key after this place, if there is one, doesn't stand before k
 abbrev pub IsAhead : Key → List Key → ℕ → Type 0
 IsAhead k ks i = (d : Key) → suc i < length ks → is_before (slice_index_or ks (suc i) d) k ≡ false
 
@@ -60,7 +60,7 @@ pub record GoesForward (k : Key) (ks : List Key) (i : ℕ) : Type 0 where
   pub some : 0 < i
   pub before : (j : ℕ) (d : Key) → suc j ≡ i → is_before k (slice_index_or ks j d) ≡ true
 
--- the key behind this place stands before k
+-- the key after this place stands before k
 pub record GoesBack (k : Key) (ks : List Key) (i : ℕ) : Type 0 where
   pub some : suc i < length ks
   pub before : (d : Key) → is_before (slice_index_or ks (suc i) d) k ≡ true

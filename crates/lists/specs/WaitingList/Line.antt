@@ -6,7 +6,7 @@ use Rattle.lists.specs.declared.waiting_list.rows.Waiting.{Waiting}
 
 -- all that there is of a line
 pub record Line : Type 0 where
-  -- who waits, first come first
+  -- who waits, in FIFO order
   pub waiting : List Waiting
   -- how many may wait without asking for memory
   pub places : ℕ
@@ -19,7 +19,7 @@ is_thread t w = w.tid == t
 abbrev pub is_for : ℕ → Waiting → Bool
 is_for n w = w.what == n
 
--- those that wait for this, first come first
+-- those that wait for this, in FIFO order
 abbrev pub waiting_for : Line → ℕ → List Waiting
 waiting_for s n = filter (is_for n) s.waiting
 
@@ -53,7 +53,7 @@ empty_line = record { waiting = []; places = 0 }
 abbrev pub after_reserve : Line → ℕ → Line
 after_reserve s n = record s { places = max s.places n }
 
--- one more, behind all others
+-- one more, after all others
 abbrev pub after_join : Line → Waiting → Line
 after_join s w = record s { waiting = s.waiting ++ w ∷ [] }
 

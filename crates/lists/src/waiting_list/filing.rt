@@ -88,7 +88,7 @@ pub fn widen(entries: &VecDeque<Entry>, index: &mut Index, n: usize) -> Result<(
     Ok(())
 }
 
-// Whether it waits for the same with the same priority as whoever came first.
+// Whether it waits for the same with the same priority as the first that came.
 #[inline(always)]
 fn is_like(entries: &VecDeque<Entry>, entry: &Entry) -> bool
     ensures { IsTrue result → IsLike entry.now entries.now.items }
@@ -139,7 +139,7 @@ pub fn file_next(
     keys::add(arrived, arrival_key(entry));
 }
 
-// Whoever stands there is to wait no more.
+// The entry there is to go.
 #[inline(always)]
 fn unfile(
     entries: &VecDeque<Entry>,
@@ -161,7 +161,7 @@ fn unfile(
     keys::take(arrived, arrival_key(&gone));
 }
 
-// Whoever stands there waits no more. It is this thread.
+// The entry there goes. It is this thread's.
 #[inline(never)]
 pub fn dismiss(
     entries: &mut VecDeque<Entry>,
@@ -189,7 +189,7 @@ pub fn dismiss(
     take_out(entries, at);
 }
 
-// Whoever stands there is to have this priority. The answer is where its rank stands then, as far as that is known.
+// The entry there is to have this priority. The answer is where its rank stands then, as far as that is known.
 #[inline(always)]
 fn refile(
     entries: &VecDeque<Entry>,
@@ -218,7 +218,7 @@ fn refile(
     keys::change(ranks, after.filed, rank_of(&entries[at]), rank_of(after))
 }
 
-// Whoever stands there has this priority from now on.
+// The entry there has this priority from now on.
 #[inline(never)]
 pub fn prioritize(
     entries: &mut VecDeque<Entry>,
@@ -246,7 +246,7 @@ pub fn prioritize(
     entries[at] = Entry { filed, ..after };
 }
 
-// A number for whoever comes next, greater than all that were given.
+// A number for the next arrival, greater than all that were given.
 pub fn next_arrival(
     entries: &mut VecDeque<Entry>,
     ranks: &mut VecDeque<Key>,

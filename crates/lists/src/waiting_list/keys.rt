@@ -19,7 +19,7 @@ pub struct Key {
 // How many others make room one by one for a key that goes elsewhere.
 pub const STEPS: usize = 16;
 
-// Keys of the same thing stand together, those of a greater priority first, and among these whoever came first.
+// Keys of the same thing stand together, those of a greater priority first, and among these those that came earlier.
 #[inline(always)]
 pub fn is_before(key: Key, other: Key) -> bool
     ensures { result ≡ is_before key other }
@@ -61,7 +61,7 @@ fn place_by_halves(keys: &VecDeque<Key>, key: Key) -> usize
     }
 }
 
-// Whether the key belongs behind all others.
+// Whether the key belongs after all others.
 #[inline(always)]
 fn goes_last(keys: &VecDeque<Key>, key: Key) -> bool
     requires { IsSorted keys.now.items }
@@ -182,7 +182,7 @@ pub fn take(keys: &mut VecDeque<Key>, key: Key)
     }
 }
 
-// Whether the key may stand behind the one before that place, if there is one.
+// Whether the key may stand after the one before that place, if there is one.
 #[inline(always)]
 fn is_behind(keys: &VecDeque<Key>, at: usize, key: Key) -> bool
     requires { at < length keys.now.items }
@@ -192,7 +192,7 @@ fn is_behind(keys: &VecDeque<Key>, at: usize, key: Key) -> bool
     at == 0 || !is_before(key, keys[at - 1])
 }
 
-// Whether the key may stand before the one behind that place, if there is one.
+// Whether the key may stand before the one after that place, if there is one.
 #[inline(always)]
 fn is_ahead(keys: &VecDeque<Key>, at: usize, key: Key) -> bool
     requires { at < length keys.now.items }
@@ -219,7 +219,8 @@ fn replace(keys: &mut VecDeque<Key>, at: usize, key: Key)
     add(keys, key);
 }
 
-// The same where the other belongs no further back: those that it belongs before make room one by one, where they are few.
+// The key there gives way to another that belongs no further back: those that it belongs before make room one by one,
+// where they are few.
 #[inline(always)]
 fn go_forward(keys: &mut VecDeque<Key>, from: usize, key: Key) -> usize
     requires within { from < length keys.old.items }
@@ -246,7 +247,7 @@ fn go_forward(keys: &mut VecDeque<Key>, from: usize, key: Key) -> usize
     at
 }
 
-// The same where the other belongs no further forward.
+// The key there gives way to another that belongs no further forward.
 #[inline(always)]
 fn go_back(keys: &mut VecDeque<Key>, from: usize, key: Key) -> usize
     requires within { from < length keys.old.items }
@@ -310,7 +311,7 @@ fn change_in_piece(keys: &mut VecDeque<Key>, at: usize, after: Key) -> usize
     }
 }
 
-// The same for the key that stands there, wherever they lie.
+// The key that stands there becomes another, which goes where it belongs, in however many pieces the keys lie.
 #[inline(always)]
 fn change_in_ring(keys: &mut VecDeque<Key>, at: usize, key: Key, after: Key) -> usize
     requires at { StandsAt key keys.old.items at }

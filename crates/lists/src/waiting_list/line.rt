@@ -19,9 +19,10 @@ use std::marker::Model;
 pub struct WaitingList {
     // In the order of their arrival.
     entries: VecDeque<Entry>,
-    // The key of each by what it waits for, its priority and its arrival, and by what it waits for and its arrival alone, in
-    // order. So nobody is looked at who waits for something else, or behind the first of the greatest priority. As long as
-    // all wait for the same with the same priority, there are no keys: whoever came first is the best.
+    // The key of each by what it waits for, its priority and its arrival, and by what it waits for and its arrival
+    // alone, in order. So no entry is looked at that waits for something else, or comes after the first of the greatest
+    // priority. As long as all wait for the same with the same priority, there are no keys: the first that came is the
+    // best.
     ranks: VecDeque<Key>,
     arrived: VecDeque<Key>,
     // The arrival of each thread that waits.
@@ -30,7 +31,7 @@ pub struct WaitingList {
     places: usize,
 }
 
-// By hand, so that whoever drops one calls this.
+// PROVER: written by hand, so that a function that drops one calls this instead of repeating its proof.
 impl Drop for WaitingList {
     fn drop(self) {
         let WaitingList {
@@ -89,7 +90,7 @@ impl WaitingList {
         Ok(())
     }
 
-    /// A thread waits, behind all others.
+    /// A thread waits, after all others.
     pub fn join(&mut self, next: Waiting)
         requires waits_nowhere { has_thread self.old next.tid ≡ false }
         requires room { length self.old.waiting < self.old.places }

@@ -1,10 +1,11 @@
-// Keys that lie in one piece: how one goes past its neighbours, where they are few.
+// Keys that lie in one piece: how one goes past its neighbours, where they are few. A step over the ring costs twice as much,
+// and to bring the ring into one piece first would move all keys.
 ghost use Rattle.std.specs.Prelude.{◌≡◌, ◌<◌, IfOk, false, length, true};
 ghost use Rattle.lists.specs.WaitingList.Keys.{GoesBack, GoesForward, IsAhead, IsBehind, IsFit, IsSorted, Walked, place_in};
 
 use crate::waiting_list::keys::{Key, STEPS, is_before};
 
-// Whether the key may stand behind the one before that place, if there is one.
+// Whether the key may stand after the one before that place, if there is one.
 #[inline(always)]
 fn is_behind(keys: &[Key], at: usize, key: Key) -> bool
     requires { at < length keys.now }
@@ -14,7 +15,7 @@ fn is_behind(keys: &[Key], at: usize, key: Key) -> bool
     at == 0 || !is_before(key, keys[at - 1])
 }
 
-// Whether the key may stand before the one behind that place, if there is one.
+// Whether the key may stand before the one after that place, if there is one.
 #[inline(always)]
 fn is_ahead(keys: &[Key], at: usize, key: Key) -> bool
     requires { at < length keys.now }
@@ -43,7 +44,7 @@ fn go_forward(keys: &mut [Key], from: usize, key: Key) -> Result<usize, usize>
     Err(at)
 }
 
-// The same where the key belongs no further forward.
+// A place for a key that belongs no further forward than that place, found in the same way.
 fn go_back(keys: &mut [Key], from: usize, key: Key) -> Result<usize, usize>
     requires within { from < length keys.old }
     requires behind { IsBehind key keys.old from }
@@ -61,7 +62,7 @@ fn go_back(keys: &mut [Key], from: usize, key: Key) -> Result<usize, usize>
     Err(at)
 }
 
-// The same wherever the key belongs, in place of the one there.
+// A place for a key, wherever it belongs, in place of the one there.
 pub fn walk(keys: &mut [Key], from: usize, key: Key) -> Result<usize, usize>
     requires within { from < length keys.old }
     requires sorted { IsSorted keys.old }

@@ -19,8 +19,8 @@ pub struct Waiting {
     pub depth: u32,
 }
 
-/// The same, and when it came: a greater number than those before it have. Where its rank stood when its priority was last
-/// changed is only a guess, since others may have moved it meanwhile.
+/// One that waits, with its arrival: a greater number than those before it have. Where its rank stood when its priority
+/// was last changed is only a guess, since others may have moved it meanwhile.
 #[derive(Clone, Copy)]
 pub struct Entry {
     pub arrival: u64,
@@ -31,7 +31,7 @@ pub struct Entry {
     pub filed: usize,
 }
 
-// Whoever came then.
+// The entry of one that came then.
 pub fn entry_of(arrival: u64, next: &Waiting) -> Entry
     ensures { result ≡ entry_of arrival next.now }
 {
@@ -45,7 +45,7 @@ pub fn entry_of(arrival: u64, next: &Waiting) -> Entry
     }
 }
 
-// Whoever it is, whenever it came.
+// The entry without its arrival.
 pub fn waiting_of(entry: &Entry) -> Waiting
     ensures { result ≡ waiting_of entry.now }
 {
@@ -79,7 +79,7 @@ pub fn arrival_key(entry: &Entry) -> Key
     }
 }
 
-// Where whoever came then stands, by halving.
+// Where the entry of this arrival stands, by halving.
 #[inline(never)]
 fn place_by_halves(entries: &VecDeque<Entry>, arrival: u64) -> Option<usize>
     requires { AreRising (arrivals entries.now.items) }
@@ -93,7 +93,7 @@ fn place_by_halves(entries: &VecDeque<Entry>, arrival: u64) -> Option<usize>
     }
 }
 
-// How far behind the first whoever came then stands, if nobody between them has left.
+// How far after the first the entry of this arrival stands, if nobody between them has left.
 #[inline(always)]
 fn likely_place(entries: &VecDeque<Entry>, arrival: u64) -> usize {
     match entries.front() {
@@ -102,7 +102,7 @@ fn likely_place(entries: &VecDeque<Entry>, arrival: u64) -> usize {
     }
 }
 
-// Where whoever came then stands: at a look where nobody before it has left, or all have.
+// Where the entry of this arrival stands: at a look where nobody before it has left, or all have.
 #[inline(always)]
 fn place_of(entries: &VecDeque<Entry>, arrival: u64) -> Option<usize>
     requires { AreRising (arrivals entries.now.items) }
@@ -165,7 +165,7 @@ fn first_filed(entries: &VecDeque<Entry>, arrived: &VecDeque<Key>, what: u64) ->
     place_of(entries, key.arrival)
 }
 
-// Where all are alike, whoever came first of all, if they wait for this.
+// Where all are alike, the first that came, if they wait for this.
 #[inline(always)]
 fn front_for(entries: &VecDeque<Entry>, what: u64) -> Option<usize>
     requires { AreAlike entries.now.items }
@@ -216,7 +216,7 @@ pub fn first_place(
     }
 }
 
-// All but whoever stands there.
+// All but the entry there.
 #[inline(always)]
 pub fn take_out(entries: &mut VecDeque<Entry>, at: usize)
     requires { at < length entries.old.items }

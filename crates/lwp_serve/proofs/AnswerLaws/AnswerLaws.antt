@@ -190,7 +190,7 @@ module _ (client : ℕ) (script : Script) (o : Played Script) (stock : Shelves) 
     prefix-now = prefix-by now some w v (first-of now some so.going) (prefix-all w v (known_after_steps (event_of script client) (steps_of now)).replies so.written)
 
     module _ (new : Played Script) (left : Shelves) where
-      -- memory was wanting
+      -- the run was out of memory
       pub stopped-by : Came script o.turns new left → (u : Option (List ℕ)) → u ≡ v → IsStopped client o.turns script w u new.takes new.calls
       stopped-by h u quiet = record {
         planned = part-all script o.turns new left None None h posted refl;

@@ -25,7 +25,7 @@ module _ (event : Option ℕ) where
   known-push : (steps : List Made) (step : Made) → known_after_steps event (steps ++ step ∷ []) ≡ known_after_step event (known_after_steps event steps) step
   known-push steps step = fold-append (known_after_step event) nothing_known steps (step ∷ [])
 
-  -- what was told stays, with more behind it
+  -- what was told stays, with more after it
   known-grow : (known : Known) (steps : List Made) → (more : List ℕ) × ((fold (known_after_step event) known steps).replies ≡ known.replies ++ more)
   known-grow known [] = ([], sym (append-nil known.replies))
   known-grow known (step ∷ steps) =

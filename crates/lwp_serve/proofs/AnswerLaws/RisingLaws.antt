@@ -20,7 +20,7 @@ at P [] i within all = absurd (omega arith)
 at P (n ∷ ns) zero within all = all.0
 at P (n ∷ ns) (suc i) within all = at P ns i (omega arith) all.1
 
--- of two numbers the one behind is greater
+-- of two numbers the later one is greater
 rises : (ns : List ℕ) (i j : ℕ) → AreRising ns → i < j → j < length ns → get_or ns i 0 < get_or ns j 0
 rises [] i j rising lt within = absurd (omega arith)
 rises (n ∷ ns) zero zero rising lt within = absurd (omega arith)

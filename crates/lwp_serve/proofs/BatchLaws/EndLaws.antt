@@ -32,7 +32,7 @@ says-none turns source sink end.Reported quiet h = absurd h
 says-none turns source sink end.Same quiet h = absurd h
 says-none turns source sink (end.Differs line) quiet h = absurd h
 
--- memory was wanting behind what was read
+-- out of memory after the input was read
 pub says-late : (turns : ℕ) (source sink : Stream) → IsQuiet sink → IsFaultless source → IsReadUp 33554433 source.old source.new → BatchSays turns source sink end.NoMemory
 says-late turns source sink quiet same up = (same, within-of source.old source.new up, quiet)
 

@@ -14,7 +14,7 @@ pub both : (a b : Bool) → (a && b) ≡ true → (a ≡ true) × (b ≡ true)
 both true b h = (refl, h)
 both false b h = absurd cc
 
--- the lists of the numbers below n, one behind the other
+-- the lists of the numbers below n, one after the other
 abbrev pub gathered : (ℕ → List Phrase) → ℕ → List Phrase
 gathered g zero = []
 gathered g (suc n) = gathered g n ++ g n

@@ -95,11 +95,11 @@ are_lines t h =
 
 -- ---- The text spells them.
 
--- the end of a line whose last slot is m, behind a
+-- the end of a line whose last slot is m, after a
 pub line_end : (a m : List ℕ) → a ++ (m ++ 10 ∷ []) ≡ ((a ++ (m ++ [])) ++ 10 ∷ []) ++ []
 line_end a m = sym (append-nil _ ∙ append_assoc a (m ++ []) (10 ∷ []) ∙ ap (λ (l : List ℕ). a ++ l) (append_assoc m [] (10 ∷ [])))
 
--- the same where the line's last bytes are known
+-- the end of such a line where its last bytes are known
 line_end_known : (a m : List ℕ) → a ++ (m ++ 10 ∷ []) ≡ ((a ++ m) ++ 10 ∷ []) ++ []
 line_end_known a m = sym (append-nil _ ∙ append_assoc a m (10 ∷ []))
 

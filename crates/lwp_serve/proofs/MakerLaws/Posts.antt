@@ -151,7 +151,7 @@ pub record IsReady (threads c n : ℕ) (known : Declared) (s : Place) : Type 0 w
   pub most : (d : ℕ) → d < threads → slice_index_or s.posted d 20000 ≤ suc n
   pub knows : s.known ≡ known
 
--- what holds behind posts that may stand
+-- what holds after posts that may stand
 pub record Posted (threads c n : ℕ) (known : Declared) (s : Place) (ps : List Phrase) : Type 0 where
   pub stand : stands s ps ≡ true
   pub ready : IsReady threads c n known (fold moved s ps)
@@ -192,7 +192,7 @@ one_round threads (suc k) n known s text le few r =
     posts_append threads k (suc k) n n known s (gathered (λ c. post c (text c) ∷ []) k) (post k (text k) ∷ []) before
     (one_post threads k n known (fold moved s (gathered (λ c. post c (text c) ∷ []) k)) (text k) (omega arith) few before.ready)
 
--- behind a whole round the next one begins
+-- after a whole round the next one begins
 next_round : (threads n : ℕ) (known : Declared) (s : Place) → IsReady threads threads n known s → IsReady threads 0 (suc n) known s
 next_round threads n known s r = record {
   posts_follow = r.posts_follow;

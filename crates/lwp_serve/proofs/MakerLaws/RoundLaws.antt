@@ -4,7 +4,7 @@ use native.Mathlib.Nat.{suc-mul}
 use Rattle.lwp_serve.specs.Maker.Draws.{next}
 use Rattle.lwp_serve.specs.Maker.Made.{post_line, past, round, rounds}
 
--- the state behind one more post
+-- the state after one more post
 pub past_one : (x n s t : ℕ) → s ≡ past x n → t ≡ past s 1 → t ≡ past x (n + 1)
 past_one x n s t e f = f ∙ ap (λ y. next (next y)) e ∙ ap (past x) (sym (add-one n))
 
@@ -12,7 +12,7 @@ past_past : (x m n : ℕ) → past (past x m) n ≡ past x (m + n)
 past_past x m zero = ap (past x) (let e : m ≡ m + 0 = omega arith in e)
 past_past x m (suc n) = ap (λ y. next (next y)) (past_past x m n) ∙ ap (past x) (let e : suc (m + n) ≡ m + suc n = omega arith in e)
 
--- the state behind one more round
+-- the state after one more round
 pub past_round : (seed threads n s t : ℕ) → s ≡ past seed (n * threads) → t ≡ past s threads → t ≡ past seed ((n + 1) * threads)
 past_round seed threads n s t e f =
     f ∙ ap (λ y. past y threads) e ∙ past_past seed (n * threads) threads ∙ ap (past seed) (sym (ap (λ m. m * threads) (add-one n) ∙ suc-mul n threads))

@@ -1,4 +1,4 @@
--- Where the lines of a script stand, told by what stands before them.
+-- Where the lines of a script may stand, told by the lines before them.
 use Rattle.std.proofs.Common.{◌≡◌, ℕ, Bool, true, ◌&&◌, List, [], ◌∷◌, ◌++◌, fold, Option, Some, None, refl, sym, ap, subst, ◌∙◌}
 use Rattle.std.specs.Prelude.{is_some}
 use Rattle.std.proofs.lemmas.List.Sums.{fold-append}
@@ -93,7 +93,7 @@ known_behind : (s : Place) (ps : List Phrase) → (fold moved s ps).known ≡ fo
 known_behind s [] = refl
 known_behind s (p ∷ ps) = known_behind (moved s p) ps
 
--- the place behind lines knows what they declare
+-- the place after lines knows what they declare
 pub known_is : (ps : List Phrase) → declared_of ps ≡ (fold moved start ps).known
 known_is ps = sym (known_behind start ps)
 

@@ -10,7 +10,7 @@ left-more n zero (e ∷ es) shelves h = ap (λ k. left_of_client k shelves ∷ [
 left-more n (suc i) (e ∷ es) shelves h = ap (λ counts. left_of_client n shelves ∷ counts) (left-more (n + 1) i es shelves (omega (arith, h)))
     ∙ ap (λ k. left_of_client n shelves ∷ (left_counts_from (n + 1) (take i es) shelves ++ left_of_client k shelves ∷ [])) (omega arith)
 
--- the same, counted from 0
+-- those of one client more, counted from 0
 pub left-next : (i : ℕ) (clients : List ℕ) (shelves : Shelves) → i < length clients → left_counts_from 0 (take (i + 1) clients) shelves ≡ left_counts_from 0 (take i clients) shelves ++ left_of_client i shelves ∷ []
 left-next i clients shelves h =
     let next : i + 1 ≡ suc i = omega arith in

@@ -180,7 +180,7 @@ came-so script sink session end.NoMemory o s = elim s.1 [
 
 -- ---- what the end says
 
--- the same session with another end
+-- a session with another end
 abbrev pub ending : Session → SessionEnd → Session
 ending session e = record session { status = status_of e; end = e }
 

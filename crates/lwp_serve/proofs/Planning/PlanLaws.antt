@@ -118,7 +118,7 @@ pub part-all : (script : Script) (turns : ℕ) (r : Played Script) (stock : Shel
     → new ≡ after_append old (run.trace_of body_next bodies_of proc_names r) → IsPart turns script old new r.takes r.calls
 part-all script turns r stock old new h posted p = part-of script turns r stock old new h posted (prefix-all old new (run.trace_of body_next bodies_of proc_names r) p)
 
--- memory was wanting
+-- the run was out of memory
 pub stopped-of : (script : Script) (turns : ℕ) (r : Played Script) (stock : Shelves) (old new : Option (List ℕ)) → Came script turns r stock
     → new ≡ after_append old (run.trace_of body_next bodies_of proc_names r) → IsStopped script old new r.takes r.calls
 stopped-of script turns r stock old new h p = p ∙ ap (after_append old) (lines-is script turns r h.plays_it)

@@ -1,4 +1,4 @@
--- What a session says behind a verdict.
+-- What a session says after a verdict.
 use Rattle.batch.specs.declared.part.Part.{Part}
 use Rattle.lwp_types.specs.Streams.{after_append}
 use Rattle.pod_runner.specs.declared.session.Took.{Took}

@@ -1,4 +1,4 @@
--- What a script brings to a replay: a procedure at least, and names that stand for nothing yet.
+-- What a script brings to a replay: a procedure at least, and names that mean nothing yet.
 use Rattle.lwp_types.specs.Names.{Names, null_names}
 use Rattle.pod_runner.specs.Run.{names_like}
 use Rattle.script_body.specs.Bodies.{bodies_of, native_body, proc_bodies}

@@ -41,7 +41,7 @@ pub record IsCutOff (client turns : ℕ) (script : Script) (old new : Option (Li
   pub cut : AppendsCut old new (answers_before client script takes calls) (answers_after client script takes calls)
   pub first : AppendsPrefix old new (answers_of client script turns)
 
--- a session as far as it came, where memory was wanting: the first part of what the client is told was written
+-- a session as far as it came, out of memory: the first part of what the client is told was written
 pub record IsStopped (client turns : ℕ) (script : Script) (old new : Option (List ℕ))
     (takes : List Took) (calls : ℕ) : Type 0 where
   pub planned : IsPlannedPart turns script takes calls

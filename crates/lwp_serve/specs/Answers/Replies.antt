@@ -35,7 +35,7 @@ abbrev pub with_agent : List ℕ → Option ℕ → List ℕ
 with_agent agents None = agents
 with_agent agents (Some a) = agents ++ a ∷ []
 
--- the agents of the event behind a call; a step without a call makes none
+-- the agents of the event after a call; a step without a call makes none
 abbrev pub agents_after : Option ℕ → List ℕ → Option Made → List ℕ
 agents_after event agents None = agents
 agents_after event agents (Some made) = with_agent agents (agent_born event made)
@@ -56,7 +56,7 @@ abbrev pub texts_told : List ℕ → Option Made → List ℕ
 texts_told agents None = []
 texts_told agents (Some made) = if made.zero then reply_line agents made.call else []
 
--- ---- behind some steps
+-- ---- after some steps
 
 -- the agents of the event, as they were born, and what its client was told
 pub record Known : Type 0 where
@@ -66,7 +66,7 @@ pub record Known : Type 0 where
 abbrev pub nothing_known : Known
 nothing_known = record { agents = []; replies = [] }
 
--- the same, behind one call more
+-- what is known after one call more
 abbrev pub known_after_call : Option ℕ → Known → Option Made → Known
 known_after_call event known made = record {
   agents = agents_after event known.agents made;
@@ -79,11 +79,11 @@ abbrev pub call_in : Option Took → List Effect → Option Made
 call_in None effects = call_of_effects effects
 call_in (Some took) effects = None
 
--- the same, behind one step more
+-- what is known after one step more
 abbrev pub known_after_step : Option ℕ → Known → Sessions.Made → Known
 known_after_step event known step = known_after_call event known (call_in step.take step.effects)
 
--- what is known behind these steps
+-- what is known after these steps
 abbrev pub known_after_steps : Option ℕ → List Sessions.Made → Known
 known_after_steps event steps = fold (known_after_step event) nothing_known steps
 
@@ -105,6 +105,6 @@ answers_of client script turns = replies_in (event_of script client) (plan_of sc
 abbrev pub answers_after : ℕ → Script → List Took → ℕ → List ℕ
 answers_after client script takes n = replies_in (event_of script client) (session_at script takes n).steps
 
--- the same without the last step
+-- what it was told in all these steps but the last
 abbrev pub answers_before : ℕ → Script → List Took → ℕ → List ℕ
 answers_before client script takes n = replies_in (event_of script client) (but_last (session_at script takes n).steps)

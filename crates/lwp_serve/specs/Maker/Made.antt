@@ -5,7 +5,7 @@ use Rattle.lwp_serve.specs.Maker.Draws.{next, draw_below}
 use Rattle.lwp_serve.specs.declared.maker.script.ClientLine.{ClientLine}
 use Rattle.lwp_serve.specs.declared.maker.script.ClientLine.TheVariants as line
 
--- the texts of the numbers below n, one behind the other
+-- the texts of the numbers below n, one after the other
 abbrev pub each : (ℕ → List ℕ) → ℕ → List ℕ
 each text zero = []
 each text (suc n) = each text n ++ text n
@@ -44,7 +44,7 @@ abbrev pub post_line : ℕ → ℕ → ℕ → List ℕ
 post_line x i c = codes "post "
     ++ (decimal c ++ (codes " " ++ (command (draw_below 4 (next (next x))) (draw_below 50 (next x)) i ++ codes "\n")))
 
--- the state behind n posts: two numbers are drawn for each
+-- the state after n posts: two numbers are drawn for each
 abbrev pub past : ℕ → ℕ → ℕ
 past x zero = x
 past x (suc n) = next (next (past x n))

@@ -123,7 +123,7 @@ pub record IsCutOff (summary : List ℕ) (script : Script) (sink : Stream) (sess
   pub faulty : IsFaulty sink
   pub all : TellsAll script session
 
--- What each end says. Nothing is written where memory was wanting. That answer stands too for a trace of 2 ^ 64 bytes
+-- What each end says. Nothing is written where it is out of memory. That is also the answer to a trace of 2 ^ 64 bytes
 -- or more, which can't be counted.
 abbrev pub MakeSays : List ℕ → Script → Stream → Session → SessionEnd → Type 0
 MakeSays summary script sink session (end.Ended status) = IsSummedUp summary script sink session

@@ -55,7 +55,7 @@ pub record IsPart (turns : ℕ) (script : Script) (old new : Option (List ℕ)) 
 abbrev pub IsStopped : Script → Option (List ℕ) → Option (List ℕ) → List Took → ℕ → Type 0
 IsStopped script old new takes calls = new ≡ after_append old (lines_after script takes calls)
 
--- it broke off behind all its steps, and not all of the trace was written
+-- it broke off after all its steps, and not all of the trace was written
 pub record IsBrokenLast (turns : ℕ) (script : Script) (old new : Option (List ℕ))
     (takes : List Took) (calls : ℕ) : Type 0 where
   pub cut : AppendsCut old new (lines_after script takes calls) (trace_of script turns)
@@ -63,7 +63,7 @@ pub record IsBrokenLast (turns : ℕ) (script : Script) (old new : Option (List 
   pub taken : takes ≡ takes_of script turns
 
 -- it broke off in a write: the lines of all steps but the last were written, and not all of the last one's; or it broke
--- off behind them
+-- off after them
 abbrev pub IsBroken : ℕ → Script → Option (List ℕ) → Option (List ℕ) → List Took → ℕ → Type 0
 IsBroken turns script old new takes calls =
     AppendsCut old new (lines_before script takes calls) (lines_after script takes calls)
@@ -82,7 +82,7 @@ IsRunBroken turns script sink session = (takes : List Took) × Tells session tak
     × IsPart turns script sink.old sink.new takes session.turns
     × IsBroken turns script sink.old sink.new takes session.turns
 
--- a session as far as it came, where memory was wanting
+-- a session as far as it came, out of memory
 abbrev pub IsRunStopped : ℕ → Script → Stream → Session → Type 0
 IsRunStopped turns script sink session = (takes : List Took) × Tells session takes
     × IsPart turns script sink.old sink.new takes session.turns

@@ -10,7 +10,7 @@ use Rattle.trace_text.specs.declared.ends.Halt.{Halt}
 use Rattle.script_text.specs.declared.script.Script.{Script}
 use Rattle.std.specs.Prelude.{List, Option, ℕ}
 
--- the same, with the turns allowed
+-- a script as it is planned, with the turns allowed
 abbrev pub planned_of : Script → ℕ → Planned ThreadBody
 planned_of script turns = record { setting = setting_of script; turns = turns }
 

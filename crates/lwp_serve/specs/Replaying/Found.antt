@@ -36,7 +36,7 @@ pub record IsTold (turns : ℕ) (script : Script) (recorded : List ℕ) (e : Ses
   pub ended : e ≡ end_of verdict
   pub told : text ≡ text_of verdict
 
--- the same, of the script and the recorded bytes of a text
+-- they tell of a right verdict on the script and the recorded bytes of a text
 pub record IsToldOf (turns : ℕ) (text : List ℕ) (part : Part) (e : SessionEnd) (said : List ℕ)
     (takes : List Took) (calls : ℕ) : Type 0 where
   pub script : Script

@@ -5,7 +5,7 @@ use Rattle.script_session.specs.declared.session.SessionEnd.{SessionEnd}
 use Rattle.script_session.specs.declared.session.SessionEnd.TheVariants as end
 use Rattle.std.specs.Prelude.{Bool, List, None, Option, Some, codes, decimal, if◌then◌else◌, option_map, ℕ, ◌++◌}
 
--- a word, and behind it a space and a line, if there is one; empty lines are lines
+-- a word, and then a space and a line, if there is one; empty lines are lines
 abbrev pub line_text : List ℕ → Option (List ℕ) → List ℕ
 line_text word None = word ++ codes "\n"
 line_text word (Some line) = word ++ (codes " " ++ (line ++ codes "\n"))

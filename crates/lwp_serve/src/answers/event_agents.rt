@@ -44,7 +44,7 @@ fn is_found(numbers: &[u64], number: u64) -> bool
     numbers.binary_search(&number).is_ok()
 }
 
-// The same of any numbers.
+// Whether a number is one of these, in any order.
 fn is_scanned(numbers: &[u64], number: u64) -> bool
     ensures { result ≡ is_among numbers.now number }
 {

@@ -106,7 +106,7 @@ impl Notes {
         }
     }
 
-    /// A call is behind; it may have made an agent.
+    /// A call was made; it may have made an agent.
     pub(crate) fn pass(&mut self, made: &Option<Made>) -> Result<(), NoMemory>
         ensures agents { OnOk result
             (self.new.agents ≡ agents_after self.old.event self.old.agents made.now) }

@@ -25,7 +25,7 @@ fn add_text(out: &mut Vec<u8>, text: &[u8]) -> Result<(), NoMemory>
     Ok(())
 }
 
-// A text, and a number behind it.
+// A text, and a number after it.
 fn add_number(alloc: Global, out: &mut Vec<u8>, text: &[u8], number: u64) -> Result<(), NoMemory>
     ensures { OnOk result (out.new.items ≡ out.old.items ++ (text.now ++ decimal number)) }
 {

@@ -13,7 +13,7 @@ pub fn add_text(out: &mut Vec<u8>, text: &[u8]) -> Result<(), NoMemory>
     Ok(())
 }
 
-/// A number in decimal, behind a text.
+/// A number in decimal, after a text.
 pub fn add_number(out: &mut Vec<u8>, text: &[u8], n: u64) -> Result<(), NoMemory>
     ensures { OnOk result (out.new.items ≡ out.old.items ++ (text.now ++ decimal n)) }
 {

@@ -1,4 +1,4 @@
-// The lines of a script's clients that are left behind a run.
+// The lines of a script's clients that are left after a run.
 ghost use Rattle.pod_runner.specs.Trace.{left_counts_from};
 ghost use Rattle.std.specs.Prelude.{◌≡◌, ◌≤◌, IfOk, length};
 

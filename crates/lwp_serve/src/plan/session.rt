@@ -18,7 +18,7 @@ use std::alloc::Global;
 use streams::write_all;
 use trace_text::{Halt, end_lines};
 
-// A run over a gate goes on to its end, and then what stands behind its lines is written. It stands apart, so that the loop of a run
+// A run over a gate goes on to its end, and then what follows its lines is written. It stands apart, so that the loop of a run
 // isn't part of a function with many more locals.
 #[inline(never)]
 fn run_out<'s, K: Sink>(

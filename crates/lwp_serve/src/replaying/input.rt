@@ -1,7 +1,7 @@
 // The input of a replay is read, and its script found in it.
 ghost use Rattle.batch.specs.Parts.{LiesIn, line_length};
 ghost use Rattle.lwp_serve.specs.Replaying.Found.{IsInput, IsNoInput};
-ghost use Rattle.lwp_serve.specs.Replaying.Input.{length_told, script_behind, script_in, size_by};
+ghost use Rattle.lwp_serve.specs.Replaying.Input.{length_told, script_after_line, script_in, size_by};
 ghost use Rattle.std.specs.Prelude.{IfErr, IfOk, IfSome, OnOk, length, ◌≡◌, ◌≤◌};
 ghost use Rattle.streams.specs.Limited.{IsReadUp};
 ghost use Rattle.streams.specs.Streams.{sides};
@@ -47,7 +47,7 @@ fn size_by(number: Option<u32>) -> Option<usize>
     Some(size)
 }
 
-// How many bytes a line says that the script behind it has.
+// How many bytes a line says that the script after it has.
 fn length_told(line: &[u8]) -> Option<usize>
     ensures value { result ≡ length_told line.now }
     ensures most { IfSome result (λ size. size ≤ 16777216) }
@@ -58,9 +58,9 @@ fn length_told(line: &[u8]) -> Option<usize>
     }
 }
 
-// Where the script lies, if the first line says so, ends, and has so many bytes behind it.
-fn script_behind(text: &[u8]) -> Option<Part>
-    ensures value { result ≡ script_behind text.now }
+// Where the script lies, if the first line says so, ends, and has so many bytes after it.
+fn script_after_line(text: &[u8]) -> Option<Part>
+    ensures value { result ≡ script_after_line text.now }
     ensures lies { IfSome result (LiesIn text.now) }
 {
     let line = line_length(text);
@@ -83,7 +83,7 @@ fn script_in(text: &[u8]) -> Option<Part>
     if text.len() > REPLAY_MAX {
         return None;
     }
-    script_behind(text)
+    script_after_line(text)
 }
 
 /// The input that a source holds, which is read to its end or one byte past what an input may have.

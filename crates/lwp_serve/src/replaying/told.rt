@@ -32,7 +32,7 @@ fn add_text(out: &mut Vec<u8>, text: &[u8]) -> Result<(), NoMemory>
     Ok(())
 }
 
-// A word, and a number behind it, on a line of their own.
+// A word, and a number after it, on a line of their own.
 fn add_number(alloc: Global, out: &mut Vec<u8>, word: &[u8], number: u64) -> Result<(), NoMemory>
     ensures { OnOk result
         (out.new.items ≡ out.old.items ++ (word.now ++ (decimal number ++ codes "\n"))) }
@@ -42,7 +42,7 @@ fn add_number(alloc: Global, out: &mut Vec<u8>, word: &[u8], number: u64) -> Res
     add_text(out, b"\n")
 }
 
-// A word, and a line behind it, if there is one.
+// A word, and a line after it, if there is one.
 fn add_line(out: &mut Vec<u8>, word: &[u8], line: &Option<Vec<u8>>) -> Result<(), NoMemory>
     ensures { OnOk result
         (out.new.items ≡ out.old.items ++ line_text word.now (option_map (λ v. v.items) line.now)) }
@@ -118,7 +118,7 @@ fn end_of(verdict: &Verdict) -> SessionEnd
     }
 }
 
-// A script's names, which stand for nothing yet.
+// A script's names, which mean nothing yet.
 fn names_for(alloc: Global, script: &Script) -> Result<Env, NoMemory>
     requires { IsWithinLimits script.now }
     ensures { IfOk result (λ env. env ≡ opening_names script.now) }

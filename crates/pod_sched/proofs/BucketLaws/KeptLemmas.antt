@@ -125,7 +125,7 @@ All-weaker : (P Q : ℕ → Type 0) → ((k : ℕ) → P k → Q k) → (xs : Li
 All-weaker P Q weaker [] all = tt
 All-weaker P Q weaker (x ∷ xs) all = (weaker x all.0, All-weaker P Q weaker xs all.1)
 
--- ---- the order as it is kept
+-- ---- the run queue as it is kept
 
 module _ (order ready : Lists) (prios marks : List ℕ) (levels : ℕ) (kept : IsKept order ready prios marks levels) where
   of_prio : ℕ → ℕ → Bool
@@ -215,7 +215,7 @@ module _ (order ready : Lists) (prios marks : List ℕ) (levels : ℕ) (kept : I
           ];
         }
 
-    -- a key that is not in the order is given a priority
+    -- a key that is not in the run queue is given a priority
     module _ (new : ℕ) (k_in : k < levels + length prios) (low : new < levels) (gone : without k (items order 0) ≡ items order 0) where
       agree : (p x : ℕ) → levels ≤ x → x ≢ k → is_of_prio (set prios (k - levels) new) levels p x ≡ is_of_prio prios levels p x
       agree p x x_key differs = ap (λ n. eqb n p) (get_or-set_other prios (k - levels) (x - levels) new 0 (λ same. differs (omega (arith, same))))

@@ -1,4 +1,4 @@
--- How `Buckets` keeps the order. No public clause cites this module.
+-- How `Buckets` keeps the run queue. No public clause cites this module.
 use Rattle.pod_sched.specs.Buckets.Marks.{mark_at}
 use Rattle.pod_sched.specs.Buckets.Order.{is_of_prio}
 use Rattle.lists.specs.ChainLists.{Lists, items}

@@ -30,11 +30,11 @@ empty_order levels = record { levels = levels; order = []; prios = [] }
 abbrev pub with_keys : Order → ℕ → Order
 with_keys v keys = record v { prios = v.prios ++ replicate (keys - length v.prios) 0 }
 
--- the key is out of the order
+-- the key is out of the run queue
 abbrev pub after_take : Order → ℕ → Order
 after_take v key = record v { order = without key v.order }
 
--- the key is out of the order, and of this priority
+-- the key is out of the run queue, and of this priority
 abbrev pub after_reassign : Order → ℕ → ℕ → Order
 after_reassign v key p = record v { order = without key v.order; prios = slice_set v.prios (key - v.levels) p }
 

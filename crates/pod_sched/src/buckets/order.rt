@@ -11,7 +11,7 @@ use std::sync::ledger::Ledger;
 
 /// Keys in an order. They are numbered from the number of priorities on.
 pub struct Buckets {
-    // The list 0 is the order.
+    // The list 0 is the run queue.
     order: Chains,
     // The list of each priority, in the same order.
     ready: Chains,
@@ -22,7 +22,7 @@ pub struct Buckets {
     levels: usize,
 }
 
-// By hand, so that whoever drops one calls this.
+// PROVER: written by hand, so that a function that drops one calls this instead of repeating its proof.
 impl Drop for Buckets {
     fn drop(self) {
         let Buckets {
@@ -101,7 +101,7 @@ impl Buckets {
         Ok(())
     }
 
-    /// Takes a key out of the order, if it is in it.
+    /// Takes a key out of the run queue, if it is in it.
     pub fn take(&mut self, key: usize)
         requires is_key { self.old.levels ≤ key }
         requires in_limit { key < self.old.levels + length self.old.prios }
@@ -114,7 +114,7 @@ impl Buckets {
         mark(&mut self.marks, prio, some);
     }
 
-    /// Puts a key at the end of the order, wherever it was, under this priority.
+    /// Puts a key at the end of the run queue, wherever it was, under this priority.
     pub fn put_last(&mut self, key: usize, prio: u32)
         requires is_key { self.old.levels ≤ key }
         requires in_limit { key < self.old.levels + length self.old.prios }
@@ -127,7 +127,7 @@ impl Buckets {
         self.requeue(key, prio);
     }
 
-    // Takes a key out of the order, if it is in it, and gives it another priority.
+    // Takes a key out of the run queue, if it is in it, and gives it another priority.
     fn reassign(&mut self, key: usize, prio: u32)
         requires is_key { self.old.levels ≤ key }
         requires in_limit { key < self.old.levels + length self.old.prios }
@@ -138,7 +138,7 @@ impl Buckets {
         self.prios[key - self.levels] = prio;
     }
 
-    // Puts a key at the end of the order, wherever it was. It has its priority already, so where it is in a list it stays in it, and no
+    // Puts a key at the end of the run queue, wherever it was. It has its priority already, so where it is in a list it stays in it, and no
     // list loses its last key.
     fn requeue(&mut self, key: usize, prio: u32)
         requires is_key { self.old.levels ≤ key }
@@ -152,7 +152,7 @@ impl Buckets {
         mark(&mut self.marks, prio as usize, true);
     }
 
-    /// Puts a key right before another one of its priority, wherever it was. Where the other isn't in the order, the key
+    /// Puts a key right before another one of its priority, wherever it was. Where the other isn't in the run queue, the key
     /// isn't in it either.
     pub fn put_before(&mut self, key: usize, other: usize)
         requires is_key { self.old.levels ≤ key }
@@ -195,7 +195,7 @@ impl Buckets {
         self.order.first(0)
     }
 
-    /// The key after this one in the order, whatever their priorities.
+    /// The key after this one in the run queue, whatever their priorities.
     pub fn key_after(&self, key: usize) -> Option<usize>
         requires in_limit { key < self.now.levels + length self.now.prios }
         ensures { (before after : List ℕ) → self.now.order ≡ before ++ key ∷ after →

@@ -15,7 +15,7 @@ pub struct Timers {
     places: usize,
 }
 
-// By hand, so that whoever drops one calls this.
+// PROVER: written by hand, so that a function that drops one calls this instead of repeating its proof.
 impl Drop for Timers {
     fn drop(self) {
         let Timers {

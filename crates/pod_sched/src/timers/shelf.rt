@@ -1,4 +1,4 @@
-// The timers as leaves, each behind those that were set before it.
+// The timers as leaves, each after those that were set before it.
 ghost use Rattle.std.specs.Prelude.{[], ◌∷◌, ◌++◌, Some, ◌≡◌, ◌+◌, ◌<◌, ◌≤◌, ◌^◌, IfOk, OnOk, OnErr, None, is_some, false, length, replicate, slice_set, vec_capacity};
 ghost use Rattle.std.specs.List.{filter, list_any};
 ghost use Rattle.lwp_types.specs.Time.{is_due};
@@ -14,6 +14,7 @@ use lwp_types::{NoMemory, Sequence, Tid, TimerRow};
 use std::alloc::Global;
 use std::marker::Model;
 
+// No heap by ticks: its first is not the first to arrive, and a timer that goes before its time would stay in it.
 /// Leaves in the order in which timers were set. A leaf is empty once its timer is gone.
 pub struct Shelf {
     leaves: Vec<Option<TimerRow>>,
@@ -23,7 +24,7 @@ pub struct Shelf {
     index: Index,
 }
 
-// By hand, so that whoever drops one calls this.
+// PROVER: written by hand, so that a function that drops one calls this instead of repeating its proof.
 impl Drop for Shelf {
     fn drop(self) {
         let Shelf {
@@ -156,7 +157,7 @@ impl Shelf {
         Some(row)
     }
 
-    /// One leaf more, behind all others.
+    /// One leaf more, after all others.
     pub fn add(&mut self, tid: Tid, due: u64)
         requires new { list_any (is_timer_of tid) (living self.old.leaves) ≡ false }
         requires room { length self.old.leaves < self.old.width }

@@ -1,4 +1,4 @@
-use Rattle.batch.proofs.PartLaws.{all_behind, found-all, found-bad, found-more}
+use Rattle.batch.proofs.PartLaws.{all_after, found-all, found-bad, found-more}
 use Rattle.batch.specs.Parts.{LiesIn, parts_from}
 use Rattle.std.proofs.Common.{Err, [], arith, ap, length, slice_index_or, subst, sym, ◌-◌, ◌∙◌, ◌∷◌, ◌<◌, ◌≡◌}
 use Rattle.std.proofs.lemmas.List.{length-append}
@@ -19,7 +19,7 @@ loop-at-preserved c =
     record {
       parts = c.loop-at.invariant.parts
           ∙ found-more found c.args.bytes.now c.loop-at.at (1000 - length c.push.new.self.items) (1000 - length found) c.in-Some.part (omega (arith, grown, one_more, room)) c.loop-at-test.true (sym c.in-Some.ensures.value)
-          ∙ ap (λ xs. all_behind xs (parts_from (1000 - length c.push.new.self.items) c.args.bytes.now c.in-Some.part.to)) (sym pushed);
+          ∙ ap (λ xs. all_after xs (parts_from (1000 - length c.push.new.self.items) c.args.bytes.now c.in-Some.part.to)) (sym pushed);
       few = omega (arith, grown, one_more, room);
       within = subst (λ xs. (k : _) (d : _) → k < length xs → LiesIn c.args.bytes.now (slice_index_or xs k d)) (sym pushed) (All-push (LiesIn c.args.bytes.now) found c.in-Some.part c.loop-at.invariant.within c.in-Some.ensures.lies);
       at = c.in-Some.ensures.lies.1;

@@ -1,6 +1,6 @@
 use Rattle.std.proofs.Common.{◌≡◌, ◌≤◌, ◌<◌, ◌∙◌, ◌+◌, ◌-◌, ◌/◌, ap, arith, length, rules, sym}
 use Rattle.pod_runner.specs.declared.session.Row.{Row}
-use Rattle.pod_runner.proofs.Rising.{all_before, all_behind, missing_between, place_found}
+use Rattle.pod_runner.proofs.Rising.{all_before, all_after, missing_between, place_found}
 use Rattle.pod_runner.proofs.row_list.searched.Goals as goal
 
 pub loop-low-init : goal.loop-low-init
@@ -27,7 +27,7 @@ loop-low-preserved g c =
     let within : middle < length c.args.rows.now.items = search rules in
     let above : c.loop-low.low ≤ middle = search rules in
     let younger : c.args.tid < c.index.result.now.tid = search rules in
-    (above, omega (arith, within), c.loop-low.invariant.2, all_behind c.args.tid c.args.rows.now.items middle c.index.result.now c.requires within c.index.ensures younger)
+    (above, omega (arith, within), c.loop-low.invariant.2, all_after c.args.tid c.args.rows.now.items middle c.index.result.now c.requires within c.index.ensures younger)
 
 pub returns : goal.returns
 returns g c =

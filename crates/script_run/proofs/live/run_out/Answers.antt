@@ -34,8 +34,8 @@ returns-in-Ok-clause-whole g c = lived-of c.args.script.now c.args.turns c.go_to
 pub returns-clause-broken : goal.returns-clause-broken
 returns-clause-broken g c = λ is. live-cut c.args.script.now c.args.turns c.go_to_end.new.played (intakes c.go_to_end.new.outside) c.in_ok-whole.whole.halt (g.K.Sink.written c.args.sink.now) (g.K.Sink.written c.go_to_end.new.sink) (g.K.Sink.written c.write_all.new.sink) c.deref-2.result.now c.requires.posted (over-of c.args.script.now c.args.turns (stream (g.K.Sink.written c.args.sink.now) (g.K.Sink.written c.go_to_end.new.sink) (g.K.Sink.faults c.args.sink.now) (g.K.Sink.faults c.go_to_end.new.sink)) c.args.played.now c.go_to_end.new.played (intakes c.args.outside.now) (intakes c.go_to_end.new.outside) (all_texts c.args.outside.now) c.in_ok-whole.whole c.in_ok-whole.whole.halt c.in_ok-whole.ensures.goes c.requires.opening c.requires.new (c.requires.all_texts ∙ c.requires.texts) c.requires.posted (subst (λ (events : List ℕ). AreBack events (all_texts c.args.outside.now) (intakes c.go_to_end.new.outside)) c.requires.events c.go_to_end.ensures.back) c.in_ok-whole.ensures.halts (subst (λ (events : List ℕ). KnowAll events (all_texts c.args.outside.now) (intakes c.go_to_end.new.outside)) c.requires.events c.in_ok-whole.ensures.all)) (c.in_ok-whole.ensures.goes.ran.told.0 (g.K.Sink.written c.args.sink.now) (told-before c.args.script.now c.args.turns c.args.played.now (g.K.Sink.written c.args.sink.now) c.requires.opening)) (tail-of c.args.script.now c.args.turns c.go_to_end.new.played (map items_of c.args.texts.now) c.in_ok-whole.whole.halt c.deref-2.result.now c.deref.result.now c.requires.texts (c.deref.ensures.value ∙ c.in_ok-left.ensures) (c.deref-2.ensures.value ∙ c.in_ok-tail.ensures)) c.in-Err.ensures.err
 
-pub counts_behind-requires-clause-few : goal.counts_behind-requires-clause-few
-counts_behind-requires-clause-few g c = texts-few c.args.script.now c.args.texts.now c.requires.texts c.requires.posted
+pub counts_after-requires-clause-few : goal.counts_after-requires-clause-few
+counts_after-requires-clause-few g c = texts-few c.args.script.now c.args.texts.now c.requires.texts c.requires.posted
 
 pub returns-in-Ok-clause-posted : goal.returns-in-Ok-clause-posted
 returns-in-Ok-clause-posted g c = c.in_ok-whole.ensures.posted ∙ ap (λ n. Some n) (lines-are c.args.script.now (all_texts c.args.outside.now) (c.requires.all_texts ∙ c.requires.texts) c.requires.posted)

@@ -9,7 +9,7 @@ use Rattle.trace_page.specs.declared.scene.Shape.TheVariants as shape
 use Rattle.trace_page.specs.declared.scene.Span.{Span}
 use Rattle.trace_page.specs.declared.spans.Change.{Change}
 
--- a bar is put behind, or none
+-- a bar is appended, or none
 told : (change : Change) (to : Moment) (span : Span) (out : List Shape) (drawn : Bool) → drawn ≡ is_drawn change span → out ++ cond drawn (shape.Bar span to ∷ []) [] ≡ out ++ bar change to span
 told change to span out drawn e = ap (λ b. out ++ cond b (shape.Bar span to ∷ []) []) e
 

@@ -5,7 +5,7 @@ use Rattle.script_lines.specs.Words.{value_after}
 use Rattle.lwp_serve.specs.Maker.Order.{long_value_of}
 use Rattle.lwp_serve.proofs.maker.order.long_value_of.Goals as goal
 
--- behind a number, digits never make it smaller
+-- digits after a number never make it smaller
 value_ge : (n : ℕ) (ds : List ℕ) → n ≤ value_after n ds
 value_ge n [] = omega arith
 value_ge n (d ∷ ds) = omega (arith, value_ge (10 * n + (d - 48)) ds)

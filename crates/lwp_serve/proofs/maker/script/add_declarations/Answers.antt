@@ -8,7 +8,7 @@ on_ok : {A E : Type 0} (r : Result A E) (P Q : Type 0) → (P → Q) → OnOk r 
 on_ok (Ok a) P Q f h = f h
 on_ok (Err e) P Q f h = h
 
--- four parts, one behind the other
+-- four parts, one after the other
 four : (old a b c d x y z all : List ℕ) → x ≡ old ++ a → y ≡ x ++ b → z ≡ y ++ c → all ≡ z ++ d → all ≡ old ++ (a ++ (b ++ (c ++ d)))
 four old a b c d x y z all e f g h =
     h

@@ -3,7 +3,6 @@ use Rattle.lwp_serve.proofs.Planning.LineLaws.{left-next}
 use Rattle.pod_runner.specs.Trace.{left_counts_from}
 use Rattle.lwp_serve.proofs.plan.lines.counts_left.Goals as goal
 
--- src/lines.rt:51:5
 pub loop-client-preserved : goal.loop-client-preserved
 loop-client-preserved g c =
     let stock = g.G.Gate.stock c.args.gate.now in

@@ -3,7 +3,6 @@ use Rattle.script_body.specs.Bodies.{bodies_of}
 use Rattle.script_body.proofs.ProgramLaws.{length-bodies, length-places, name-at}
 use Rattle.script_body.proofs.program.ScriptProgramProgramThreadBody.proc_name.Goals as goal
 
--- src/program.rt:77:13
 pub name_place-place-requires : goal.name_place-place-requires
 name_place-place-requires c =
     omega (arith, c.requires, ap (λ s. length (bodies_of s)) c.self.view_is, length-bodies c.self.inside.script.now, length-places c.self.inside.script.now)

@@ -1,5 +1,5 @@
 use Rattle.death_cleanup.proofs.Orders.{behind_last}
-use Rattle.death_cleanup.proofs.named.is_behind_all.Goals as goal
+use Rattle.death_cleanup.proofs.named.is_after_all.Goals as goal
 use Rattle.death_cleanup.specs.Named.{is_before, run_of}
 use Rattle.std.proofs.Common.{ap, arith, sym, ◌∙◌}
 

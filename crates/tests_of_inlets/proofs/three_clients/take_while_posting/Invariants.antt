@@ -1,4 +1,4 @@
-use Rattle.tests_of_inlets.proofs.three_clients.take_beside.Given as goal
+use Rattle.tests_of_inlets.proofs.three_clients.take_while_posting.Given as goal
 use Rattle.script_run.specs.Ties.{IsTied}
 
 abbrev pub invariant-loop : goal.invariant-loop

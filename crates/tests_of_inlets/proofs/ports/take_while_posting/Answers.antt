@@ -2,7 +2,7 @@ use Rattle.event_gate.specs.Ends.{PortId, Posting, posting}
 use Rattle.std.proofs.Common.{◌≡◌, ◌+◌, ◌<◌, ℕ, List, [], ◌∷◌, slice_index_or, arith, map, refl}
 use Rattle.std.proofs.lemmas.List.Elements.{All-map, All-same}
 use Rattle.std.proofs.lemmas.List.FromFn.{get_or-range_with_len}
-use Rattle.tests_of_inlets.proofs.ports.take_beside.Goals as goal
+use Rattle.tests_of_inlets.proofs.ports.take_while_posting.Goals as goal
 
 abbrev sixteen : List ℕ
 sixteen = 0 ∷ 1 ∷ 2 ∷ 3 ∷ 4 ∷ 5 ∷ 6 ∷ 7 ∷ 8 ∷ 9 ∷ 10 ∷ 11 ∷ 12 ∷ 13 ∷ 14 ∷ 15 ∷ []

@@ -2,7 +2,7 @@ use Rattle.std.proofs.Common.{Err, Ok, ◌∙◌}
 use Rattle.script_run.specs.Ties.{intakes}
 use Rattle.script_run.proofs.BesideLaws.{goes-answer, goes-err, went-handed, went-of, went-then}
 use Rattle.pod_runner.proofs.Rounds.{stream}
-use Rattle.script_run.proofs.beside.go_beside.Goals as goal
+use Rattle.script_run.proofs.beside.run_while_posting.Goals as goal
 
 pub returns-in_err-go_live-clause-goes : goal.returns-in_err-go_live-clause-goes
 returns-in_err-go_live-clause-goes g c = goes-err _ _ (stream (g.K.Sink.written c.args.sink.now) (g.K.Sink.written c.go_live.new.sink) (g.K.Sink.faults c.args.sink.now) (g.K.Sink.faults c.go_live.new.sink)) c.args.played.now c.go_live.new.played (intakes c.args.outside.now) (intakes c.go_live.new.outside) c.from_residual.result c.in_err-go_live.field-0.0 c.from_residual.ensures.1

@@ -1,6 +1,6 @@
 use Rattle.std.proofs.Common.{arith, sym, ◌∙◌}
 use Rattle.script_run.proofs.ClientLaws.{counts-on}
-use Rattle.script_run.proofs.clients.counts_behind.Goals as goal
+use Rattle.script_run.proofs.clients.counts_after.Goals as goal
 
 pub loop-client-preserved : goal.loop-client-preserved
 loop-client-preserved c = c.in_ok-push.ensures.items

@@ -1,7 +1,7 @@
 use Rattle.script_run.specs.Ties.{all_texts, events_of, intakes}
 use Rattle.pod_runner.proofs.Rounds.{stream}
 use Rattle.script_run.proofs.BesideLaws.{goes-answer, goes-err, never-quiet, told-gave}
-use Rattle.script_run.proofs.beside.go_behind.Goals as goal
+use Rattle.script_run.proofs.beside.drain.Goals as goal
 
 pub returns-in_err-halt-clause-goes : goal.returns-in_err-halt-clause-goes
 returns-in_err-halt-clause-goes g c = goes-err _ _ (stream (g.K.Sink.written c.args.sink.now) (g.K.Sink.written c.go_live.new.sink) (g.K.Sink.faults c.args.sink.now) (g.K.Sink.faults c.go_live.new.sink)) c.args.played.now c.go_live.new.played (intakes c.args.outside.now) (intakes c.go_live.new.outside) c.from_residual.result c.in_err-halt.field-0.0 c.from_residual.ensures.1 c.in_err-halt.ensures.goes

@@ -1,5 +1,5 @@
 use Rattle.death_cleanup.proofs.Orders.{behind_others}
-use Rattle.death_cleanup.proofs.named.is_behind_others.Goals as goal
+use Rattle.death_cleanup.proofs.named.is_after_others.Goals as goal
 use Rattle.death_cleanup.specs.Named.{is_before, run_of}
 use Rattle.std.proofs.Common.{ap, arith, length, sym, ◌-◌, ◌∙◌}
 use Rattle.std.proofs.lemmas.List.{get_or_read}

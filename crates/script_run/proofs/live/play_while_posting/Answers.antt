@@ -4,7 +4,7 @@ use Rattle.script_session.specs.declared.session.SessionEnd.{SessionEnd}
 use Rattle.std.proofs.Common.{ap, length, subst, sym, ◌∙◌}
 use Rattle.script_run.proofs.LiveLaws.{posts-of, texts-few, texts-many}
 use Rattle.script_text.specs.Script.{lines_posted}
-use Rattle.script_run.proofs.live.play_beside.Goals as goal
+use Rattle.script_run.proofs.live.play_while_posting.Goals as goal
 
 pub start-requires-clause-texts : goal.start-requires-clause-texts
 start-requires-clause-texts g c κs within = texts-many c.args.script.now.clients (lines_posted c.args.script.now) c.args.texts.now c.requires.texts ∙ ap length (sym c.as_slice-clients.ensures)
