@@ -8,6 +8,7 @@ ghost use Rattle.agents.specs.Roster.{IsInBirthOrder, after_create, after_destro
 use crate::board::{Board, Tally, one_if};
 use crate::index::Index;
 use crate::rows::{copied, number_of, numbers, row_of, set_holding, take_out};
+use lists::cloned_exactly;
 use lwp_types::{AgentRow, IdList, NoMemory, Sequence, Tid};
 use std::alloc::Global;
 use std::marker::Model;
@@ -62,6 +63,19 @@ impl Agents {
             board: Board::new(),
             places: 0,
         }
+    }
+
+    /// The same agents, in memory of their own.
+    pub fn again(&self) -> Result<Agents, NoMemory>
+        ensures { IfOk result (λ copy. copy ≡ self.now) }
+    {
+        Ok(Agents {
+            rows: cloned_exactly(&self.rows)?,
+            by_event: self.by_event.again()?,
+            by_owner: self.by_owner.again()?,
+            board: self.board.again(),
+            places: self.places,
+        })
     }
 
     /// Makes places for `n` agents in all; so many can then be created with no more memory.

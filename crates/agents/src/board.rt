@@ -53,6 +53,16 @@ impl Model for Board {
 }
 
 impl Board {
+    /// The same tallies.
+    pub fn again(&self) -> Board
+        ensures { result ≡ self.now }
+    {
+        Board {
+            tallies: self.tallies,
+            armed: self.armed,
+        }
+    }
+
     /// No agents.
     pub fn new() -> Board
         ensures { result ≡ replicate 33 no_tally }

@@ -1,8 +1,9 @@
 // The agents under each key, which is their event or their owner.
-ghost use Rattle.std.specs.Prelude.{◌≡◌, ◌++◌, ◌+◌, ◌<◌, ◌≤◌, IsTrue, OnOk, [], ◌∷◌, length, slice_get, true, vec_capacity};
+ghost use Rattle.std.specs.Prelude.{◌≡◌, ◌++◌, ◌+◌, ◌<◌, ◌≤◌, IfOk, IsTrue, OnOk, [], ◌∷◌, length, slice_get, true, vec_capacity};
 ghost use Rattle.lwp_types.specs.State.{all_below, member, without};
 ghost use Rattle.agents.specs.Index.{AreOrdered, IsCut, IsPastLesser, Puts, is_before, is_below, is_up_to, numbers_under};
 
+use lists::cloned_exactly;
 use lwp_types::NoMemory;
 use std::alloc::Global;
 use std::marker::Model;
@@ -110,6 +111,15 @@ fn nth_in(entries: &[Entry], key: u64, i: usize) -> Option<u64>
 }
 
 impl Index {
+    /// The same numbers, in memory of their own.
+    pub fn again(&self) -> Result<Index, NoMemory>
+        ensures { IfOk result (λ copy. copy ≡ self.now) }
+    {
+        Ok(Index {
+            entries: cloned_exactly(&self.entries)?,
+        })
+    }
+
     /// No agents.
     pub fn new(alloc: Global) -> Index
         ensures { result.entries ≡ [] }

@@ -7,7 +7,7 @@ ghost use Rattle.conditions.specs.ConditionTable.{after_create, after_destroy, a
 use crate::WaitRec;
 use crate::rows::{copied, list, row_of, take_out, take_out_of};
 use crate::waits::{is_waited, machine_rows, rec_of};
-use lists::{Waiting, WaitingList};
+use lists::{Waiting, WaitingList, cloned};
 use lwp_types::{Cid, CondRow, IdList, Mid, NoMemory, Sequence, Tid, WaitRow};
 use std::alloc::Global;
 use std::marker::Model;
@@ -68,6 +68,19 @@ impl Conds {
             limit: births,
             waits: WaitingList::new(alloc),
         }
+    }
+
+    /// The same conditions, in memory of their own.
+    pub fn again(&self) -> Result<Conds, NoMemory>
+        ensures { IfOk result (λ copy. copy ≡ self.now) }
+    {
+        Ok(Conds {
+            alloc: self.alloc,
+            rows: cloned(&self.rows)?,
+            births: self.births,
+            limit: self.limit,
+            waits: self.waits.again()?,
+        })
     }
 
     /// Makes places for `n` waits in all; so many may then wait with no more memory.

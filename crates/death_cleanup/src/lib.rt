@@ -14,14 +14,14 @@
 //! | `end_agent`, `release` | `end_agent`, `release` |
 //! | `wake_done`, `wake_lettered`, `wake_replied` | `unblock`, with the answer of that kind |
 //!
-//! `copy_of` gives the state as a plain value, and changes nothing.
+//! `copy_of` gives the state as a plain value, and `Parts::again` equal parts that go on by themselves; both change nothing.
 //!
 //! A thread that waits for another by name is noted in `Named`, in the order of those that are waited for, and a death
 //! goes over those alone that wait for it. Room for that is made with each thread, and there is always enough.
 //!
-//! But for `copy_of`, `Named::new` and `Named::reserve` nothing here takes memory, and so nothing else runs out of it. A dying thread
-//! has left the scheduler: `Parts` keep who that is, and the priority that it had. It stands on the crates of the single parts, on
-//! `pod_laws`, and on `snapshots`.
+//! But for `copy_of`, `again`, `Named::new` and `Named::reserve` nothing here takes memory, and so nothing else runs out of it. A dying
+//! thread has left the scheduler: `Parts` keep who that is, and the priority that it had. It stands on the crates of the single parts,
+//! on `pod_laws`, on `lists` and on `snapshots`.
 #![tactic(auto)]
 
 mod condition_wakes;

@@ -8,6 +8,7 @@ ghost use Rattle.death_cleanup.specs.declared.rows.Awaited.TheVariants as awaite
 ghost use Rattle.stale_ids.specs.Register.{AreRising};
 
 use crate::rows::{Awaited, Kind, NamedWait, wait_of};
+use lists::cloned_exactly;
 use lwp_types::{Block, NoMemory, Tid};
 use stale_ids::Registry;
 use std::alloc::Global;
@@ -224,6 +225,16 @@ impl Named {
         Ok(Named {
             waits: Vec::with_capacity(alloc, FIRST_PLACES)?,
             places: FIRST_PLACES,
+        })
+    }
+
+    /// An equal note, in memory of its own.
+    pub fn again(&self) -> Result<Named, NoMemory>
+        ensures { IfOk result (λ copy. copy ≡ self.now) }
+    {
+        Ok(Named {
+            waits: cloned_exactly(&self.waits)?,
+            places: self.places,
         })
     }
 

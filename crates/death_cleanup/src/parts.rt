@@ -1,5 +1,5 @@
 // The parts, and the changes of one thread in them.
-ghost use Rattle.std.specs.Prelude.{◌≡◌, ◌<◌, length, map, IsTrue};
+ghost use Rattle.std.specs.Prelude.{◌≡◌, ◌<◌, length, map, IfOk, IsTrue};
 ghost use Rattle.agents.specs.Roster.{is_listed};
 ghost use Rattle.lwp_types.specs.Case.{answer_by};
 ghost use Rattle.lwp_types.specs.Effects.{effect_places};
@@ -16,7 +16,7 @@ use crate::named::Named;
 use crate::rows::Kind;
 use agents::Agents;
 use conditions::Conds;
-use lwp_types::{Block, Effects, Letter, LwpErr, Text, Tid};
+use lwp_types::{Block, Effects, Letter, LwpErr, NoMemory, Text, Tid};
 use monitors::Monitors;
 use pod_sched::Sched;
 use rendezvous::Mail;
@@ -66,6 +66,33 @@ impl<'s> Drop for Parts<'s> {
             last_prio: _,
             named: _,
         } = self;
+    }
+}
+
+impl<'s> Parts<'s> {
+    /// Equal parts, in memory of their own. It goes over each list once.
+    pub fn again(&self) -> Result<Parts<'s>, NoMemory>
+        ensures { IfOk result (λ copy. copy ≡ self.now) }
+    {
+        let Ok(ids) = self.ids.again() else {
+            return Err(NoMemory);
+        };
+        Ok(Parts {
+            ids,
+            sched: self.sched.again()?,
+            mail: self.mail.again()?,
+            mons: self.mons.again()?,
+            conds: self.conds.again()?,
+            agents: self.agents.again()?,
+            exit: self.exit,
+            ended: self.ended,
+            procs: self.procs,
+            registration: self.registration,
+            pattern: self.pattern,
+            dying: self.dying,
+            last_prio: self.last_prio,
+            named: self.named.again()?,
+        })
     }
 }
 

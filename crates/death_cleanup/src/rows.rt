@@ -1,14 +1,16 @@
 // What the registry keeps under a number, and whom a thread waits for.
-ghost use Rattle.std.specs.Prelude.{◌≡◌, ◌≤◌, Some};
+ghost use Rattle.std.specs.Prelude.{◌≡◌, ◌≤◌, IfOk, Some};
 ghost use Rattle.death_cleanup.specs.Moves.{kind_with_marks, kind_marks};
 ghost use Rattle.exc_stack.specs.Stack.{UnwindsAll, UnwindsTo, unwound_all, unwound_to};
 ghost use Rattle.lwp_types.specs.Case.{answer_by};
 ghost use Rattle.lwp_types.specs.Exceptions.{frames};
 ghost use Rattle.death_cleanup.specs.Named.{block_name, named_wait, rank};
 ghost use Rattle.death_cleanup.specs.Waits.{last_answer, waits_for};
+ghost use Rattle.death_cleanup.specs.declared.rows.Kind.TheVariants as kinds;
 
 use exc_stack::ExcStack;
 use lwp_types::{Block, ExitMark, Flags, LwpErr, Tid};
+use stale_ids::{Again, NoMemory as RefusedMemory};
 
 /// What is kept of a thread, but for what the scheduler keeps.
 #[derive(Drop)]
@@ -53,6 +55,29 @@ pub fn wait_of(tid: Tid, block: &Block) -> Option<NamedWait>
         }
     };
     Some(NamedWait { what, of, tid })
+}
+
+impl<'s> Again for Kind<'s> {
+    fn again(&self) -> Result<Kind<'s>, RefusedMemory> {
+        match self {
+            Kind::Thread(rec) => thread_again(rec),
+            Kind::Agent => Ok(Kind::Agent),
+        }
+    }
+}
+
+// A thread with an equal record, in memory of its own.
+fn thread_again<'s>(rec: &ThreadRec<'s>) -> Result<Kind<'s>, RefusedMemory>
+    ensures { IfOk result (λ kind. kind ≡ kinds.Thread rec.now) }
+{
+    let Ok(stack) = rec.stack.again() else {
+        return Err(RefusedMemory);
+    };
+    Ok(Kind::Thread(ThreadRec {
+        flags: rec.flags,
+        block: rec.block,
+        stack,
+    }))
 }
 
 impl Awaited {

@@ -4,7 +4,18 @@ ghost use Rattle.lwp_types.specs.Exceptions.{exit_of, first_frames, first_handle
 ghost use Rattle.exc_stack.specs.Stack.{TakesTop, below_last_exit, is_handler, last_exit};
 
 use lwp_types::{ExitMark, Found, Mark, NoMemory, Pattern, Sequence};
-use std::alloc::Global;
+use std::alloc::{AllocError, Global};
+
+/// The same marks, in memory of their own.
+pub fn marks_again<'s>(marks: &Vec<Mark<'s>>) -> Result<Vec<Mark<'s>>, AllocError>
+    ensures { IfOk result (λ copy. copy.items ≡ marks.now.items) }
+{
+    let mut copy = Vec::with_capacity(*marks.allocator(), marks.len())?;
+    for mark in marks.iter() {
+        copy.push_reserved(mark.again());
+    }
+    Ok(copy)
+}
 
 // Whether a procedure begins here.
 pub fn is_frame(mark: &Mark) -> bool

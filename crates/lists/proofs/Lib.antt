@@ -6,3 +6,4 @@ pub mod TextLaws
 pub mod LivingLemmas
 pub mod IndexLemmas
 pub mod WaitingLaws
+pub mod CopyLaws

@@ -3,6 +3,7 @@ ghost use Rattle.std.specs.Prelude.{List, ℕ, ◌∷◌, ◌++◌, ◌≡◌, �
 ghost use Rattle.lists.specs.ChainLists.{after_clear, after_move_before, after_move_to_back, after_remove, empty_lists, items, with_limit};
 
 use crate::chain_links::{Link, enter, grow, leave, next_of, prev_of, reset};
+use crate::copies::cloned;
 use std::alloc::{AllocError, Global};
 use std::marker::Model;
 
@@ -47,6 +48,16 @@ impl Chains {
             links: Vec::new(alloc),
             heads: 0,
         }
+    }
+
+    /// The same lists in memory of their own.
+    pub fn again(&self) -> Result<Chains, AllocError>
+        ensures { IfOk result (λ copy. copy ≡ self.now) }
+    {
+        Ok(Chains {
+            links: cloned(&self.links)?,
+            heads: self.heads,
+        })
     }
 
     /// Each list is empty from now on.

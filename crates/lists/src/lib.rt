@@ -10,12 +10,13 @@
 //!   (`specs/EventMarks.antt`).
 //! - `living`: a copy of what places have, of which some are empty (`specs/Living.antt`).
 //!
-//! The contract of each call is one equation on these lists. Memory is taken by `new`, `reserve`, `with_cells`, by the pushes of
-//! a `TextList`, and by what gives a copy, and by nothing else. The crate stands on `lwp_types`.
+//! The contract of each call is one equation on these lists. `again` gives a copy that goes its own way. Memory is taken by `new`,
+//! `again`, `reserve`, `with_cells`, and by the pushes of a `TextList`, and by nothing else. The crate stands on `lwp_types`.
 #![tactic(auto)]
 
 mod chain_links;
 mod chains;
+mod copies;
 mod event_marks;
 mod places;
 mod text_list;
@@ -23,6 +24,7 @@ mod thread_index;
 mod waiting_list;
 
 pub use chains::Chains;
+pub use copies::{cloned, cloned_exactly, cloned_queue};
 pub use event_marks::{first_marked, is_marked, no_marks, with_mark};
 pub use places::living;
 pub use text_list::{Span, TextList};

@@ -2,6 +2,7 @@
 ghost use Rattle.std.specs.Prelude.{◌≡◌, ◌≤◌, ◌+◌, length};
 ghost use Rattle.lists.specs.Texts.{text_in};
 
+use crate::copies::cloned_exactly;
 use lwp_types::{NoMemory, Text};
 use std::alloc::Global;
 use std::marker::Model;
@@ -43,7 +44,7 @@ fn text_in(bytes: &[u8], span: Span) -> &[u8]
 }
 
 impl TextList {
-    ghost use Rattle.std.specs.Prelude.{◌≡◌, [], ◌∷◌, ◌++◌, length, IsTrue, OnErr, OnOk};
+    ghost use Rattle.std.specs.Prelude.{◌≡◌, [], ◌∷◌, ◌++◌, length, IfOk, IsTrue, OnErr, OnOk};
     ghost use Rattle.lwp_types.specs.TextFields.{is_text};
     ghost use Rattle.lists.specs.Texts.{text_at};
 
@@ -55,6 +56,16 @@ impl TextList {
             bytes: Vec::new(alloc),
             spans: Vec::new(alloc),
         }
+    }
+
+    /// Equal texts, in memory of their own.
+    pub fn again(&self) -> Result<TextList, NoMemory>
+        ensures { IfOk result (λ copy. copy ≡ self.now) }
+    {
+        Ok(TextList {
+            bytes: cloned_exactly(&self.bytes)?,
+            spans: cloned_exactly(&self.spans)?,
+        })
     }
 
     /// How many texts there are.

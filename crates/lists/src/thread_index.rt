@@ -5,6 +5,7 @@ ghost use Rattle.lwp_types.specs.State.{passes};
 ghost use Rattle.lists.specs.declared.thread_index.Entry.{Entry};
 ghost use Rattle.lists.specs.ThreadIndex.{IsAbsent, IsAt, IsEmpty, IsGapAt, IsMask, IsRising, Puts, cell_in, count_of, home, is_entry_of, place_in, place_of, no_entry, width_of, without_entry};
 
+use crate::copies::{cloned, cloned_exactly};
 use lwp_types::{NoMemory, Tid};
 use std::alloc::Global;
 use std::marker::Model;
@@ -213,6 +214,18 @@ impl Index {
             mask: mask_for(width),
             strays: Vec::with_capacity(alloc, width)?,
             count: 0,
+        })
+    }
+
+    /// The same entries in memory of their own.
+    pub fn again(&self) -> Result<Index, NoMemory>
+        ensures { IfOk result (λ copy. copy ≡ self.now) }
+    {
+        Ok(Index {
+            cells: cloned(&self.cells)?,
+            mask: self.mask,
+            strays: cloned_exactly(&self.strays)?,
+            count: self.count,
         })
     }
 

@@ -1,6 +1,6 @@
 // A pod as a machine, around which events of the pod's own may lie.
 use crate::Pod;
-use lwp_types::{Call, Effects, Flags, NoMemory, PodEnd, Text, Tid};
+use lwp_types::{Again, Call, Effects, Flags, NoMemory, PodEnd, Text, Tid};
 use pod_events::{Copied, Driven, Machine};
 use snapshots::StateCopy;
 
@@ -57,5 +57,11 @@ impl<'s> Driven<'s> for Pod<'s> {
 impl<'s> Copied<'s> for Pod<'s> {
     fn copy(&self) -> Result<StateCopy<'s>, NoMemory> {
         Pod::copy(self)
+    }
+}
+
+impl<'s> Again for Pod<'s> {
+    fn again(&self) -> Result<Pod<'s>, NoMemory> {
+        Pod::again(self)
     }
 }

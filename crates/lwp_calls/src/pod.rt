@@ -260,6 +260,17 @@ impl<'s> Pod<'s> {
         copy_of(&self.parts)
     }
 
+    /// An equal pod, in memory of its own.
+    pub fn again(&self) -> Result<Pod<'s>, NoMemory>
+        ensures { IfOk result (λ copy. copy ≡ self.now) }
+    {
+        Ok(Pod {
+            parts: self.parts.again()?,
+            alloc: self.alloc,
+            next: self.next,
+        })
+    }
+
     /// The first event from `from` on that can be delivered, if there is one below 32.
     pub fn next_armed(&self, from: u8) -> Option<u8>
         ensures none { IfNone result (HoldsNowhere (is_event_armed self.now) from 32) }

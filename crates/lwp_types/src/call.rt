@@ -1,9 +1,9 @@
 // What a thread may ask of the pod, how it is answered, and what a step does.
-ghost use Rattle.std.specs.Prelude.{◌≡◌};
+ghost use Rattle.std.specs.Prelude.{◌≡◌, IfOk};
 ghost use Rattle.lwp_types.specs.Case.{answer_by};
 
 use crate::rows::Letter;
-use crate::{Cid, IdList, Mid, Text, Tid};
+use crate::{Cid, IdList, Mid, NoMemory, Text, Tid};
 
 /// Why a call is refused. `NoError` is the number 0 and is never answered.
 #[derive(Clone, Copy, Debug, PartialEq, Eq)]
@@ -82,6 +82,42 @@ impl<'s> Answer<'s> {
             Ok(value) => Answer::Value(value),
             Err(error) => Answer::Refused(error),
         }
+    }
+
+    /// An equal answer. A list of numbers has memory of its own.
+    pub fn again(&self) -> Result<Answer<'s>, NoMemory>
+        ensures { IfOk result (λ copy. copy ≡ self.now) }
+    {
+        Ok(match self {
+            Answer::Value(value) => Answer::Value(*value),
+            Answer::Thread(tid) => Answer::Thread(*tid),
+            Answer::Monitor(mon) => Answer::Monitor(*mon),
+            Answer::Cond(cond) => Answer::Cond(*cond),
+            Answer::Letter { from, text, room } => Answer::Letter {
+                from: *from,
+                text: text.again(),
+                room: *room,
+            },
+            Answer::Reply(text) => Answer::Reply(text.again()),
+            Answer::Bound { func, arg } => Answer::Bound {
+                func: *func,
+                arg: *arg,
+            },
+            Answer::Caught {
+                depth,
+                mark,
+                pattern,
+            } => Answer::Caught {
+                depth: *depth,
+                mark: *mark,
+                pattern: *pattern,
+            },
+            Answer::Ids { kind, list } => Answer::Ids {
+                kind: *kind,
+                list: list.again()?,
+            },
+            Answer::Refused(error) => Answer::Refused(*error),
+        })
     }
 
     /// A letter, as the thread that receives it is answered.

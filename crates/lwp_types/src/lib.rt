@@ -5,6 +5,7 @@
 //! step for each call, deaths, the clock, agents, and what holds of every state. They compute. The crate stands on nothing but std.
 #![tactic(auto)]
 
+mod again;
 mod body;
 mod call;
 mod effects;
@@ -18,6 +19,7 @@ mod stream;
 mod text;
 mod words;
 
+pub use again::Again;
 pub use body::{Body, Polled, Program};
 pub use call::{
     Answer, Call, Effect, ExitCall, Flags, Func, IdKind, Line, LwpErr, Mode, Pattern, PodEnd,

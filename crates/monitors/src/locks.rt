@@ -1,6 +1,6 @@
 // The locks of the held monitors. They lie in the order in which they were acquired, and are found by their monitors, and by their
 // owners the last of each, so that nobody goes over the locks of others.
-ghost use Rattle.std.specs.Prelude.{[], ◌∷◌, ◌++◌, ◌≡◌, ◌+◌, ◌<◌, ◌≤◌, None, Some, ℕ, IsSome, OnOk, is_some, length, slice_set, take, true, vec_capacity};
+ghost use Rattle.std.specs.Prelude.{IfOk, [], ◌∷◌, ◌++◌, ◌≡◌, ◌+◌, ◌<◌, ◌≤◌, None, Some, ℕ, IsSome, OnOk, is_some, length, slice_set, take, true, vec_capacity};
 ghost use Rattle.lwp_types.specs.Monitors.{depth_in, with_depth};
 ghost use Rattle.lwp_types.specs.MonitorRelease.{is_owned_by, last_lock, lock_of, locks_on, without_lock};
 ghost use Rattle.monitors.specs.Held.{HasPlaces, IsTied};
@@ -9,7 +9,7 @@ ghost use Rattle.lists.specs.ThreadIndex.{IsEmpty, Puts, count_of, place_of, wid
 ghost use Rattle.lists.specs.Living.{living};
 
 use crate::slots::{Link, close_up, deepen, last_on, link_of, lock_at};
-use lists::Index;
+use lists::{Index, cloned_exactly};
 use lwp_types::{Lock, Mid, NoMemory, Tid};
 use std::alloc::Global;
 
@@ -195,6 +195,22 @@ impl Locks {
             last: Index::new(alloc),
             room: 0,
         }
+    }
+
+    /// The same locks, in memory of their own.
+    pub fn again(&self) -> Result<Locks, NoMemory>
+        requires tied { IsTied self.now }
+        ensures tied { IfOk result IsTied }
+        ensures slots { IfOk result (λ copy. copy.slots.items ≡ self.now.slots.items) }
+        ensures room { IfOk result (λ copy. copy.room ≡ self.now.room) }
+    {
+        Ok(Locks {
+            slots: cloned_exactly(&self.slots)?,
+            links: cloned_exactly(&self.links)?,
+            held: self.held.again()?,
+            last: self.last.again()?,
+            room: self.room,
+        })
     }
 
     /// The lock of the monitor, if it is held.

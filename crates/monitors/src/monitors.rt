@@ -8,7 +8,7 @@ ghost use Rattle.monitors.specs.MonitorTable.{after_create, after_destroy, after
 use crate::live::{has, list, take_out};
 use crate::locks::Locks;
 use crate::requests::machine_rows;
-use lists::{Waiting, WaitingList, living};
+use lists::{Waiting, WaitingList, cloned, living};
 use lwp_types::{IdList, Lock, Mid, NoMemory, Request, Sequence, Tid};
 use std::alloc::Global;
 use std::marker::Model;
@@ -81,6 +81,20 @@ impl Monitors {
             locks: Locks::new(alloc),
             requests: WaitingList::new(alloc),
         }
+    }
+
+    /// The same monitors, in memory of their own.
+    pub fn again(&self) -> Result<Monitors, NoMemory>
+        ensures { IfOk result (λ copy. copy ≡ self.now) }
+    {
+        Ok(Monitors {
+            alloc: self.alloc,
+            live: cloned(&self.live)?,
+            births: self.births,
+            limit: self.limit,
+            locks: self.locks.again()?,
+            requests: self.requests.again()?,
+        })
     }
 
     /// Makes places for `n` requests in all; so many may then wait with no more memory.

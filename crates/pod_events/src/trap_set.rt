@@ -40,6 +40,16 @@ impl TrapSet {
         }
     }
 
+    /// An equal set.
+    pub(crate) fn again(&self) -> TrapSet
+        ensures { result ≡ self.now }
+    {
+        TrapSet {
+            flags: self.flags,
+            marks: self.marks,
+        }
+    }
+
     /// Whether the event is trapped.
     pub(crate) fn has(&self, event: u32) -> bool
         ensures { result ≡ is_trapped self.now event }

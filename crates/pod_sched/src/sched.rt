@@ -53,6 +53,16 @@ impl Sched {
         })
     }
 
+    /// The same scheduler, in memory of its own.
+    pub fn again(&self) -> Result<Sched, NoMemory>
+        ensures { IfOk result (λ copy. copy ≡ self.entry.now) }
+    {
+        Ok(Sched {
+            turns: self.turns.again()?,
+            timers: self.timers.again()?,
+        })
+    }
+
     /// Makes places for `n` threads in all; what is done to so many then takes no memory.
     pub fn reserve(&mut self, n: usize) -> Result<(), NoMemory>
         ensures ok { OnOk result (self.new ≡ after_reserve self.old n) }

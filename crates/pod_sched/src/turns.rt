@@ -7,7 +7,7 @@ use crate::Known;
 use crate::bucket::{self, Bucket};
 use crate::buckets::{Buckets, Looks, Steps, first_of_last};
 use crate::rows::{LEVELS, extend_rows, free_slots, may_run, put_row, row_at, tids};
-use lists::{Chains, Index};
+use lists::{Chains, Index, cloned};
 use lwp_types::{IdList, NoMemory, Tid};
 use std::alloc::Global;
 use std::marker::{Brand, Model};
@@ -76,6 +76,20 @@ impl Turns {
             index: Index::with_width(alloc, CELLS)?,
             maxpri,
             places: 0,
+        })
+    }
+
+    /// The same threads, in memory of their own.
+    pub fn again(&self) -> Result<Turns, NoMemory>
+        ensures { IfOk result (λ copy. copy ≡ self.now) }
+    {
+        Ok(Turns {
+            slots: self.slots.again()?,
+            order: self.order.again()?,
+            rows: cloned(&self.rows)?,
+            index: self.index.again()?,
+            maxpri: self.maxpri,
+            places: self.places,
         })
     }
 

@@ -59,6 +59,20 @@ impl Directory {
         }
     }
 
+    /// The same slots, in memory of its own.
+    pub fn again(&self) -> Result<Directory, NoMemory>
+        ensures { IfOk result (λ copy. copy ≡ self.now) }
+    {
+        Ok(Directory {
+            senders: self.senders.again()?,
+            boxes: self.boxes.again()?,
+            used: self.used,
+            held: self.held.again()?,
+            unread: self.unread.again()?,
+            width: self.width,
+        })
+    }
+
     /// Memory for so many slots.
     pub fn with_width(alloc: Global, width: usize) -> Result<Directory, NoMemory>
         requires { width ≤ 2 ^ 62 }

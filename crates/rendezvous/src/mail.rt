@@ -7,7 +7,7 @@ ghost use Rattle.rendezvous.specs.MessageTable.{IsOnePerSender, after_forget, af
 
 use crate::directory::Directory;
 use crate::letters::{copied, next_unread, post, receive, remove, senders_to, widen};
-use crate::slots::{check, sender_at};
+use crate::slots::{self, check, sender_at};
 use lwp_types::{IdList, Letter, LwpErr, NoMemory, Sequence, Tid};
 use std::alloc::Global;
 use std::marker::Model;
@@ -57,6 +57,17 @@ impl<'s> Mail<'s> {
             directory: Directory::new(alloc),
             places: 0,
         }
+    }
+
+    /// The same letters, in memory of their own.
+    pub fn again(&self) -> Result<Mail<'s>, NoMemory>
+        ensures { IfOk result (λ copy. copy ≡ self.now) }
+    {
+        Ok(Mail {
+            slots: slots::again(&self.slots)?,
+            directory: self.directory.again()?,
+            places: self.places,
+        })
     }
 
     /// Makes places for `n` letters in all; so many can then be posted with no more memory.

@@ -1,5 +1,5 @@
 // Where letters lie, in the order of their sending. A letter that goes leaves its slot empty.
-ghost use Rattle.std.specs.Prelude.{[], ◌∷◌, ◌++◌, ◌≡◌, ◌<◌, None, Some, is_some, length, option_map, slice_set, vec_capacity};
+ghost use Rattle.std.specs.Prelude.{[], ◌∷◌, ◌++◌, ◌≡◌, ◌<◌, None, Some, IfOk, is_some, length, option_map, slice_set, vec_capacity};
 ghost use Rattle.std.specs.List.{filter};
 ghost use Rattle.std.specs.Result.{result_err};
 ghost use Rattle.lwp_types.specs.Messages.{as_received};
@@ -8,6 +8,7 @@ ghost use Rattle.rendezvous.specs.MessageTable.{refusal};
 ghost use Rattle.rendezvous.specs.Slots.{IsEmptied, is_held_by, is_unread_by, letter_if, slot_at};
 
 use lwp_types::{Letter, LwpErr, Tid};
+use std::alloc::AllocError;
 
 // One letter more, the last.
 pub fn push<'s>(slots: &mut Vec<Option<Letter<'s>>>, letter: Letter<'s>)
@@ -16,6 +17,28 @@ pub fn push<'s>(slots: &mut Vec<Option<Letter<'s>>>, letter: Letter<'s>)
     ensures capacity { vec_capacity slots.new ≡ vec_capacity slots.old }
 {
     slots.push_reserved(Some(letter));
+}
+
+// The same letter, if there is one.
+fn letter_again<'s>(slot: &Option<Letter<'s>>) -> Option<Letter<'s>>
+    ensures { result ≡ slot.now }
+{
+    match slot {
+        Some(letter) => Some(letter.again()),
+        None => None,
+    }
+}
+
+/// The same slots in memory of their own, and as much room.
+pub fn again<'s>(slots: &Vec<Option<Letter<'s>>>) -> Result<Vec<Option<Letter<'s>>>, AllocError>
+    ensures items { IfOk result (λ copy. copy.items ≡ slots.now.items) }
+    ensures room { IfOk result (λ copy. vec_capacity copy ≡ vec_capacity slots.now) }
+{
+    let mut copy = Vec::with_capacity(*slots.allocator(), slots.capacity())?;
+    for slot in slots.iter() {
+        copy.push_reserved(letter_again(slot));
+    }
+    Ok(copy)
 }
 
 // The slot is empty from now on; the last one goes.

@@ -19,11 +19,11 @@ use Rattle.stale_ids.specs.Register.{AreRising, numbers, value_of, with_value, w
 use Rattle.stale_ids.specs.Index.{IsLater, IsRising, IsAbsent, IsAt, onto, pairs, AreFull, IsSound}
 
 module _ {X : Type 0} (P : X → Type 0) where
-  All-push : (xs : List X) (y : X) → AllByRecursion P xs → P y → AllByRecursion P (xs ++ y ∷ [])
+  pub All-push : (xs : List X) (y : X) → AllByRecursion P xs → P y → AllByRecursion P (xs ++ y ∷ [])
   All-push [] y all here = (here, tt)
   All-push (x ∷ xs) y all here = (all.0, All-push xs y all.1 here)
 
-  All-weaker : (Q : X → Type 0) → ((x : X) → P x → Q x) → (xs : List X) → AllByRecursion P xs → AllByRecursion Q xs
+  pub All-weaker : (Q : X → Type 0) → ((x : X) → P x → Q x) → (xs : List X) → AllByRecursion P xs → AllByRecursion Q xs
   All-weaker Q weaker [] all = tt
   All-weaker Q weaker (x ∷ xs) all = (weaker x all.0, All-weaker Q weaker xs all.1)
 

@@ -1,9 +1,10 @@
 // The registry.
-ghost use Rattle.std.specs.Prelude.{◌≡◌, ◌<◌, ◌≤◌, ◌↔◌, length, IsTrue, IsOk, IsErr, IsSome, IfOk, IfErr, OnOk, OnErr, None, Some, option_copied, slice_index};
+ghost use Rattle.std.specs.Prelude.{◌≡◌, ◌<◌, ◌≤◌, ◌↔◌, length, IsTrue, IsOk, IsErr, IsSome, IfOk, IfErr, OnOk, OnErr, None, Some, option_copied, slice_get, slice_index};
 ghost use Rattle.std.specs.Option.{option_copied_mut};
 ghost use Rattle.std.specs.Borrow.{sem};
 ghost use Rattle.stale_ids.specs.Register.{AreBorn, AreRising, after_insert, after_remove, after_reserve, empty_register, numbers, value_of};
 
+use crate::again::Again;
 use crate::index::{Place, place_of};
 use crate::no_memory::NoMemory;
 use slab::Slab;
@@ -97,11 +98,40 @@ impl<T> Registry<T> {
         if self.births == self.limit {
             return Err(value);
         }
+        let next = self.births;
+        self.add(value);
+        Ok(next)
+    }
+
+    // A birth where there may be one more.
+    #[inline(always)]
+    fn add(&mut self, value: T)
+        requires room { length self.old.live < self.old.places }
+        requires below { self.old.births < self.old.limit }
+        ensures { self.new ≡ after_insert self.old value }
+    {
         let number = self.births;
         let slot = self.values.insert_reserved(value);
         self.index.push_reserved(Place { number, slot });
         self.births += 1;
-        Ok(number)
+    }
+
+    // The next to be born gets this number.
+    fn skip_to(&mut self, number: u64)
+        requires later { self.old.births ≤ number }
+        requires most { number ≤ self.old.limit }
+        ensures { self.new ≡ record self.old { births = number } }
+    {
+        self.births = number;
+    }
+
+    // The one at a place of the index, and its number.
+    fn pair_at(&self, at: usize) -> (u64, &T)
+        requires { at < length self.now.live }
+        ensures { slice_get self.now.live at ≡ Some (result.0, result.1.now) }
+    {
+        let place = self.index[at];
+        (place.number, &self.values[place.slot])
     }
 
     /// The value that lives under the number.
@@ -189,5 +219,24 @@ impl<T> Registry<T> {
         ensures rising { AreRising self.now.live }
     {
         self.index[i].number
+    }
+}
+
+impl<T: Again> Registry<T> {
+    /// An equal registry, in memory of its own. It goes over the living once, the oldest first.
+    pub fn again(&self) -> Result<Registry<T>, NoMemory>
+        ensures { IfOk result (λ copy. copy ≡ self.now) }
+    {
+        let births = self.births();
+        let mut copy = Registry::new(*self.index.allocator(), self.limit);
+        copy.reserve(self.places)?;
+        for at in 0..self.len() {
+            let (number, value) = self.pair_at(at);
+            let value = value.again()?;
+            copy.skip_to(number);
+            copy.add(value);
+        }
+        copy.skip_to(births);
+        Ok(copy)
     }
 }

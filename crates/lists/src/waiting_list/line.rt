@@ -4,6 +4,7 @@ ghost use Rattle.std.specs.List.{list_any};
 ghost use Rattle.lists.specs.WaitingList.Line.{after_join, after_leave, after_reserve, after_set_priority, best_for, empty_line, first_for, thread_waiting_for, has_thread, is_for, waiting_for};
 
 use crate::Index;
+use crate::copies::cloned_queue;
 use crate::waiting_list::Waiting;
 use crate::waiting_list::filing::{dismiss, file_next, next_arrival, prioritize, widen};
 use crate::waiting_list::keys::Key;
@@ -71,6 +72,19 @@ impl WaitingList {
             index: Index::new(alloc),
             places: 0,
         }
+    }
+
+    /// The same threads, in memory of their own.
+    pub fn again(&self) -> Result<WaitingList, NoMemory>
+        ensures { IfOk result (λ copy. copy ≡ self.now) }
+    {
+        Ok(WaitingList {
+            entries: cloned_queue(&self.entries)?,
+            ranks: cloned_queue(&self.ranks)?,
+            arrived: cloned_queue(&self.arrived)?,
+            index: self.index.again()?,
+            places: self.places,
+        })
     }
 
     /// Makes places for `n` in all; so many may then wait with no more memory.

@@ -4,7 +4,7 @@ ghost use Rattle.pod_sched.specs.Buckets.Order.{after_put_before, after_put_last
 
 use crate::buckets::looks::{Looks, Steps};
 use crate::buckets::marks::mark;
-use lists::Chains;
+use lists::{Chains, cloned};
 use std::alloc::{AllocError, Global};
 use std::marker::Model;
 use std::sync::ledger::Ledger;
@@ -80,6 +80,19 @@ impl Buckets {
             prios: Vec::new(alloc),
             marks: [0; 4],
             levels,
+        })
+    }
+
+    /// The same keys in memory of their own.
+    pub fn again(&self) -> Result<Buckets, AllocError>
+        ensures { IfOk result (λ copy. copy ≡ self.now) }
+    {
+        Ok(Buckets {
+            order: self.order.again()?,
+            ready: self.ready.again()?,
+            prios: cloned(&self.prios)?,
+            marks: self.marks,
+            levels: self.levels,
         })
     }
 

@@ -53,6 +53,17 @@ impl Timers {
         }
     }
 
+    /// The same clock, with timers in memory of their own.
+    pub fn again(&self) -> Result<Timers, NoMemory>
+        ensures { IfOk result (λ copy. copy ≡ self.entry.now) }
+    {
+        Ok(Timers {
+            shelf: self.shelf.again()?,
+            now: self.now,
+            places: self.places,
+        })
+    }
+
     /// Makes places for `n` timers in all; so many can then be set with no more memory.
     pub fn reserve(&mut self, n: usize) -> Result<(), NoMemory>
         ensures ok { OnOk result (self.new ≡ after_reserve self.old n) }

@@ -3,6 +3,7 @@ ghost use Rattle.std.specs.Prelude.{[], Some, ◌≡◌, ◌-◌, ◌*◌, ◌^�
 ghost use Rattle.pod_sched.specs.Timers.Leaves.{never};
 ghost use Rattle.pod_sched.specs.Timers.Minima.{IsMended, first_within, leaf_under, node};
 
+use lists::cloned;
 use lwp_types::NoMemory;
 use std::alloc::Global;
 use std::marker::Model;
@@ -130,6 +131,17 @@ impl Minima {
             width: 0,
             height: 0,
         }
+    }
+
+    /// The same leaves in memory of their own.
+    pub fn again(&self) -> Result<Minima, NoMemory>
+        ensures { IfOk result (λ copy. copy ≡ self.now) }
+    {
+        Ok(Minima {
+            nodes: cloned(&self.nodes)?,
+            width: self.width,
+            height: self.height,
+        })
     }
 
     /// So many leaves at least, with no tick.

@@ -9,7 +9,7 @@ ghost use Rattle.pod_sched.specs.Timers.Leaves.{IsOnce, after_pack, after_take, 
 ghost use Rattle.lists.specs.Living.{living};
 
 use crate::timers::minima::{Minima, NEVER};
-use lists::{self, Index};
+use lists::{self, Index, cloned_exactly};
 use lwp_types::{NoMemory, Sequence, Tid, TimerRow};
 use std::alloc::Global;
 use std::marker::Model;
@@ -112,6 +112,17 @@ impl Shelf {
             dues: Minima::new(alloc),
             index: Index::new(alloc),
         }
+    }
+
+    /// The same leaves in memory of their own.
+    pub fn again(&self) -> Result<Shelf, NoMemory>
+        ensures { IfOk result (λ copy. copy ≡ self.now) }
+    {
+        Ok(Shelf {
+            leaves: cloned_exactly(&self.leaves)?,
+            dues: self.dues.again()?,
+            index: self.index.again()?,
+        })
     }
 
     /// How many leaves there may be.
