@@ -1,0 +1,5 @@
+pub mod Calls
+pub mod Records
+pub mod Effects
+pub mod Handle
+pub mod Held
