@@ -20,8 +20,12 @@ int main(int argc, char **argv) {
     for (unsigned long turn = 0; turn <= turns; turn++) {
         if (loq_current(&pod, &yield.target) != LOQ_DONE) return 2;
         if (loq_call(&pod, turn == 0 ? &create : &yield, (const uint8_t *)"", 0) != LOQ_DONE) return 3;
-        for (size_t i = 0; loq_effect(&pod, i, &effect, text, sizeof text, ids, 1) == LOQ_DONE; i++)
+        size_t count = 0;
+        if (loq_effects(&pod, &count) != LOQ_DONE) return 4;
+        for (size_t i = 0; i < count; i++) {
+            if (loq_effect(&pod, i, &effect, text, sizeof text, ids, 1) != LOQ_DONE) return 5;
             answers += effect.kind == LOQ_ANSWERED;
+        }
     }
     loq_pod_free(&pod);
     printf("%lu turns, %llu answers\n", turns, (unsigned long long)answers);
