@@ -1,3 +1,4 @@
+pub mod Along
 pub mod Boxes
 pub mod Fronts
 pub mod Handles

@@ -1,5 +1,6 @@
 pub mod Calls
 pub mod Records
 pub mod Effects
+pub mod Follow
 pub mod Handle
 pub mod Held

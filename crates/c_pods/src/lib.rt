@@ -4,19 +4,22 @@
 //! owns that memory (`specs/Handle.antt`). `HeldPod` is a pod with what its last call or delivery did, the names of its procedures, and
 //! the lines of the trace of that step (`specs/Held.antt`). `call_of` reads the call that a `CallRecord` and a text mean, and
 //! `effect_record` is what C is told of an effect, with `effect_text` and the numbers that `put_ids` puts beside it: all parts of each
-//! effect that there is (`specs/Calls.antt`, `specs/Records.antt`, `specs/Effects.antt`).
+//! effect that there is (`specs/Calls.antt`, `specs/Records.antt`, `specs/Effects.antt`). `follow` goes along a recorded trace as far as it
+//! has the lines of a step (`specs/Follow.antt`).
 //!
 //! The crate stands on the pods of `lwp_calls` with the events of `pod_events`, and on the lines of `trace_text`.
 #![tactic(auto)]
 
 mod calls;
 mod effects;
+mod following;
 mod handle;
 mod held_pod;
 mod records;
 
 pub use calls::{CallRecord, call_of};
 pub use effects::{EffectRecord, NO_EFFECT, effect_text, put_bytes, put_ids, put_text, set_effect};
+pub use following::{Followed, Place, follow};
 pub use handle::PodHandle;
 pub use held_pod::{HeldPod, Last};
 pub use records::{call_record, call_text, exit_record, exit_text};

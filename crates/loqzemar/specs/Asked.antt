@@ -1,8 +1,11 @@
 -- What is asked of a handle, and why it is refused.
 use Rattle.c_pods.specs.Effects.{effect_ids, effect_record, effect_text, no_effect}
+use Rattle.c_pods.specs.Follow.{follow_from}
+use Rattle.c_pods.specs.Held.{lines_of}
 use Rattle.c_pods.specs.declared.effects.EffectRecord.{EffectRecord}
+use Rattle.c_pods.specs.declared.following.Followed.{Followed}
 use Rattle.c_pods.specs.declared.held_pod.HeldPod.{HeldPod}
-use Rattle.loqzemar.specs.Status.{bad_call, bad_text, done, no_pod, no_such_effect, nobody, not_armed, too_small}
+use Rattle.loqzemar.specs.Status.{bad_call, bad_text, differs, done, no_pod, no_such_effect, nobody, not_armed, too_small}
 use Rattle.lwp_types.specs.declared.call.Effect.{Effect}
 use Rattle.lwp_types.specs.declared.call.PodEnd.{PodEnd}
 use Rattle.lwp_types.specs.declared.call.PodEnd.TheVariants.{Ended, Idle}
@@ -121,3 +124,15 @@ text_or_none (Some e) = effect_text e
 abbrev pub ids_or_none : Option Effect → List ℕ
 ids_or_none None = []
 ids_or_none (Some e) = effect_ids e
+
+-- a pod but for the lines that were asked for last
+abbrev pub but_lines : HeldPod → HeldPod
+but_lines held = record held { lines = [] }
+
+-- a recorded trace beside the lines of the last step
+abbrev pub followed : HeldPod → List ℕ → ℕ → ℕ → Followed
+followed held trace at line = follow_from (lines_of held) trace (record { at = at; line = line })
+
+-- by whether all lines were the trace's
+abbrev pub follow_status : Bool → ℕ
+follow_status same = if same then done else differs

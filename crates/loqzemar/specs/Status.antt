@@ -40,3 +40,7 @@ bad_number = 8
 -- a buffer is too small
 abbrev pub too_small : ℕ
 too_small = 9
+
+-- a line is not that of the recorded trace
+abbrev pub differs : ℕ
+differs = 10

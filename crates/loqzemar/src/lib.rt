@@ -11,9 +11,9 @@
 
 ghost use Rattle.c_pods.specs.Calls.{call_of};
 ghost use Rattle.c_pods.specs.Effects.{put_front};
-ghost use Rattle.c_pods.specs.Held.{Tells, last_called, lines_of};
+ghost use Rattle.c_pods.specs.Held.{Tells, last_called};
 ghost use Rattle.c_pods.specs.declared.held_pod.Last.TheVariants as last;
-ghost use Rattle.loqzemar.specs.Asked.{armed_or, asked, call_refusal, count_or, current_or, current_status, delivery_status, effect_at, effect_status, effect_status_if, end_numbers_or, ids_or_none, is_out_of_range, line_status, pod_in, record_or_none, room_status, text_or_none, with_name};
+ghost use Rattle.loqzemar.specs.Asked.{armed_or, asked, call_refusal, count_or, current_or, current_status, delivery_status, effect_at, effect_status, effect_status_if, end_numbers_or, ids_or_none, is_out_of_range, line_status, pod_in, record_or_none, text_or_none, with_name};
 ghost use Rattle.lwp_types.specs.State.{opening};
 ghost use Rattle.lwp_types.specs.TextFields.{is_text};
 ghost use Rattle.pod_events.specs.Events.{quiet_events, take_event};
@@ -21,32 +21,19 @@ ghost use Rattle.pod_events.specs.Machine.{asks_memory};
 ghost use Rattle.pod_events.specs.Step.{event_step};
 ghost use Rattle.std.specs.Prelude.{◌≡◌, ◌≢◌, ◌≤◌, ◌<◌, ◌^◌, [], false, IfSome, IsTrue, None, Some, is_some, length, nat_lt, option_copied, option_map, true};
 
+mod status;
+mod traces;
+
 use c_pods::{
-    CallRecord, EffectRecord, HeldPod, NO_EFFECT, PodHandle, call_of, effect_text, put_bytes,
-    put_ids, put_text, set_effect,
+    CallRecord, EffectRecord, HeldPod, NO_EFFECT, PodHandle, call_of, effect_text, put_ids,
+    put_text, set_effect,
 };
 use lwp_types::{Call, Effect, Line, PodEnd, PodParams, Text, is_text};
+use status::{
+    BAD_CALL, BAD_NUMBER, BAD_TEXT, DONE, NO_MEMORY, NO_POD, NO_SUCH_EFFECT, NOBODY, NOT_ARMED,
+    TOO_SMALL,
+};
 use std::alloc::Global;
-
-const DONE: u32 = 0;
-
-const NO_MEMORY: u32 = 1;
-
-const NO_POD: u32 = 2;
-
-const NOBODY: u32 = 3;
-
-const BAD_CALL: u32 = 4;
-
-const BAD_TEXT: u32 = 5;
-
-const NOT_ARMED: u32 = 6;
-
-const NO_SUCH_EFFECT: u32 = 7;
-
-const BAD_NUMBER: u32 = 8;
-
-const TOO_SMALL: u32 = 9;
 
 // Whether a number isn't one that a pod can be made with.
 fn is_out_of_range(maxpri: u32, births: u64, procs: u32) -> bool
@@ -373,39 +360,4 @@ pub extern "C" fn loq_name(alloc: Global, handle: &mut PodHandle, name: &[u8]) -
         Ok(()) => DONE,
         Err(_) => NO_MEMORY,
     }
-}
-
-/// The lines of the trace of the last call or delivery: how many bytes they are, and the first of them at the front of a buffer.
-#[unsafe(no_mangle)]
-pub extern "C" fn loq_lines(
-    alloc: Global,
-    handle: &mut PodHandle,
-    out: &mut [u8],
-    len: &mut usize,
-) -> u32
-    ensures none { handle.old.pod ≡ None → (result ≡ 2) × (len.new ≡ len.old) × (out.new ≡ out.old) }
-    ensures status { IfSome handle.old.pod (λ held. result ≢ 1
-        → result ≡ room_status (length (lines_of held)) (length out.old)) }
-    ensures len { IfSome handle.old.pod (λ held. result ≢ 1 → len.new ≡ length (lines_of held)) }
-    ensures lines { IfSome handle.old.pod (λ held. result ≢ 1 → out.new ≡ put_front (lines_of held) out.old) }
-    ensures unwritten { result ≡ 1 → (len.new ≡ len.old) × (out.new ≡ out.old) }
-    ensures pod { pod_in handle.new.pod ≡ pod_in handle.old.pod }
-    ensures effects { option_map (λ held. held.effects) handle.new.pod ≡ option_map (λ held. held.effects) handle.old.pod }
-    ensures last { option_map (λ held. held.last) handle.new.pod ≡ option_map (λ held. held.last) handle.old.pod }
-    ensures names { option_map (λ held. held.names) handle.new.pod ≡ option_map (λ held. held.names) handle.old.pod }
-{
-    let Some(mut held) = handle.take(alloc) else {
-        return NO_POD;
-    };
-    let Ok(()) = held.write_lines() else {
-        handle.fill(held);
-        return NO_MEMORY;
-    };
-    let room = out.len();
-    let lines = held.lines.bytes();
-    let count = lines.len();
-    put_bytes(lines, out);
-    handle.fill(held);
-    *len = count;
-    if room < count { TOO_SMALL } else { DONE }
 }
