@@ -49,7 +49,8 @@ enum {
     LOQ_NOT_ARMED = 6,   // no line of the event can be taken
     LOQ_NO_EFFECT = 7,   // the last step did fewer things than that
     LOQ_BAD_NUMBER = 8,  // a number is out of its range
-    LOQ_TOO_SMALL = 9    // a buffer is too small; what is told says how large it should be, and the front is in it
+    LOQ_TOO_SMALL = 9,   // a buffer is too small; what is told says how large it should be, and the front is in it
+    LOQ_DIFFERS = 10     // a line is not that of the recorded trace
 };
 
 #define LOQ_NULL UINT64_MAX // the thread, monitor or condition that there never is
@@ -206,6 +207,12 @@ uint32_t loq_name(loq_pod *pod, const uint8_t *name, size_t name_len);
 // The lines of the trace of the last call or delivery, and how many bytes they are. LOQ_TOO_SMALL: the first of them are in the buffer.
 // LOQ_NO_POD, LOQ_NO_MEMORY: the buffer and the number are as they were.
 uint32_t loq_lines(loq_pod *pod, uint8_t *out, size_t room, size_t *len);
+
+// The lines of the last call or delivery, compared with a recorded trace from its byte *at on, where its line *line begins: 0 and 1 before
+// the first step. Where they are the trace's, both then tell where its next line begins. LOQ_DIFFERS: both tell where the first line begins
+// that differs; a trace that ends before it differs too. LOQ_NO_POD, LOQ_NO_MEMORY: both are as they were. Lines are counted up to
+// SIZE_MAX, and a place after the end of the trace is as good as its end. The bytes of the trace need only be there during the call.
+uint32_t loq_follow(loq_pod *pod, const uint8_t *trace, size_t trace_len, size_t *at, size_t *line);
 
 #ifdef __cplusplus
 }

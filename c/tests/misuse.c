@@ -72,6 +72,8 @@ static void on_no_pod(loq_pod *pod) {
     CHECK(effect.kind == UINT32_MAX && text[0] == 10 && ids[0] == 6);
     CHECK(name(pod, "main") == LOQ_NO_POD);
     CHECK(loq_lines(pod, text, 1, &count) == LOQ_NO_POD && count == 9 && text[0] == 10);
+    size_t at = 11, line = 12;
+    CHECK(loq_follow(pod, text, 1, &at, &line) == LOQ_NO_POD && at == 11 && line == 12);
     loq_pod_free(pod);
 }
 
@@ -154,6 +156,48 @@ static void small_buffers(loq_pod *pod) {
     CHECK(loq_effect(pod, SIZE_MAX, &effect, out, 0, ids, 3) == LOQ_NO_EFFECT);
 }
 
+// The lines of a step beside a recorded trace, from a place of it on.
+static void follows(loq_pod *pod, const char *trace, size_t at, size_t line, uint32_t status, size_t then, size_t then_line) {
+    CHECK(loq_follow(pod, (const uint8_t *)trace, strlen(trace), &at, &line) == status);
+    CHECK(at == then && line == then_line);
+}
+
+static void bad_traces(loq_pod *pod) {
+    CHECK(call(pod, (loq_call_t){.kind = LOQ_THREADS}, "") == LOQ_DONE);
+    // The same, with other lines before and after it; a step that is asked about twice is compared twice.
+    follows(pod, "t0: threads\nt0 = ids t0 t1\n", 0, 1, LOQ_DONE, 27, 3);
+    follows(pod, "x\nt0: threads\nt0 = ids t0 t1\nt0: me\n", 2, 7, LOQ_DONE, 29, 9);
+    // The first line differs, the second does, or has more or fewer bytes.
+    follows(pod, "t1: threads\nt0 = ids t0 t1\n", 0, 1, LOQ_DIFFERS, 0, 1);
+    follows(pod, "t0: threads\nt0 = ids t0 t2\n", 0, 1, LOQ_DIFFERS, 12, 2);
+    follows(pod, "t0: threads\nt0 = ids t0 t1 t2\n", 0, 1, LOQ_DIFFERS, 12, 2);
+    follows(pod, "t0: threads\nt0 = ids t0\n", 0, 1, LOQ_DIFFERS, 12, 2);
+    // The trace ends early: at once, in a line, between lines.
+    follows(pod, "", 0, 1, LOQ_DIFFERS, 0, 1);
+    follows(pod, "t0: thr", 0, 1, LOQ_DIFFERS, 0, 1);
+    follows(pod, "t0: threads\n", 0, 1, LOQ_DIFFERS, 12, 2);
+    follows(pod, "t0: threads\nt0 = ids t0 t1", 0, 1, LOQ_DIFFERS, 12, 2);
+    // Places after the end, and lines that are no longer counted.
+    follows(pod, "t0: threads\n", 13, 5, LOQ_DIFFERS, 13, 5);
+    follows(pod, "t0: threads\n", SIZE_MAX, 5, LOQ_DIFFERS, SIZE_MAX, 5);
+    follows(pod, "t0: threads\nt0 = ids t0 t1\n", 0, SIZE_MAX - 1, LOQ_DONE, 27, SIZE_MAX);
+    // Memory is refused where the lines are written, and then it isn't.
+    loq_call_t longest = {.kind = LOQ_SAY};
+    char text[LOQ_TEXT_MAX + 1];
+    memset(text, 'y', LOQ_TEXT_MAX);
+    text[LOQ_TEXT_MAX] = 0;
+    CHECK(call(pod, longest, text) == LOQ_DONE);
+    for (long n = 0;; n++) {
+        size_t at = 3, line = 4;
+        granted = n;
+        uint32_t status = loq_follow(pod, (const uint8_t *)"", 0, &at, &line);
+        granted = -1;
+        CHECK(at == 3 && line == 4);
+        if (status == LOQ_DIFFERS) break;
+        CHECK(status == LOQ_NO_MEMORY);
+    }
+}
+
 // A trap is raised before a call, whose effects then name the call.
 static void trapped(loq_pod *pod) {
     bool armed = false;
@@ -191,6 +235,7 @@ int main(void) {
     insist(&pod, (loq_call_t){.kind = LOQ_HANDLE, .any = true, .func = LOQ_GIVE, .arg = 3}, "");
     insist(&pod, (loq_call_t){.kind = LOQ_ONEXIT, .exit = LOQ_SAY}, "at the end");
     small_buffers(&pod);
+    bad_traces(&pod);
     trapped(&pod);
     uint64_t tid = 0;
     uint32_t why = 9, status = 9;
