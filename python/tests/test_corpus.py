@@ -8,7 +8,8 @@ import pytest
 from loqzemar import End, Pod
 from scripts import Script
 
-CORPUS = pathlib.Path(os.environ.get("LOQZEMAR_CORPUS", pathlib.Path(__file__).resolve().parents[2] / "crates" / "corpus" / "data"))
+TOP = pathlib.Path(os.environ.get("LOQZEMAR_TOP", pathlib.Path(__file__).resolve().parents[2]))
+CORPUS = TOP / "crates" / "corpus" / "data"
 
 
 def chosen() -> List[pathlib.Path]:
