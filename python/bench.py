@@ -69,7 +69,7 @@ def main() -> int:
     print(f"two threads that yield:              {bare:5.2f} microseconds a turn")
     print(f"  with the trace:                    {measured(True, two_that_yield, yielding):5.2f}")
     print(f"  as async def:                      {measured(False, two_that_await, awaiting):5.2f}")
-    print(f"letters, of three turns each:        {measured(False, letters, server):5.2f}")
+    print(f"letters:                             {measured(False, letters, server):5.2f}")
     print(f"  with the trace:                    {measured(True, letters, server):5.2f}")
     return int(len(sys.argv) > 1 and bare > float(sys.argv[1]))
 
