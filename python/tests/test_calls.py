@@ -440,6 +440,39 @@ def test_what_is_no_call() -> None:
     assert ran(main).trace.startswith("t0: say on\n")
 
 
+def test_a_body_that_cannot_be_made() -> None:
+    def main() -> Making:
+        with pytest.raises(TypeError):
+            yield lwp_create(idler, 1, "one argument too many")
+        with pytest.raises(TypeError):
+            yield call(idler, "one argument too many")
+        yield lwp_yield(FIRST)
+
+    assert ran(main, idler).trace.count("dies") == 2
+
+
+def test_what_a_body_raises_on_its_way_out() -> None:
+    def main() -> Making:
+        yield lwp_create(fails)
+        yield lwp_create(fails)
+        yield lwp_yield(FIRST)
+        yield pod_exit(3)
+
+    def fails() -> Making:
+        try:
+            yield lwp_sleep(1)
+        finally:
+            left.append(1)
+            raise KeyError("out")
+
+    left: List[int] = []
+    pod = Pod(main, fails)
+    with pytest.raises(KeyError):
+        pod.run()
+    assert left == [1, 1]
+    assert pod.run() is End.ENDED and pod.status == 3 and pod.trace.endswith("pod ends 3\n")
+
+
 def test_bad_pods_and_lines() -> None:
     def plain() -> int:
         return 3

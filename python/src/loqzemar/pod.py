@@ -51,7 +51,7 @@ class _Thread:
 
     def __init__(self, body: Any) -> None:
         self.frames = [_Frame(body)]
-        self.send = body.send
+        self.send: Any = getattr(body, "send", None)
         # The answer: an exception to be raised, or else a value.
         self.value: Any = None
         self.error: Optional[BaseException] = None
@@ -63,7 +63,7 @@ class _Thread:
     def begin(self, body: Any) -> None:
         """A procedure is called."""
         self.frames.append(_Frame(body))
-        self.send = body.send
+        self.send = getattr(body, "send", None)
         self.value = None
 
     def leave(self) -> None:
@@ -250,10 +250,14 @@ class Pod:
 
     def close(self) -> None:
         """Ends the bodies of all threads that live, without any more calls."""
-        for thread in list(self._threads.values()):
-            while thread.frames:
-                thread.leave()
-        self._threads.clear()
+        failure: Optional[BaseException] = None
+        while self._threads:
+            try:
+                self._die(next(iter(self._threads)))
+            except BaseException as error:
+                failure = failure or error
+        if failure is not None:
+            raise failure
 
     # Where the run stops.
     def _over(self, end: End) -> End:
@@ -307,28 +311,36 @@ class Pod:
                 thread.error = fault if type(call) is Call else TypeError(f"a body yields calls, as lwp_yield(tid), and not {call!r}")
         self._calls += 1
         thread.made = call
-        if self._lines is not None:
-            self._lines.append(self._core.lines())
         # By far most turns do one thing: the caller is answered a number.
         if len(effects) == 1:
             effect, tid, answer, said = effects[0]
             if effect == ANSWERED and answer == VALUE and tid == who and kind not in _SPECIAL:
                 thread.value = said
+                if self._lines is not None:
+                    self._lines.append(self._core.lines())
                 return
         self._take(who, call, effects)
 
-    # What a step did.
+    # What a step did, and its lines. What is raised by bodies that end comes out when all is done.
     def _take(self, who: Optional[int], call: Optional[Call[Any]], effects: Effects) -> None:
+        failure: Optional[BaseException] = None
         for kind, tid, answer, said in effects:
-            if kind == ANSWERED:
-                self._answer(tid, answer, said)
-                if call is not None and tid == who and answer != REFUSED and answer != CAUGHT and call.kind in _SPECIAL:
-                    self._grant(self._threads[tid], call, said)
-            elif kind == DIED:
-                self._die(tid)
-            elif kind == ENDED:
-                self._status = said
-                self.close()
+            try:
+                if kind == ANSWERED:
+                    self._answer(tid, answer, said)
+                    if call is not None and tid == who and answer != REFUSED and answer != CAUGHT and call.kind in _SPECIAL:
+                        self._grant(self._threads[tid], call, said)
+                elif kind == DIED:
+                    self._die(tid)
+                elif kind == ENDED:
+                    self._status = said
+                    self.close()
+            except BaseException as error:
+                failure = failure or error
+        if self._lines is not None:
+            self._lines.append(self._core.lines())
+        if failure is not None:
+            raise failure
 
     def _answer(self, tid: int, answer: int, said: Any) -> None:
         thread = self._threads[tid]
@@ -345,9 +357,13 @@ class Pod:
     def _grant(self, thread: _Thread, call: Call[Any], said: Any) -> None:
         kind = call.kind
         if kind == CREATE:
-            self._threads[said] = _Thread(self._begun(call))
+            body, failure = self._begun(call)
+            self._threads[said] = _Thread(body)
+            thread.error = failure
         elif kind == CALLPROC:
-            thread.begin(self._begun(call))
+            body, failure = self._begun(call)
+            thread.begin(body)
+            thread.failure = failure
         elif kind == RETURN:
             thread.leave()
             thread.value, thread.error = thread.result, thread.failure
@@ -359,9 +375,13 @@ class Pod:
         elif self._tell is not None and call.target in self._holders:
             self._tell(self._holders.pop(call.target), call.text)
 
-    def _begun(self, call: Call[Any]) -> Any:
+    # The body of a procedure, or what its making raised: then it is at its end, and the caller is told.
+    def _begun(self, call: Call[Any]) -> Tuple[Any, Optional[Exception]]:
         proc, args = call.attached
-        return self._body(proc if isinstance(proc, int) else self._numbers[proc], args)
+        try:
+            return self._body(proc if isinstance(proc, int) else self._numbers[proc], args), None
+        except Exception as failure:
+            return None, failure
 
     def _catch(self, thread: _Thread, depth: int, mark: int, pattern: int) -> None:
         while len(thread.frames) > depth:
@@ -377,8 +397,6 @@ class Pod:
 
     def _deliver(self, event: int, client: int, number: int, text: str) -> None:
         effects = self._core.deliver(event, client, number, text)
-        if self._lines is not None:
-            self._lines.append(self._core.lines())
         self._taken[client] = self._taken.get(client, 0) + 1
         for kind, tid, _, _ in effects:
             if kind == DELIVERED:
