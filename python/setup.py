@@ -32,8 +32,7 @@ def heap():
 
 def macros(header):
     """What the library has besides the first eleven functions."""
-    text = header.read_text()
-    return [(macro, "1") for macro, word in (("LOQ_HAS_STATE", "loq_state("), ("LOQ_HAS_FOLLOW", "loq_follow(")) if word in text]
+    return [("LOQ_HAS_STATE", "1")] if "loq_state(" in header.read_text() else []
 
 
 HEADERS = pathlib.Path(os.environ.get("LOQZEMAR_HEADER_DIR", TOP / "c"))

@@ -507,19 +507,6 @@ static PyObject *state(PyObject *self, PyObject *unused) {
 }
 #endif
 
-#ifdef LOQ_HAS_FOLLOW
-static PyObject *follow(PyObject *self, PyObject *args) {
-    const char *trace;
-    Py_ssize_t len;
-    unsigned long long at, line;
-    if (!PyArg_ParseTuple(args, "s#KK", &trace, &len, &at, &line)) return NULL;
-    size_t place = (size_t)at, number = (size_t)line;
-    uint32_t status = loq_follow(&((core_object *)self)->pod, (const uint8_t *)trace, (size_t)len, &place, &number);
-    if (status != LOQ_DONE && status != LOQ_DIFFERS) return fault(status);
-    return Py_BuildValue("(NKK)", PyBool_FromLong(status == LOQ_DONE), (unsigned long long)place, (unsigned long long)number);
-}
-#endif
-
 static PyMethodDef core_methods[] = {
     {"current", current, METH_NOARGS, "Whose turn it is, or None."},
     {"ending", ending, METH_NOARGS, "Why it is nobody's turn (0 it is somebody's, 1 the pod has ended, 2 nobody may run), and the exit status."},
@@ -530,9 +517,6 @@ static PyMethodDef core_methods[] = {
     {"lines", lines, METH_NOARGS, "The lines of the trace of the last call or delivery."},
 #ifdef LOQ_HAS_STATE
     {"state", state, METH_NOARGS, "The state of the pod as a text."},
-#endif
-#ifdef LOQ_HAS_FOLLOW
-    {"follow", follow, METH_VARARGS, "Whether the last step is what a trace tells at this place, and the next place and line."},
 #endif
     {NULL, NULL, 0, NULL},
 };

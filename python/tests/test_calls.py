@@ -10,6 +10,7 @@ from typing import Any, Callable, Generator, List, Tuple
 import loqzemar
 import pytest
 from loqzemar import *
+from loqzemar._loqzemar import Core
 
 TOP = pathlib.Path(os.environ.get("LOQZEMAR_TOP", pathlib.Path(__file__).resolve().parents[2]))
 Making = Generator[Call[Any], Any, Any]
@@ -580,6 +581,16 @@ def test_following_something_else() -> None:
     with pytest.raises(Differs) as differs:
         Pod(echo).follow(pod.trace + "t0: self\n")
     assert differs.value.line == len(lines) + 1
+
+
+def test_state() -> None:
+    pod = Pod(idler)
+    pod.run()
+    if hasattr(Core, "state"):
+        assert "t0 idler prio 1 sleeps until 1\n" in pod.state()
+    else:
+        with pytest.raises(NotImplementedError):
+            pod.state()
 
 
 def test_a_pod_is_freed() -> None:

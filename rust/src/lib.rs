@@ -45,6 +45,10 @@
 //! the system. What is left is [`Fault`]: memory that is refused, and numbers out of range as a pod is set up.
 #![warn(missing_docs)]
 
+#[cfg(doctest)]
+#[doc = include_str!("../README.md")]
+struct Readme;
+
 mod answer;
 mod call;
 mod pod;

@@ -384,22 +384,23 @@ impl<'t> Pod<'t> {
     }
 
     // A text as the library is to have it: it lasts as long as the pod.
-    #[inline]
+    #[inline(always)]
     fn lend(texts: &mut Vec<Box<str>>, text: Cow<'t, str>) -> (*const u8, usize) {
         match text {
             Cow::Borrowed(text) => (text.as_ptr(), text.len()),
-            Cow::Owned(text) => {
-                let text = text.into_boxed_str();
-                let lent = (text.as_ptr(), text.len());
-                if lent.1 != 0 {
-                    texts.push(text);
-                }
-                lent
-            }
+            Cow::Owned(text) => Pod::keep(texts, text.into_boxed_str()),
         }
     }
 
+    #[cold]
+    fn keep(texts: &mut Vec<Box<str>>, text: Box<str>) -> (*const u8, usize) {
+        let lent = (text.as_ptr(), text.len());
+        texts.push(text);
+        lent
+    }
+
     // One call of the thread whose turn it is.
+    #[inline(always)]
     fn turn(&mut self, tid: Tid) -> Result<(), Fault> {
         if self.unwritten {
             self.write_lines()?;
