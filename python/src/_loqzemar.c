@@ -93,13 +93,19 @@ static int take_argument(call_object *call, Py_ssize_t at, PyObject *value) {
     return 0;
 }
 
+// Only what goes with a call can refer back to it.
+static PyObject *tracked(call_object *call) {
+    if (call->with) PyObject_GC_Track(call);
+    return (PyObject *)call;
+}
+
 static PyObject *make_call(PyObject *module, PyObject *const *args, Py_ssize_t count) {
     (void)module;
     if (count < 1 || count > ARGUMENTS) {
         PyErr_SetString(PyExc_TypeError, "a call has 1 to 16 arguments");
         return NULL;
     }
-    call_object *call = PyObject_New(call_object, call_type);
+    call_object *call = PyObject_GC_New(call_object, call_type);
     if (!call) return NULL;
     memset(&call->record, 0, sizeof call->record);
     call->text = call->with = NULL;
@@ -108,14 +114,26 @@ static PyObject *make_call(PyObject *module, PyObject *const *args, Py_ssize_t c
             Py_DECREF(call);
             return NULL;
         }
-    return (PyObject *)call;
+    return tracked(call);
 }
 
 static void free_call(PyObject *self) {
     call_object *call = (call_object *)self;
+    PyObject_GC_UnTrack(self);
     Py_XDECREF(call->text);
     Py_XDECREF(call->with);
     free_object(self);
+}
+
+static int visit_call(PyObject *self, visitproc visit, void *arg) {
+    Py_VISIT(Py_TYPE(self));
+    Py_VISIT(((call_object *)self)->with);
+    return 0;
+}
+
+static int clear_call(PyObject *self) {
+    Py_CLEAR(((call_object *)self)->with);
+    return 0;
 }
 
 static PyObject *get_kind(PyObject *self, void *closure) {
@@ -153,7 +171,7 @@ static PyObject *get_with(PyObject *self, void *closure) {
 static PyObject *numbered(PyObject *self, PyObject *number) {
     uint64_t n;
     if (take_number(number, UINT32_MAX, &n)) return NULL;
-    call_object *from = (call_object *)self, *call = PyObject_New(call_object, call_type);
+    call_object *from = (call_object *)self, *call = PyObject_GC_New(call_object, call_type);
     if (!call) return NULL;
     call->record = from->record;
     call->record.number = (uint32_t)n;
@@ -161,7 +179,7 @@ static PyObject *numbered(PyObject *self, PyObject *number) {
     Py_XINCREF(from->with);
     call->text = from->text;
     call->with = from->with;
-    return (PyObject *)call;
+    return tracked(call);
 }
 
 static PyObject *ask(PyObject *self) {
@@ -191,6 +209,8 @@ static PyMethodDef call_methods[] = {
 static PyType_Slot call_slots[] = {
     {Py_tp_doc, "A call: `yield` it for its answer, `yield from` it or `await` it for its answer with its type."},
     {Py_tp_dealloc, free_call},
+    {Py_tp_traverse, visit_call},
+    {Py_tp_clear, clear_call},
     {Py_tp_getset, call_fields},
     {Py_tp_methods, call_methods},
     {Py_tp_iter, ask},
@@ -198,7 +218,7 @@ static PyType_Slot call_slots[] = {
     {0, NULL},
 };
 static PyType_Spec call_spec = {"loqzemar._loqzemar.Call", sizeof(call_object), 0,
-                                Py_TPFLAGS_DEFAULT | Py_TPFLAGS_DISALLOW_INSTANTIATION, call_slots};
+                                Py_TPFLAGS_DEFAULT | Py_TPFLAGS_HAVE_GC | Py_TPFLAGS_DISALLOW_INSTANTIATION, call_slots};
 
 static void free_asked(PyObject *self) {
     Py_XDECREF(((asked_object *)self)->call);

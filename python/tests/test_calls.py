@@ -594,19 +594,43 @@ def test_state() -> None:
 
 
 def test_a_pod_is_freed() -> None:
-    def main(thing: object) -> Making:
+    def main(thing: "Thing") -> Making:
+        yield lwp_create(other, 1, thing)
+        yield lwp_sleep(1)
+
+    def other(thing: "Thing") -> Making:
+        yield from lwp_create(other, 1, thing, suspended=True)
         yield lwp_sleep(1)
 
     class Thing:
-        pass
+        pod: Pod
 
     thing = Thing()
-    pod = Pod(main, args=(thing,))
-    pod.run()
+    # A cycle, through the pod, its threads, their last calls and what goes with those.
+    thing.pod = Pod(main, other, args=(thing,))
+    thing.pod.run(3)
     gone = weakref.ref(thing)
-    del thing, pod
+    del thing
     gc.collect()
     assert gone() is None
+
+
+def test_no_call_is_lost() -> None:
+    def main() -> Making:
+        while True:
+            yield lwp_create(short, 1, "x" * 30)
+            yield lwp_yield(FIRST)
+
+    def short(word: str) -> Making:
+        yield from lwp_self()
+
+    pod = Pod(main, short, trace=False)
+    pod.run(1000)
+    gc.collect()
+    before = len(gc.get_objects())
+    pod.run(10000)
+    gc.collect()
+    assert len(gc.get_objects()) < before + 100
 
 
 def test_every_public_name_has_a_docstring() -> None:
