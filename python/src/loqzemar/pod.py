@@ -202,10 +202,12 @@ class Pod:
             raise ValueError(f"a client is a number from 0 to 255, and not {client}")
         number = self._posted.get(client, 0)
         self._posted[client] = number + 1
-        if event not in self._waiting:
-            self._waiting[event] = deque()
-            self._waiting = dict(sorted(self._waiting.items()))
-        self._waiting[event].append((client, number, text))
+        line = (client, number, text)
+        lines = self._waiting.get(event)
+        if lines is None:
+            self._waiting[event] = deque((line,))
+        else:
+            lines.append(line)
 
     def tick(self, text: str = "") -> None:
         """Posts a tick of the clock, which is event 0."""
@@ -215,12 +217,14 @@ class Pod:
         """Runs until the pod has ended, or nobody may run, or so many calls were made. It can be run on.
 
         What a body raises and doesn't catch comes out of here; if the pod is run on, that thread returns."""
-        with _Guard(self):
+        self._begin()
+        try:
             last = None if turns is None else self._calls + turns
+            current, turn = self._core.current, self._turn
             while True:
-                who = self._core.current()
+                who = current()
                 if who is None:
-                    if self._core.ending()[0] == 1:
+                    if self._status is not None:
                         return self._over(End.ENDED)
                     if not (self._waiting and self._boundary()):
                         return self._over(End.IDLE)
@@ -228,14 +232,17 @@ class Pod:
                 if self._calls == last:
                     return self._over(End.SPENT)
                 if self._waiting and self._boundary():
-                    who = self._core.current()
-                self._turn(who)
+                    who = current()
+                turn(who)
+        finally:
+            self._busy = False
 
     def follow(self, record: str) -> End:
         """Runs as a recorded trace tells: each line is taken where it was taken then, and nothing has to be posted.
 
         Differs is raised where the run isn't the recorded one. Where the record ends early, so does this, and the pod can be run on."""
-        with _Guard(self):
+        self._begin()
+        try:
             told = Record(record)
             while not told.is_over():
                 line = told.delivery()
@@ -246,6 +253,8 @@ class Pod:
                     told.compare(self._core.lines())
                 else:
                     told.compare(self._tail_of(told))
+        finally:
+            self._busy = False
         return self._over(End.SPENT if self._core.current() is not None else End.ENDED if self._status is not None else End.IDLE)
 
     def close(self) -> None:
@@ -258,6 +267,12 @@ class Pod:
                 failure = failure or error
         if failure is not None:
             raise failure
+
+    # A pod is run by one at a time, and not by a body of its own.
+    def _begin(self) -> None:
+        if self._busy:
+            raise RuntimeError("this pod is running")
+        self._busy, self._end = True, None
 
     # Where the run stops.
     def _over(self, end: End) -> End:
@@ -311,15 +326,18 @@ class Pod:
                 thread.error = fault if type(call) is Call else TypeError(f"a body yields calls, as lwp_yield(tid), and not {call!r}")
         self._calls += 1
         thread.made = call
-        # By far most turns do one thing: the caller is answered a number.
+        # By far most turns do one thing, the caller is answered a number; or nothing, the caller waits.
         if len(effects) == 1:
             effect, tid, answer, said = effects[0]
-            if effect == ANSWERED and answer == VALUE and tid == who and kind not in _SPECIAL:
-                thread.value = said
-                if self._lines is not None:
-                    self._lines.append(self._core.lines())
+            if effect != ANSWERED or answer != VALUE or tid != who or kind in _SPECIAL:
+                self._take(who, call, effects)
                 return
-        self._take(who, call, effects)
+            thread.value = said
+        elif effects:
+            self._take(who, call, effects)
+            return
+        if self._lines is not None:
+            self._lines.append(self._core.lines())
 
     # What a step did, and its lines. What is raised by bodies that end comes out when all is done.
     def _take(self, who: Optional[int], call: Optional[Call[Any]], effects: Effects) -> None:
@@ -406,8 +424,9 @@ class Pod:
     # Each event may have one line taken.
     def _boundary(self) -> bool:
         some = False
-        for event, lines in list(self._waiting.items()):
+        for event in sorted(self._waiting):
             if self._core.armed(event):
+                lines = self._waiting[event]
                 line = lines.popleft()
                 if not lines:
                     del self._waiting[event]
@@ -422,17 +441,3 @@ class Pod:
         self._deliver(event, client, number, text)
         told.compare(self._core.lines())
 
-
-class _Guard:
-    """A pod is run by one at a time: not by a body of its own."""
-
-    def __init__(self, pod: Pod) -> None:
-        self._pod = pod
-
-    def __enter__(self) -> None:
-        if self._pod._busy:
-            raise RuntimeError("this pod is running")
-        self._pod._busy = True
-
-    def __exit__(self, kind: Optional[Type[BaseException]], error: Optional[BaseException], trace: Optional[TracebackType]) -> None:
-        self._pod._busy = False
