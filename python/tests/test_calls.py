@@ -583,6 +583,35 @@ def test_following_something_else() -> None:
     assert differs.value.line == len(lines) + 1
 
 
+class Poor:
+    """A core to which memory is refused at each third call."""
+
+    def __init__(self, core: Core) -> None:
+        self.core, self.count = core, 0
+
+    def __getattr__(self, name: str) -> Any:
+        return getattr(self.core, name)
+
+    def call(self, made: Call[Any]) -> Any:
+        self.count += 1
+        if self.count % 3 == 0:
+            raise MemoryError
+        return self.core.call(made)
+
+
+def test_memory_that_is_refused() -> None:
+    def main() -> Making:
+        for word in ("one", "two", "three", "four"):
+            try:
+                yield say(word)
+            except MemoryError:
+                yield say(word)
+
+    pod, poor = Pod(main), Pod(main)
+    poor._core = Poor(poor._core)  # type: ignore[assignment]
+    assert pod.run() is poor.run() is End.ENDED and pod.trace == poor.trace
+
+
 def test_state() -> None:
     pod = Pod(idler)
     pod.run()

@@ -62,7 +62,8 @@ fn package(trace: bool) -> f64 {
             Call::Create { proc: 1, prio: 1, flags: Flags::default() }
         }
     };
-    let mut pod = Pod::setup(1).proc("first", first).proc("other", |_| |me: Tid, _: Answer| Call::Yield { to: me }).trace(trace).pod().unwrap();
+    let mut pod =
+        Pod::setup(1).proc("first", first).proc("other", |_| |me: Tid, _: Answer| Call::Yield { to: me }).trace(trace).pod().unwrap();
     pod.run_for(100).unwrap();
     nanoseconds(|| {
         pod.run_for(TURNS).unwrap();

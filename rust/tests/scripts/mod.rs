@@ -78,7 +78,14 @@ const NOTHING: &[String] = &[];
 
 impl<'t> Thread<'t> {
     fn new(script: &'t Script, names: Names, proc: usize) -> Thread<'t> {
-        Thread { script, names, frames: vec![Frame { proc, at: 0, handlers: Vec::new() }], sender: Tid::NONE, said: NOTHING, returns: false }
+        Thread {
+            script,
+            names,
+            frames: vec![Frame { proc, at: 0, handlers: Vec::new() }],
+            sender: Tid::NONE,
+            said: NOTHING,
+            returns: false,
+        }
     }
 
     fn take(&mut self, answer: &Answer) {
