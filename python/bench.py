@@ -1,5 +1,5 @@
 #!/usr/bin/env python3
-"""What a turn costs, in microseconds of the processor: the best of five runs of 200,000 turns each.
+"""What a turn costs, in microseconds of the processor: the best of 50 runs of 10,000 turns each.
 
   python3 bench.py [MOST]
 
@@ -10,7 +10,7 @@ from typing import Any, Callable, Generator
 
 from loqzemar import *
 
-TURNS = 200_000
+TURNS = 10_000
 Making = Generator[Call[Any], Any, None]
 
 
@@ -55,7 +55,7 @@ def server() -> Making:
 def measured(trace: bool, *procedures: Callable[..., Any]) -> float:
     """Microseconds a turn."""
     best = float("inf")
-    for _ in range(5):
+    for _ in range(50):
         with Pod(*procedures, trace=trace) as pod:
             pod.run(100)
             began = time.process_time()

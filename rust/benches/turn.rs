@@ -6,8 +6,8 @@ use std::time::Instant;
 use loqzemar::sys::{self, loq_call_t, loq_effect_t, loq_pod};
 use loqzemar::{Answer, Call, Flags, Pod, Tid};
 
-const TURNS: u64 = 50_000;
-const ROUNDS: usize = 100;
+const TURNS: u64 = 10_000;
+const ROUNDS: usize = 500;
 
 fn nanoseconds(work: impl FnOnce()) -> f64 {
     let began = Instant::now();

@@ -58,6 +58,7 @@ impl fmt::Display for Fault {
 impl Error for Fault {}
 
 type Made<'t> = Box<dyn Body<'t> + 't>;
+type Tell<'t> = Box<dyn FnMut(u8, &str) + 't>;
 
 // A procedure: its name, and what makes a body of it for a new thread.
 struct Proc<'t> {
@@ -163,7 +164,7 @@ pub struct Setup<'t> {
     births: u64,
     procs: Vec<Proc<'t>>,
     trace: bool,
-    tell: Option<Box<dyn FnMut(u8, &str) + 't>>,
+    tell: Option<Tell<'t>>,
 }
 
 impl<'t> Setup<'t> {
@@ -274,7 +275,7 @@ pub struct Pod<'t> {
     // The last step's lines are still to be written.
     unwritten: bool,
     spent: bool,
-    tell: Option<Box<dyn FnMut(u8, &str) + 't>>,
+    tell: Option<Tell<'t>>,
 }
 
 impl<'t> Pod<'t> {

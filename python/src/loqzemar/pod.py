@@ -290,7 +290,7 @@ class Pod:
         left = {client: posted - self._taken.get(client, 0) for client, posted in sorted(self._posted.items())}
         return first + "".join(f"left client {client} {count}\n" for client, count in left.items() if count)
 
-    # The same for a record, which alone knows of lines that weren't taken.
+    # The lines that end a trace beside a record, which alone knows of lines that weren't taken.
     def _tail_of(self, told: Record) -> str:
         if self._core.current() is not None:
             return f"spent {self._calls}\n" + told.left()
