@@ -20,6 +20,7 @@ typedef struct {
     loq_call_t record;
     PyObject *text; // a str, or NULL for none
     PyObject *with; // what the body needs besides, or NULL
+    bool is_seen;   // a pod, or another call, has looked at it
 } call_object;
 
 // What a `yield from` or an `await` goes over: the call, and then the answer is its value.
@@ -109,17 +110,29 @@ static PyObject *make_call(PyObject *module, PyObject *const *args, Py_ssize_t c
     if (!call) return NULL;
     memset(&call->record, 0, sizeof call->record);
     call->text = call->with = NULL;
+    call->is_seen = false;
     for (Py_ssize_t at = 0; at < count; at++)
         if (take_argument(call, at, args[at])) {
+            call->is_seen = true;
             Py_DECREF(call);
             return NULL;
         }
     return tracked(call);
 }
 
+// A body that forgets the `yield` does nothing, so it is told.
+static void warn_unseen(PyObject *self) {
+    PyObject *type, *value, *trace;
+    PyErr_Fetch(&type, &value, &trace);
+    if (PyErr_WarnEx(PyExc_RuntimeWarning, "a call was never made: `yield` or `await` is missing before it", 1))
+        PyErr_WriteUnraisable((PyObject *)Py_TYPE(self));
+    PyErr_Restore(type, value, trace);
+}
+
 static void free_call(PyObject *self) {
     call_object *call = (call_object *)self;
     PyObject_GC_UnTrack(self);
+    if (!call->is_seen) warn_unseen(self);
     Py_XDECREF(call->text);
     Py_XDECREF(call->with);
     free_object(self);
@@ -138,6 +151,7 @@ static int clear_call(PyObject *self) {
 
 static PyObject *get_kind(PyObject *self, void *closure) {
     (void)closure;
+    ((call_object *)self)->is_seen = true;
     return PyLong_FromUnsignedLong(((call_object *)self)->record.kind);
 }
 
@@ -179,6 +193,7 @@ static PyObject *numbered(PyObject *self, PyObject *number) {
     Py_XINCREF(from->with);
     call->text = from->text;
     call->with = from->with;
+    call->is_seen = true;
     return tracked(call);
 }
 
@@ -468,6 +483,7 @@ static PyObject *core_call(PyObject *self, PyObject *made) {
         return NULL;
     }
     call_object *call = (call_object *)made;
+    call->is_seen = true;
     Py_ssize_t len;
     const uint8_t *text = lend(core, call->text, &len);
     if (!text) return NULL;

@@ -4,6 +4,7 @@ import inspect
 import os
 import pathlib
 import re
+import warnings
 import weakref
 from typing import Any, Callable, Generator, List, Tuple
 
@@ -472,6 +473,40 @@ def test_what_a_body_raises_on_its_way_out() -> None:
         pod.run()
     assert left == [1, 1]
     assert pod.run() is End.ENDED and pod.status == 3 and pod.trace.endswith("pod ends 3\n")
+
+
+def test_a_call_that_is_never_made() -> None:
+    def main() -> Making:
+        with pytest.warns(RuntimeWarning, match="never made"):
+            say("forgotten")
+        with pytest.warns(RuntimeWarning, match="never made"):
+            lwp_create(idler)
+        yield say("made")
+
+    assert ran(main).calls == 2
+
+
+def test_nobody_is_warned_of_calls_that_are_made() -> None:
+    def main() -> Making:
+        yield exc_on_exit(say("out"))
+        yield from lwp_self()
+        other = yield lwp_create(cleaning)
+        yield lwp_yield(FIRST)
+        yield lwp_destroy(other)
+        yield say("x" * 241)
+
+    def cleaning() -> Making:
+        try:
+            yield lwp_sleep(1)
+        finally:
+            yield say("never said")
+            yield lwp_create(idler)
+
+    with warnings.catch_warnings():
+        warnings.simplefilter("error")
+        with pytest.raises(ValueError):
+            Pod(main, cleaning, idler).run()
+        gc.collect()
 
 
 def test_bad_pods_and_lines() -> None:
