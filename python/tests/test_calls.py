@@ -610,6 +610,10 @@ def test_following_something_else() -> None:
                 Pod(echo).follow("".join(lines[:at] + [other] + lines[at + 1 :]))
             # A line from outside may say anything; what a thread was told of it then differs.
             assert differs.value.line == (5 if line == "event 1 client 1 seq 0 a\n" and other is others[1] else at + 1)
+    for bad in ("event 999 client 0 seq 0", "event 1 client 300 seq 0", f"event 1 client 1 seq {2**32}", "event 1 client 1 seq 0 \u00e9"):
+        with pytest.raises(Differs) as differs:
+            Pod(echo).follow("".join(lines[:2]) + bad + "\n")
+        assert differs.value.line == 3 and differs.value.got == bad
     with pytest.raises(Differs) as differs:
         Pod(echo).follow("event 1 client 1 seq 0 a\n")
     assert differs.value.line == 1 and differs.value.want is None

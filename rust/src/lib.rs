@@ -51,11 +51,13 @@ struct Readme;
 
 mod answer;
 mod call;
+mod follow;
 mod pod;
 pub mod sys;
 mod text;
 
 pub use answer::{Answer, LwpErr};
 pub use call::{Call, Cid, ExitCall, Flags, Func, Mid, Mode, Pattern, Tid, FIRST};
+pub use follow::Unfollowed;
 pub use pod::{Body, End, Fault, Pod, Setup};
 pub use text::{text, NoText, Text};

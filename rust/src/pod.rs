@@ -488,27 +488,38 @@ impl<'t> Pod<'t> {
     // The lines of the last step go to the trace, if one is kept.
     #[inline]
     fn write_lines(&mut self) -> Result<(), Fault> {
-        let Some(trace) = &mut self.trace else {
-            return Ok(());
-        };
-        self.unwritten = true;
-        let mut len = 0;
-        trace.reserve(128);
+        if let Some(trace) = &mut self.trace {
+            self.unwritten = true;
+            Pod::add_lines(&mut self.raw, trace)?;
+            self.unwritten = false;
+        }
+        Ok(())
+    }
+
+    // The lines of the last step go to the end of these bytes.
+    fn add_lines(raw: &mut loq_pod, out: &mut Vec<u8>) -> Result<(), Fault> {
+        let (at, mut len) = (out.len(), 0);
+        out.reserve(128);
         loop {
-            let at = trace.len();
-            let room = trace.capacity() - at;
-            // SAFETY: the handle holds a pod, and behind the trace's bytes is so much room.
-            let status = unsafe { sys::loq_lines(&mut *self.raw, trace.as_mut_ptr().add(at), room, &mut len) };
+            let room = out.capacity() - at;
+            // SAFETY: the handle holds a pod, and after the bytes is so much room.
+            let status = unsafe { sys::loq_lines(raw, out.as_mut_ptr().add(at), room, &mut len) };
             if status == sys::TOO_SMALL {
-                trace.reserve(len);
+                out.reserve(len);
                 continue;
             }
             done(status)?;
             // SAFETY: so many bytes were written there.
-            unsafe { trace.set_len(at + len) };
-            self.unwritten = false;
+            unsafe { out.set_len(at + len) };
             return Ok(());
         }
+    }
+
+    // The lines of the last step.
+    pub(crate) fn last_lines(&mut self) -> Result<String, Fault> {
+        let mut lines = Vec::new();
+        Pod::add_lines(&mut self.raw, &mut lines)?;
+        Ok(lines.into_iter().map(char::from).collect())
     }
 
     // Each event may have one line taken, the lower ones first.
@@ -525,9 +536,6 @@ impl<'t> Pod<'t> {
     }
 
     fn deliver(&mut self, event: u8) -> Result<(), Fault> {
-        if self.unwritten {
-            self.write_lines()?;
-        }
         let Some(lines) = self.waiting.get_mut(&event) else {
             return Ok(());
         };
@@ -535,16 +543,44 @@ impl<'t> Pod<'t> {
         if lines.is_empty() {
             self.waiting.remove(&event);
         }
-        let Some(Posted { client, seq, text }) = line else {
-            return Ok(());
-        };
+        match line {
+            Some(line) => self.take_line(event, line),
+            None => Ok(()),
+        }
+    }
+
+    // A line is taken, for which its event is armed.
+    fn take_line(&mut self, event: u8, line: Posted<'t>) -> Result<(), Fault> {
+        if self.unwritten {
+            self.write_lines()?;
+        }
+        let Posted { client, seq, text } = line;
         let (text, len) = Pod::lend(&mut self.texts, text);
         // SAFETY: the handle holds a pod; the text is of this length, and lasts as long as the pod.
         done(unsafe { sys::loq_deliver(&mut *self.raw, event, client, seq, text, len) })?;
-        self.clients.entry(client).or_default().1 += 1;
+        let (posted, taken) = self.clients.entry(client).or_default();
+        *posted = (*posted).max(seq.saturating_add(1));
+        *taken += 1;
         let count = self.told.count(&mut self.raw);
         self.take_effects(count, None, Some(client));
         self.write_lines()
+    }
+
+    // A line that was recorded is taken, if its event is armed.
+    pub(crate) fn take_recorded(&mut self, event: u8, client: u8, seq: u32, text: Text<'t>) -> Result<bool, Fault> {
+        let armed = self.armed(event);
+        if armed {
+            self.take_line(event, Posted { client, seq, text: text.into_cow() })?;
+        }
+        Ok(armed)
+    }
+
+    // One call of the thread whose turn it is, if it is anybody's.
+    pub(crate) fn one_turn(&mut self) -> Result<(), Fault> {
+        match self.current() {
+            Some(tid) => self.turn(tid),
+            None => Ok(()),
+        }
     }
 }
 

@@ -4,7 +4,7 @@ from __future__ import annotations
 import re
 from typing import Optional, Tuple
 
-from .words import Differs
+from .words import Differs, is_text
 
 _EVENT = re.compile(r"event (\d+) client (\d+) seq (\d+)(?: (.*))?")
 _TICK = re.compile(r"tick \d+ client (\d+) seq (\d+)(?: (.*))?")
@@ -37,10 +37,13 @@ class Record:
         line = self.at() or ""
         event, tick = _EVENT.fullmatch(line), _TICK.fullmatch(line)
         if event:
-            return int(event[1]), int(event[2]), int(event[3]), event[4] or ""
-        if tick:
-            return 0, int(tick[1]), int(tick[2]), tick[3] or ""
-        return None
+            told = int(event[1]), int(event[2]), int(event[3]), event[4] or ""
+        elif tick:
+            told = 0, int(tick[1]), int(tick[2]), tick[3] or ""
+        else:
+            return None
+        # A line that nobody could have posted is none.
+        return told if told[0] <= 31 and told[1] <= 255 and told[2] < 2**32 and is_text(told[3]) else None
 
     def is_spent(self, calls: int) -> bool:
         """Whether the next line says that all allowed calls were made."""

@@ -9,10 +9,12 @@ from typing import Any, Callable, Deque, Dict, List, Optional, Tuple, Type
 from ._loqzemar import Call, Core
 from .calls import return_
 from .follow import Record
-from .words import ERRORS, Bound, Caught, Condition, Differs, End, Func, Letter, Monitor, Tid
+from .words import ERRORS, Bound, Caught, Condition, Differs, End, Func, Letter, Monitor, Tid, is_text
 
+# What a body that is at its end calls.
+_RETURN: Call[Any] = return_()
 # The kinds of calls that change which body goes on, or what its handlers are.
-CREATE, REPLY, CALLPROC, RETURN, HANDLE, UNHANDLE = 0, 19, 48, 49, 50, 51
+CREATE, REPLY, CALLPROC, RETURN, HANDLE, UNHANDLE = 0, 19, 48, _RETURN.kind, 50, 51
 # The kinds of effects.
 ANSWERED, DIED, DELIVERED, ENDED = 1, 3, 4, 6
 # The kinds of answers that aren't told as they come.
@@ -31,9 +33,6 @@ _SAID: Dict[int, Callable[[Any], object]] = {
     8: lambda said: tuple(map(_IDS[said[0]], said[1])),
 }
 _SPECIAL = frozenset((CREATE, REPLY, CALLPROC, RETURN, HANDLE, UNHANDLE))
-# What a body that is at its end calls. To look at its kind is to see it, so that nobody is warned of it.
-_RETURN: Call[Any] = return_()
-assert _RETURN.kind == RETURN
 
 
 class _Frame:
@@ -198,7 +197,7 @@ class Pod:
         The trace names the client, 0 to 255, and numbers its lines. Without one, the client has the number of the event."""
         if not 0 <= event <= 31:
             raise ValueError(f"an event is a number from 0 to 31, and not {event}")
-        if len(text) > 240 or not (text.isascii() and text.isprintable()):
+        if not is_text(text):
             raise ValueError("a text has at most 240 bytes, each from a space to '~'")
         client = event if client is None else client
         if not 0 <= client <= 255:

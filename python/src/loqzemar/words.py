@@ -61,6 +61,11 @@ NOBODY = Tid(NONE)
 FIRST = Tid(0)
 
 
+def is_text(text: str) -> bool:
+    """Whether a call or a line can carry it: at most 240 bytes, each from a space to `~`."""
+    return len(text) <= 240 and text.isascii() and text.isprintable()
+
+
 class Letter(NamedTuple):
     """A letter that was received."""
 

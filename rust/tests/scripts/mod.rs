@@ -51,6 +51,12 @@ impl Script {
         Ok(pod)
     }
 
+    /// What clients post is left out.
+    #[allow(dead_code)]
+    pub fn forget_posts(&mut self) {
+        self.posts.clear();
+    }
+
     fn proc(&self, name: &str) -> u32 {
         self.procs.iter().position(|(it, _)| it == name).unwrap() as u32
     }
