@@ -6,10 +6,12 @@ use Rattle.script_lines.specs.Reading.{phrase_at}
 use Rattle.script_text.proofs.CutLaws.{line_none}
 use Rattle.script_text.specs.Spelling.{line_cut, onto_first}
 use Rattle.script_advice.specs.declared.ahead.Ahead.{Ahead}
+use Rattle.script_advice.specs.declared.habits.Habits.{Habits}
 use Rattle.script_advice.specs.declared.sets.Sets.{Sets}
 use Rattle.script_advice.specs.declared.texts.Format.{Format}
 use Rattle.script_advice.specs.declared.way.Way.{Way}
 use Rattle.script_advice.specs.Doubts.{ahead_of, ahead_after_line, are_some, doubts_from, with_doubts, keeping, keeps, no_ahead, way_after_line}
+use Rattle.script_advice.specs.Habits.{habits_after_line, habits_of}
 use Rattle.script_advice.specs.Remarks.{Remark}
 use Rattle.script_advice.specs.Texts.{remarks_text}
 use Rattle.std.specs.Prelude.{◌||◌}
@@ -97,6 +99,15 @@ pub kept_step : (kept new : List Bool) (a ahead : Ahead) (lines front : List (Li
 kept_step kept new a ahead lines front line all i e f g =
     let next = ahead_after_line (phrase_at line) a in
     rw (f, g) (append_assoc kept (keeps a (phrase_at line) ∷ []) (keeping next front) ∙ sym (ap (λ (l : List Bool). kept ++ l) (ap (keeping a) e ∙ keeping_last a front line)) ∙ i)
+
+pub habits_last : (h : Habits) (ls : List (List ℕ)) (line : List ℕ) → habits_of h (ls ++ line ∷ []) ≡ habits_of (habits_after_line (phrase_at line) h) ls
+habits_last h [] line = refl
+habits_last h (l ∷ ls) line = ap (habits_after_line (phrase_at l)) (habits_last h ls line)
+
+-- what the last line does is noted before what those before it do
+pub habits_step : (h next : Habits) (lines front : List (List ℕ)) (line : List ℕ) (all : Habits) → habits_of h lines ≡ all → lines ≡ front ++ line ∷ [] → next ≡ habits_after_line (phrase_at line) h → habits_of next front ≡ all
+habits_step h next lines front line all i e f =
+    ap (λ (x : Habits). habits_of x front) f ∙ sym (ap (habits_of h) e ∙ habits_last h front line) ∙ i
 
 -- ---- The walk over the lines.
 

@@ -1,5 +1,5 @@
 -- What is allowed in a script and hardly meant, line by line.
-use Rattle.std.specs.Prelude.{ℕ, suc, Bool, true, false, not, ◌&&◌, ◌==◌, nat_lt, List, [], ◌∷◌, ◌++◌, fold, length, Option, Some, None, if◌then◌else◌}
+use Rattle.std.specs.Prelude.{ℕ, suc, Bool, true, false, not, ◌&&◌, ◌||◌, ◌==◌, nat_lt, List, [], ◌∷◌, ◌++◌, fold, length, Option, Some, None, if◌then◌else◌}
 use Rattle.std.specs.List.{list_any}
 use denote.Enum.Bare.{sameb}
 use Rattle.script_lines.specs.contracts.table.Op.{the_type as op_type}
@@ -14,6 +14,7 @@ use Rattle.script_lines.specs.Table.{ranks, role_of, starts}
 use Rattle.script_text.specs.Meaning.{contains_name, enter}
 use Rattle.script_text.specs.Spelling.{line_cut}
 use Rattle.script_advice.specs.Near.{nearest, or_else}
+use Rattle.script_advice.specs.Habits.{habits_of, name_if, no_habits, ticks_in}
 use Rattle.script_advice.specs.Faults.{slot_at}
 use Rattle.script_advice.specs.Remarks.{Remark, place_at, some_names, word_or_none}
 use Rattle.script_advice.specs.declared.remarks.Cause.TheVariants as cause
@@ -21,6 +22,7 @@ use Rattle.script_advice.specs.declared.remarks.Doubt.{Doubt}
 use Rattle.script_advice.specs.declared.remarks.Doubt.TheVariants as doubt
 use Rattle.script_advice.specs.declared.remarks.Why.TheVariants as why
 use Rattle.script_advice.specs.declared.ahead.Ahead.{Ahead}
+use Rattle.script_advice.specs.declared.habits.Habits.{Habits}
 use Rattle.script_advice.specs.declared.sets.Sets.{Sets}
 use Rattle.script_advice.specs.declared.way.Way.{Way}
 
@@ -91,8 +93,49 @@ greater m n = if nat_lt m n then n else m
 abbrev pub is_asked : List ℕ → ℕ → Bool
 is_asked events e = list_any (λ x. x == e) events
 
-abbrev pub no_sets : Sets
-no_sets = record { threads = []; monitors = []; conditions = []; promised = []; started = []; asked = []; most = 0 }
+-- a line declares a client that posts ticks, at event 0
+abbrev pub is_clock : Op → Phrase → Bool
+is_clock op.Client p = p.event == 0
+is_clock _ p = false
+
+-- a line declares a client that posts lines, at another event
+abbrev pub is_poster : Op → Phrase → Bool
+is_poster op.Client p = nat_lt 0 p.event
+is_poster _ p = false
+
+-- the thread that a line makes, if a letter of it may come: an agent, or a thread that begins in a procedure that sends
+abbrev pub sender_set : Habits → Op → Phrase → List ℕ
+sender_set h op.Create p = name_if (contains_name h.sending p.procedure) p.thread
+sender_set h op.Agent p = p.thread
+sender_set h _ p = []
+
+-- a line lets any thread into a procedure that sends
+abbrev pub lends_send : Habits → Op → Phrase → Bool
+lends_send h op.CallProc p = contains_name h.sending p.procedure
+lends_send h _ p = false
+
+-- a line makes a thread that may stay, and isn't a server
+abbrev pub makes_stayer : Habits → Op → Phrase → Bool
+makes_stayer h op.Create p = not p.flags.server && (p.flags.suspended || contains_name h.staying p.procedure)
+makes_stayer h _ p = false
+
+-- nothing is set, in a text whose procedures do this; the first thread, which isn't a server, may stay in the first
+abbrev pub no_sets : Habits → Sets
+no_sets h = record {
+  threads = [];
+  monitors = [];
+  conditions = [];
+  promised = [];
+  started = [];
+  asked = [];
+  most = 0;
+  clocked = false;
+  posted = false;
+  senders = [];
+  lent = false;
+  stayed = h.first;
+  habits = h;
+}
 
 -- what is set, and what one more line sets
 abbrev pub sets_after_phrase : Sets → Phrase → Sets
@@ -104,6 +147,12 @@ sets_after_phrase s p = record {
   started = enter s.started (procedure_started p);
   asked = s.asked ++ event_asked p.op p ∷ [];
   most = greater s.most (priority_given p.op p);
+  clocked = s.clocked || is_clock p.op p;
+  posted = s.posted || is_poster p.op p;
+  senders = enter s.senders (sender_set s.habits p.op p);
+  lent = s.lent || lends_send s.habits p.op p;
+  stayed = s.stayed || makes_stayer s.habits p.op p;
+  habits = s.habits;
 }
 
 abbrev pub sets_after_line : Sets → Option Phrase → Sets
@@ -115,7 +164,7 @@ sets_on s line = sets_after_line s (phrase_at line)
 
 -- what the lines of a text set
 abbrev pub sets_of : List ℕ → Sets
-sets_of text = fold sets_on no_sets (line_cut text).0
+sets_of text = fold sets_on (no_sets (habits_of no_habits (line_cut text).0)) (line_cut text).0
 
 -- ---- The way through a procedure.
 
@@ -221,9 +270,33 @@ name_doubt s k p =
     else if nat_lt s.most (priority_used p.op p) then Some doubt.Priority
     else doubt_if (k && not (contains_name s.promised p.monitor)) doubt.Kept
 
+-- the ticks that a line waits for; 0 for a line that waits for none
+abbrev pub ticks_awaited : Op → Phrase → ℕ
+ticks_awaited op.Sleep p = p.number
+ticks_awaited op.Recv p = ticks_in p.mode
+ticks_awaited _ p = 0
+
+-- the thread that a line replies to, at once or as an exit procedure
+abbrev pub thread_answered : Op → Phrase → List ℕ
+thread_answered op.Reply p = p.thread
+thread_answered op.ExitReply p = p.thread
+thread_answered _ p = []
+
+-- a line makes a server that takes lines, of which there are some, and no thread but servers may stay
+abbrev pub is_left : Op → Sets → Phrase → Bool
+is_left op.Create s p = p.flags.server && contains_name s.habits.taking p.procedure && s.posted && not s.stayed
+is_left _ s p = false
+
+-- what is doubtful in what a line waits for, in the thread that it replies to, and in the server that it makes
+abbrev pub wait_doubt : Sets → Phrase → Option Doubt
+wait_doubt s p =
+    if nat_lt 0 (ticks_awaited p.op p) && not s.clocked then Some doubt.Ticks
+    else if is_unset s.senders (thread_answered p.op p) && not s.lent then Some doubt.Reply
+    else doubt_if (is_left p.op s p) doubt.Server
+
 -- what is doubtful first in a line that keeps a monitor or not
 unfoldable pub doubt_of : Sets → Way → Bool → Phrase → Option Doubt
-doubt_of s w k p = or_else (role_doubt (role_of p.op) s w p) (name_doubt s k p)
+doubt_of s w k p = or_else (role_doubt (role_of p.op) s w p) (or_else (name_doubt s k p) (wait_doubt s p))
 
 -- ---- What is told of them.
 
@@ -242,6 +315,9 @@ doubted_words doubt.Condition o line = slot_at o kind.Condition line
 doubted_words doubt.Procedure o line = slot_at o kind.Procedure line
 doubted_words doubt.Client o line = slot_at o kind.Event line
 doubted_words doubt.Priority o line = slot_at o kind.Priority line
+doubted_words doubt.Ticks o line = or_words (slot_at o kind.Mode line) (slot_at o kind.Number line)
+doubted_words doubt.Reply o line = slot_at o kind.Who line
+doubted_words doubt.Server o line = slot_at o kind.Flags line
 doubted_words doubt.Statement o line = line
 
 -- the name that is set and nearly the doubtful one

@@ -4,6 +4,7 @@ pub mod Errors
 pub mod Texts
 pub mod Advice
 pub mod Laws
+pub mod Habits
 pub mod Doubts
 pub mod Near
 pub mod Forms

@@ -82,6 +82,9 @@ doubt_text doubt.Statement = codes "Unreached"
 doubt_text doubt.Client = codes "Unasked"
 doubt_text doubt.Priority = codes "Priority"
 doubt_text doubt.Kept = codes "Unleft"
+doubt_text doubt.Ticks = codes "Clockless"
+doubt_text doubt.Reply = codes "Unsending"
+doubt_text doubt.Server = codes "Served"
 
 -- what is meant by it
 abbrev pub doubted_text : Doubt → List ℕ
@@ -93,6 +96,9 @@ doubted_text doubt.Statement = codes "a statement behind a return, which nothing
 doubted_text doubt.Client = codes "an event that no agent, no trap and no session asks for"
 doubted_text doubt.Priority = codes "a priority above the greatest that the pod ever has"
 doubted_text doubt.Kept = codes "a monitor that its procedure doesn't leave"
+doubted_text doubt.Ticks = codes "ticks that never come: no client is of event 0, the clock"
+doubted_text doubt.Reply = codes "a thread that no statement makes send"
+doubted_text doubt.Server = codes "a server that takes lines: the pod may end before they come, for no other thread stays"
 
 -- whether it is an error or a warning
 abbrev pub severity_text : Cause → List ℕ

@@ -3,7 +3,9 @@ ghost use Rattle.std.specs.Prelude.{◌≡◌, ◌++◌, ◌∷◌, [], IfOk, On
 ghost use Rattle.script_lines.specs.Reading.{phrase_at};
 ghost use Rattle.script_text.specs.Spelling.{line_cut};
 ghost use Rattle.script_advice.specs.Doubts.{ahead_after_line, keeping, keeps, monitor_entered, monitor_left, no_ahead};
+ghost use Rattle.script_advice.specs.Habits.{habits_after_line, habits_of, no_habits};
 
+use crate::habits::Habits;
 use crate::lines::last_line;
 use lwp_types::NoMemory;
 use script_lines::{Op, Phrase, Role, phrase_at};
@@ -101,10 +103,13 @@ impl Ahead {
 fn note_line(
     alloc: Global,
     ahead: &mut Ahead,
+    habits: &mut Habits,
     kept: &mut Vec<bool>,
     line: &[u8],
 ) -> Result<(), NoMemory>
     ensures ahead { OnOk result (ahead.new ≡ ahead_after_line (phrase_at line.now) ahead.old) }
+    ensures habits { OnOk result
+        (habits.new ≡ habits_after_line (phrase_at line.now) habits.old) }
     ensures kept { OnOk result
         (kept.new.items ≡ kept.old.items ++ keeps ahead.old (phrase_at line.now) ∷ []) }
 {
@@ -113,19 +118,22 @@ fn note_line(
         return Ok(());
     };
     kept.push(ahead.keeps(&phrase))?;
+    habits.note(phrase.op.role(), &phrase)?;
     ahead.put(alloc, phrase.op.role(), &phrase)
 }
 
-/// Which lines of a text keep a monitor, the last line first.
-pub fn keeping(alloc: Global, text: &[u8]) -> Result<Vec<bool>, NoMemory>
-    ensures { IfOk result (λ kept. kept.items ≡ keeping no_ahead (line_cut text.now).0) }
+/// Which lines of a text keep a monitor, the last line first, and what the procedures do.
+pub fn looked_back(alloc: Global, text: &[u8]) -> Result<(Vec<bool>, Habits), NoMemory>
+    ensures kept { IfOk result (λ x. x.0.items ≡ keeping no_ahead (line_cut text.now).0) }
+    ensures habits { IfOk result (λ x. x.1 ≡ habits_of no_habits (line_cut text.now).0) }
 {
     let mut ahead = Ahead::none(alloc);
+    let mut habits = Habits::none(alloc);
     let mut kept = Vec::new(alloc);
     let mut rest = text;
     while let Some((front, line)) = last_line(rest) {
-        note_line(alloc, &mut ahead, &mut kept, line)?;
+        note_line(alloc, &mut ahead, &mut habits, &mut kept, line)?;
         rest = front;
     }
-    Ok(kept)
+    Ok((kept, habits))
 }

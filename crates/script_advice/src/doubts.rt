@@ -1,13 +1,14 @@
 // What is allowed in a script and hardly meant, line by line.
 ghost use Rattle.std.specs.Prelude.{◌≡◌, ◌++◌, ◌∷◌, ◌||◌, [], Bool, IfOk, List, OnOk, suc, take};
 ghost use Rattle.script_lines.specs.Reading.{phrase_at};
-ghost use Rattle.script_advice.specs.Doubts.{are_some, doubt_if, doubt_of, doubt_remark, doubted_words, doubts, with_doubts, is_unset, name_doubt, near_set, or_words, role_doubt, way_after_line};
+ghost use Rattle.script_advice.specs.Doubts.{are_some, doubt_if, doubt_of, doubt_remark, doubted_words, doubts, with_doubts, is_left, is_unset, name_doubt, near_set, or_words, role_doubt, thread_answered, ticks_awaited, wait_doubt, way_after_line};
 ghost use Rattle.script_advice.specs.Remarks.{Remark, some_names, word_or_none};
-ghost use Rattle.script_advice.specs.Near.{nearest};
+ghost use Rattle.script_advice.specs.Near.{nearest, or_else};
 ghost use Rattle.script_advice.specs.Texts.{remark_text, remarks_text};
 
-use crate::ahead::keeping;
+use crate::ahead::looked_back;
 use crate::faults::slot_at;
+use crate::habits::ticks_in;
 use crate::lines::first_line;
 use crate::near_names::nearest;
 use crate::remarks::{Cause, Doubt, Place, Remark, Why};
@@ -70,6 +71,63 @@ fn name_doubt(sets: &Sets, keeps: bool, phrase: &Phrase<'_>) -> Option<Doubt>
     )
 }
 
+// The ticks that a line waits for; 0 for a line that waits for none.
+fn ticks_awaited(phrase: &Phrase<'_>) -> u32
+    ensures { result ≡ ticks_awaited phrase.now.op phrase.now }
+{
+    match phrase.op {
+        Op::Sleep => phrase.number,
+        Op::Recv => ticks_in(phrase.mode),
+        _ => 0,
+    }
+}
+
+// The thread that a line replies to, at once or as an exit procedure.
+fn thread_answered<'l>(phrase: &Phrase<'l>) -> &'l [u8]
+    ensures { result.now ≡ thread_answered phrase.now.op phrase.now }
+{
+    match phrase.op {
+        Op::Reply | Op::ExitReply => phrase.thread,
+        _ => &[],
+    }
+}
+
+// Whether a line makes a server that takes lines, of which there are some, and no thread but servers may stay.
+fn is_left(sets: &Sets, phrase: &Phrase<'_>) -> bool
+    ensures { result ≡ is_left phrase.now.op sets.now phrase.now }
+{
+    match phrase.op {
+        Op::Create => phrase.flags.server
+            && sets.habits.taking.contains(phrase.procedure)
+            && sets.posted
+            && !sets.stayed,
+        _ => false,
+    }
+}
+
+// What is doubtful in what a line waits for, in the thread that it replies to, and in the server that it makes.
+fn wait_doubt(sets: &Sets, phrase: &Phrase<'_>) -> Option<Doubt>
+    ensures { result ≡ wait_doubt sets.now phrase.now }
+{
+    if ticks_awaited(phrase) > 0 && !sets.clocked {
+        return Some(Doubt::Ticks);
+    }
+    if is_unset(&sets.senders, thread_answered(phrase)) && !sets.lent {
+        return Some(Doubt::Reply);
+    }
+    doubt_if(is_left(sets, phrase), Doubt::Server)
+}
+
+// What is doubtful in a line but for the part that it plays.
+fn later_doubt(sets: &Sets, keeps: bool, phrase: &Phrase<'_>) -> Option<Doubt>
+    ensures { result ≡ or_else (name_doubt sets.now keeps phrase.now) (wait_doubt sets.now phrase.now) }
+{
+    match name_doubt(sets, keeps, phrase) {
+        Some(doubt) => Some(doubt),
+        None => wait_doubt(sets, phrase),
+    }
+}
+
 // What is doubtful first in a line that keeps a monitor or not.
 #[tactic(auto, unfolding(crate::specs::Doubts::doubt_of))]
 fn doubt_of(sets: &Sets, way: Way, keeps: bool, phrase: &Phrase<'_>) -> Option<Doubt>
@@ -77,7 +135,7 @@ fn doubt_of(sets: &Sets, way: Way, keeps: bool, phrase: &Phrase<'_>) -> Option<D
 {
     match role_doubt(phrase.op.role(), sets, way, phrase) {
         Some(doubt) => Some(doubt),
-        None => name_doubt(sets, keeps, phrase),
+        None => later_doubt(sets, keeps, phrase),
     }
 }
 
@@ -105,6 +163,12 @@ fn doubted_words(doubt: Doubt, op: Op, line: &[u8]) -> &[u8]
         Doubt::Procedure => slot_at(op, Kind::Procedure, line),
         Doubt::Client => slot_at(op, Kind::Event, line),
         Doubt::Priority => slot_at(op, Kind::Priority, line),
+        Doubt::Ticks => or_words(
+            slot_at(op, Kind::Mode, line),
+            slot_at(op, Kind::Number, line),
+        ),
+        Doubt::Reply => slot_at(op, Kind::Who, line),
+        Doubt::Server => slot_at(op, Kind::Flags, line),
         Doubt::Statement => line,
     }
 }
@@ -272,8 +336,8 @@ pub fn add_doubts(
         (out.new.items ≡ out.old.items ++ remarks_text format (take 1000 (doubts text.now))) }
     ensures any { IfOk result (λ any. any ≡ are_some (doubts text.now)) }
 {
-    let sets = Sets::by(alloc, text)?;
-    let mut kept = keeping(alloc, text)?;
+    let (mut kept, habits) = looked_back(alloc, text)?;
+    let sets = Sets::by(alloc, habits, text)?;
     let mut walk = Walk {
         way: Way::new(),
         number: 1,

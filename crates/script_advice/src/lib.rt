@@ -25,6 +25,7 @@ mod doubts;
 mod errors;
 mod faults;
 mod forms;
+mod habits;
 mod known;
 mod laws;
 mod lines;

@@ -31,6 +31,12 @@ pub enum Doubt {
     Priority,
     /// Its procedure doesn't leave the monitor.
     Kept,
+    /// No client posts the ticks that the line waits for.
+    Ticks,
+    /// No statement makes the thread send that the line replies to.
+    Reply,
+    /// The pod may end before the lines come that the server takes.
+    Server,
 }
 
 /// Why a line is told.
@@ -165,6 +171,9 @@ fn doubt_text(doubt: Doubt) -> &'static [u8]
         Doubt::Client => b"Unasked",
         Doubt::Priority => b"Priority",
         Doubt::Kept => b"Unleft",
+        Doubt::Ticks => b"Clockless",
+        Doubt::Reply => b"Unsending",
+        Doubt::Server => b"Served",
     }
 }
 
@@ -181,6 +190,10 @@ fn doubted_text(doubt: Doubt) -> &'static [u8]
         Doubt::Client => b"an event that no agent, no trap and no session asks for",
         Doubt::Priority => b"a priority above the greatest that the pod ever has",
         Doubt::Kept => b"a monitor that its procedure doesn't leave",
+        Doubt::Ticks => b"ticks that never come: no client is of event 0, the clock",
+        Doubt::Reply => b"a thread that no statement makes send",
+        Doubt::Server =>
+            b"a server that takes lines: the pod may end before they come, for no other thread stays",
     }
 }
 

@@ -1,7 +1,8 @@
 // What the lines of a text set, start and ask for.
 ghost use Rattle.std.specs.Prelude.{◌≡◌};
-ghost use Rattle.script_advice.specs.Doubts.{condition_set, condition_used, event_asked, greater, is_asked, monitor_promised, monitor_set, monitor_used, priority_given, priority_used, procedure_started, thread_set, thread_used};
+ghost use Rattle.script_advice.specs.Doubts.{condition_set, condition_used, event_asked, greater, is_asked, is_clock, is_poster, lends_send, makes_stayer, monitor_promised, monitor_set, monitor_used, priority_given, priority_used, procedure_started, sender_set, thread_set, thread_used};
 
+use crate::habits::{Habits, name_if};
 use crate::lines::first_line;
 use lwp_types::{NoMemory, Sequence};
 use script_lines::{Op, Phrase, phrase_at};
@@ -18,6 +19,17 @@ pub struct Sets {
     pub started: NameList,
     pub asked: Sequence<u32>,
     pub most: u32,
+    /// There is a client of event 0.
+    pub clocked: bool,
+    /// There is a client of another event.
+    pub posted: bool,
+    /// The agents, and the threads that begin in a procedure that sends.
+    pub senders: NameList,
+    /// A `call` begins a procedure that sends.
+    pub lent: bool,
+    /// A thread may stay that isn't a server.
+    pub stayed: bool,
+    pub habits: Habits,
 }
 
 // PROVER: written by hand, so that a function that drops these calls this instead of repeating its proof.
@@ -31,6 +43,12 @@ impl Drop for Sets {
             started: _,
             asked: _,
             most: _,
+            clocked: _,
+            posted: _,
+            senders: _,
+            lent: _,
+            stayed: _,
+            habits: _,
         } = self;
     }
 }
@@ -144,6 +162,58 @@ pub fn priority_used(phrase: &Phrase<'_>) -> u32
     if phrase.op.ranks() { phrase.number } else { 0 }
 }
 
+// Whether a line declares a client that posts ticks.
+fn is_clock(phrase: &Phrase<'_>) -> bool
+    ensures { result ≡ is_clock phrase.now.op phrase.now }
+{
+    match phrase.op {
+        Op::Client => phrase.event == 0,
+        _ => false,
+    }
+}
+
+// Whether a line declares a client that posts lines, at another event.
+fn is_poster(phrase: &Phrase<'_>) -> bool
+    ensures { result ≡ is_poster phrase.now.op phrase.now }
+{
+    match phrase.op {
+        Op::Client => 0 < phrase.event,
+        _ => false,
+    }
+}
+
+// The thread that a line makes, if a letter of it may come.
+fn sender_set<'l>(habits: &Habits, phrase: &Phrase<'l>) -> &'l [u8]
+    ensures { result.now ≡ sender_set habits.now phrase.now.op phrase.now }
+{
+    match phrase.op {
+        Op::Create => name_if(habits.sending.contains(phrase.procedure), phrase.thread),
+        Op::Agent => phrase.thread,
+        _ => &[],
+    }
+}
+
+// Whether a line lets any thread into a procedure that sends.
+fn lends_send(habits: &Habits, phrase: &Phrase<'_>) -> bool
+    ensures { result ≡ lends_send habits.now phrase.now.op phrase.now }
+{
+    match phrase.op {
+        Op::CallProc => habits.sending.contains(phrase.procedure),
+        _ => false,
+    }
+}
+
+// Whether a line makes a thread that may stay, and isn't a server.
+fn makes_stayer(habits: &Habits, phrase: &Phrase<'_>) -> bool
+    ensures { result ≡ makes_stayer habits.now phrase.now.op phrase.now }
+{
+    match phrase.op {
+        Op::Create => !phrase.flags.server
+            && (phrase.flags.suspended || habits.staying.contains(phrase.procedure)),
+        _ => false,
+    }
+}
+
 fn greater(m: u32, n: u32) -> u32
     ensures { result ≡ greater m n }
 {
@@ -157,13 +227,16 @@ fn is_asked(events: &[u32], event: u32) -> bool
 }
 
 impl Sets {
-    ghost use Rattle.std.specs.Prelude.{◌≡◌, OnOk, IfOk};
+    ghost use Rattle.std.specs.Prelude.{◌≡◌, OnOk, IfOk, fold};
+    ghost use Rattle.script_text.specs.Spelling.{line_cut};
     ghost use Rattle.script_lines.specs.Reading.{phrase_at};
-    ghost use Rattle.script_advice.specs.Doubts.{is_asked, no_sets, sets_of, sets_on, sets_after_phrase};
+    ghost use Rattle.script_advice.specs.Doubts.{is_asked, no_sets, sets_on, sets_after_phrase};
 
-    fn new(alloc: Global) -> Sets
-        ensures { result ≡ no_sets }
+    // Nothing is set, in a text whose procedures do this.
+    fn new(alloc: Global, habits: Habits) -> Sets
+        ensures { result ≡ no_sets habits }
     {
+        let stayed = habits.first;
         Sets {
             threads: NameList::new(alloc),
             monitors: NameList::new(alloc),
@@ -172,6 +245,12 @@ impl Sets {
             started: NameList::new(alloc),
             asked: Sequence::new(alloc),
             most: 0,
+            clocked: false,
+            posted: false,
+            senders: NameList::new(alloc),
+            lent: false,
+            stayed,
+            habits,
         }
     }
 
@@ -184,6 +263,11 @@ impl Sets {
         self.conditions.enter(condition_set(phrase))?;
         self.promised.enter(monitor_promised(phrase))?;
         self.started.enter(procedure_started(phrase))?;
+        self.senders.enter(sender_set(&self.habits, phrase))?;
+        self.clocked = self.clocked || is_clock(phrase);
+        self.posted = self.posted || is_poster(phrase);
+        self.lent = self.lent || lends_send(&self.habits, phrase);
+        self.stayed = self.stayed || makes_stayer(&self.habits, phrase);
         self.most = greater(self.most, priority_given(phrase));
         self.asked.push(event_asked(phrase))
     }
@@ -198,11 +282,12 @@ impl Sets {
         }
     }
 
-    /// What the lines of a text set.
-    pub fn by(alloc: Global, text: &[u8]) -> Result<Sets, NoMemory>
-        ensures { IfOk result (λ sets. sets ≡ sets_of text.now) }
+    /// What the lines of a text set, whose procedures do this.
+    pub fn by(alloc: Global, habits: Habits, text: &[u8]) -> Result<Sets, NoMemory>
+        ensures { IfOk result
+            (λ sets. sets ≡ fold sets_on (no_sets habits) (line_cut text.now).0) }
     {
-        let mut sets = Sets::new(alloc);
+        let mut sets = Sets::new(alloc, habits);
         let mut rest = text;
         while let Some((line, after)) = first_line(rest) {
             sets.note_line(line)?;

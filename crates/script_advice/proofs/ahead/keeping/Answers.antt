@@ -1,7 +1,0 @@
-use Rattle.script_text.specs.Spelling.{line_cut}
-use Rattle.script_advice.specs.Doubts.{keeping, no_ahead}
-use Rattle.script_advice.proofs.AheadLaws.{kept_step}
-use Rattle.script_advice.proofs.ahead.keeping.Goals as goal
-
-pub loop-front-preserved : goal.loop-front-preserved
-loop-front-preserved c = kept_step c.loop-front.kept.items c.note_line.new.kept.items c.loop-front.ahead c.note_line.new.ahead (line_cut c.loop-front.rest.now).0 (line_cut c.in-Some.front.now).0 c.in-Some.line.now (keeping no_ahead (line_cut c.args.text.now).0) c.loop-front.invariant c.in-Some.ensures.some c.in_ok-note_line.ensures.ahead c.in_ok-note_line.ensures.kept
