@@ -14,7 +14,7 @@ ghost use Rattle.script_session.specs.declared.session.SessionEnd.TheVariants.{N
 use about::{print_answer, question_of};
 use lwp_serve::{Session, SessionEnd, fault_text, no_gates, top};
 use lwp_types::Failed;
-use std::io::{ErrorKind, Write};
+use std::io::{ErrorKind, IsTerminal, Write};
 use std::process::ExitCode;
 use std::sync::Wait;
 use std::thread::Threads;
@@ -36,6 +36,9 @@ usage: lwpserve WORD [NUMBER].. < INPUT
 TURNS is how many calls a script may make: 1 to 1000000, or 100000 without it.
 ";
 
+// What a person is told besides, where a script is refused.
+const HINT: &[u8] = b"lwpserve: `lwpcheck` tells what is wrong in a script\n";
+
 fn main(rt: HostRuntime) -> ExitCode {
     let session = match words(&rt) {
         Ok(words) => match question_of(&words) {
@@ -49,6 +52,9 @@ fn main(rt: HostRuntime) -> ExitCode {
     };
     if let Ok(text) = fault_text(rt.alloc(), &session.end) {
         let _ = rt.stderr().write_all(text.as_slice());
+    }
+    if session.status == 103 && rt.stderr().is_terminal() {
+        let _ = rt.stderr().write_all(HINT);
     }
     ExitCode::from(session.status)
 }
