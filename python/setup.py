@@ -32,7 +32,8 @@ def heap():
 
 def macros(header):
     """What the library has besides the first eleven functions."""
-    return [("LOQ_HAS_STATE", "1")] if "loq_state(" in header.read_text() else []
+    text = header.read_text()
+    return [(macro, "1") for macro, word in (("LOQ_HAS_STATE", "loq_state("), ("LOQ_HAS_FOLLOW", "loq_follow(")) if word in text]
 
 
 HEADERS = pathlib.Path(os.environ.get("LOQZEMAR_HEADER_DIR", TOP / "c"))

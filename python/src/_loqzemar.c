@@ -543,6 +543,18 @@ static PyObject *state(PyObject *self, PyObject *unused) {
 }
 #endif
 
+#ifdef LOQ_HAS_FOLLOW
+static PyObject *follow(PyObject *self, PyObject *args) {
+    const char *trace;
+    Py_ssize_t len, at, line;
+    if (!PyArg_ParseTuple(args, "y#nn", &trace, &len, &at, &line)) return NULL;
+    size_t place = (size_t)at, number = (size_t)line;
+    uint32_t status = loq_follow(&((core_object *)self)->pod, (const uint8_t *)trace, (size_t)len, &place, &number);
+    if (status != LOQ_DONE && status != LOQ_DIFFERS) return fault(status);
+    return Py_BuildValue("(Nnn)", PyBool_FromLong(status == LOQ_DONE), (Py_ssize_t)place, (Py_ssize_t)number);
+}
+#endif
+
 static PyMethodDef core_methods[] = {
     {"current", current, METH_NOARGS, "Whose turn it is, or None."},
     {"ending", ending, METH_NOARGS, "Why it is nobody's turn (0 it is somebody's, 1 the pod has ended, 2 nobody may run), and the exit status."},
@@ -553,6 +565,9 @@ static PyMethodDef core_methods[] = {
     {"lines", lines, METH_NOARGS, "The lines of the trace of the last call or delivery."},
 #ifdef LOQ_HAS_STATE
     {"state", state, METH_NOARGS, "The state of the pod as a text."},
+#endif
+#ifdef LOQ_HAS_FOLLOW
+    {"follow", follow, METH_VARARGS, "Whether the lines of the last step are a trace's from this byte on, which begins this line; and the next ones."},
 #endif
     {NULL, NULL, 0, NULL},
 };

@@ -4,6 +4,7 @@ from __future__ import annotations
 import re
 from typing import Optional, Tuple
 
+from ._loqzemar import Core
 from .words import Differs, is_text
 
 _EVENT = re.compile(r"event (\d+) client (\d+) seq (\d+)(?: (.*))?")
@@ -14,10 +15,13 @@ class Record:
     """A trace, and how far it was followed."""
 
     def __init__(self, trace: str) -> None:
-        self._lines = trace.split("\n")
         # What comes after the last newline is no line.
-        self._lines.pop()
+        whole = trace[: trace.rfind("\n") + 1]
+        self._lines = whole.split("\n")[:-1]
+        self._bytes = whole.encode("utf-8", "surrogatepass")
         self._next = 0
+        # The byte at which the next line begins.
+        self._place = 0
 
     @property
     def line(self) -> int:
@@ -64,3 +68,15 @@ class Record:
             if want != self.at():
                 raise Differs(self.line, want, self.at())
             self._next += 1
+            self._place += len(want) + 1
+
+    def compare_step(self, core: Core) -> None:
+        """Goes on after the lines of the last step, as `compare` does. Where the library can, it compares them."""
+        if not hasattr(core, "follow"):
+            self.compare(core.lines())
+            return
+        first = self._next
+        is_same, self._place, line = core.follow(self._bytes, self._place, self.line)
+        self._next = line - 1
+        if not is_same and not self.is_over():
+            raise Differs(line, core.lines().split("\n")[self._next - first], self.at())

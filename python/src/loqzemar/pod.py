@@ -252,7 +252,7 @@ class Pod:
                     self._follow_line(told, *line)
                 elif self._core.current() is not None and not told.is_spent(self._calls):
                     self._turn(self._core.current())
-                    told.compare(self._core.lines())
+                    told.compare_step(self._core)
                 else:
                     told.compare(self._tail_of(told))
         finally:
@@ -441,5 +441,5 @@ class Pod:
             raise Differs(told.line, None, told.at())
         self._posted[client] = max(self._posted.get(client, 0), number + 1)
         self._deliver(event, client, number, text)
-        told.compare(self._core.lines())
+        told.compare_step(self._core)
 
