@@ -56,7 +56,7 @@ with tempfile.TemporaryDirectory() as folder:
             told = f.readline().strip()
             f.write("stop\n")
             f.flush()
-        status = server.wait(20)
+        status = server.wait(120)
     finally:
         server.kill()
     numbers = list(range(1, 9)) + list(range(9, 37)) + list(range(40, 60))
