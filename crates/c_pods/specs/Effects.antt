@@ -1,4 +1,4 @@
--- Effects as records, with their texts and lists beside them.
+-- Effects as records, and their texts and lists.
 use Rattle.c_pods.specs.Records.{call_record, call_text, exit_record, exit_text, func_number, no_call}
 use Rattle.c_pods.specs.declared.effects.EffectRecord.{EffectRecord}
 use Rattle.lwp_types.specs.declared.call.Answer.{Answer}

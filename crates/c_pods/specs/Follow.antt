@@ -1,4 +1,4 @@
--- The lines of a step beside a recorded trace.
+-- The lines of a step compared with a recorded trace.
 use Rattle.c_pods.specs.declared.following.Followed.{Followed}
 use Rattle.c_pods.specs.declared.following.Place.{Place}
 use Rattle.std.specs.Prelude.{Bool, List, None, Option, Some, [], drop, false, if◌then◌else◌, slice_get, true, ℕ, ◌+◌, ◌==◌, ◌∷◌}
@@ -15,7 +15,7 @@ place_after b n here = if b == 10 then record { at = here.at + (n + 1); line = c
 abbrev pub width_after : ℕ → ℕ → ℕ
 width_after b n = if b == 10 then 0 else n + 1
 
--- bytes of lines beside what is left of the trace, where so many bytes of a line that begins there are the same so far: they are all the
+-- bytes of lines compared with what is left of the trace, where so many bytes of a line that begins there are the same so far: they are all the
 -- same, and the trace goes on after them; or a line differs
 abbrev pub follow : List ℕ → List ℕ → ℕ → Place → Followed
 follow [] trace n here = record { same = true; place = record { at = here.at + n; line = here.line } }
@@ -32,6 +32,6 @@ is_byte b (Some t) = b == t
 abbrev pub has_byte : List ℕ → ℕ → ℕ → Bool
 has_byte bytes at b = is_byte b (slice_get bytes at)
 
--- lines beside a trace, from a place of it on
+-- lines compared with a trace, from a place of it on
 abbrev pub follow_from : List ℕ → List ℕ → Place → Followed
 follow_from lines trace here = follow lines (drop here.at trace) 0 here

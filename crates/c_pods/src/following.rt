@@ -1,4 +1,4 @@
-// The lines of a step beside a recorded trace.
+// The lines of a step compared with a recorded trace.
 ghost use Rattle.std.specs.Prelude.{◌≡◌, ◌+◌, ◌<◌, ◌^◌, length};
 ghost use Rattle.c_pods.specs.Follow.{counted, follow, follow_from, has_byte, place_after, width_after};
 
@@ -59,7 +59,7 @@ fn has_byte(rest: &[u8], at: usize, byte: u8) -> bool
     }
 }
 
-// The lines beside what is left of a trace.
+// The lines compared with what is left of a trace.
 #[tactic(auto, using(crate::proofs::Along::differs, crate::proofs::Along::goes_on, crate::proofs::Along::is_within, crate::proofs::Along::ends))]
 fn follow_rest(lines: &[u8], rest: &[u8], from: Place) -> Followed
     requires { from.at + length rest.now < 2 ^ 64 }

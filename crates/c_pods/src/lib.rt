@@ -3,9 +3,9 @@
 //! A `PodHandle` of zeros is empty; `fill` puts a pod into it, and `take` takes it out. The pod in it lies on the heap, and the handle
 //! owns that memory (`specs/Handle.antt`). `HeldPod` is a pod with what its last call or delivery did, the names of its procedures, and
 //! the lines of the trace of that step (`specs/Held.antt`). `call_of` reads the call that a `CallRecord` and a text mean, and
-//! `effect_record` is what C is told of an effect, with `effect_text` and the numbers that `put_ids` puts beside it: all parts of each
-//! effect that there is (`specs/Calls.antt`, `specs/Records.antt`, `specs/Effects.antt`). `follow` goes along a recorded trace as far as it
-//! has the lines of a step (`specs/Follow.antt`).
+//! `set_effect` puts what C is told of an effect into a record; `effect_text` and `put_ids` give its text and its numbers: all parts of
+//! each effect that there is (`specs/Calls.antt`, `specs/Records.antt`, `specs/Effects.antt`). `follow` goes along a recorded trace as
+//! far as it has the lines of a step (`specs/Follow.antt`).
 //!
 //! The crate stands on the pods of `lwp_calls` with the events of `pod_events`, and on the lines of `trace_text`.
 #![tactic(auto)]

@@ -129,7 +129,7 @@ ids_or_none (Some e) = effect_ids e
 abbrev pub but_lines : HeldPod → HeldPod
 but_lines held = record held { lines = [] }
 
--- a recorded trace beside the lines of the last step
+-- a recorded trace compared with the lines of the last step
 abbrev pub followed : HeldPod → List ℕ → ℕ → ℕ → Followed
 followed held trace at line = follow_from (lines_of held) trace (record { at = at; line = line })
 
