@@ -4,10 +4,11 @@ ghost use Rattle.line_server.specs.Tables.{at_key, key_cmp};
 ghost use Rattle.std.specs.BTreeMap.{insert_entry, is_at};
 ghost use Rattle.std.specs.Map.{remove_entry};
 ghost use Rattle.std.specs.Option.{option_map};
-ghost use Rattle.std.specs.Prelude.{◌≡◌, if◌then◌else◌, is_err, is_none, is_ok, is_some};
+ghost use Rattle.std.specs.Prelude.{◌≡◌, if◌then◌else◌, is_err, is_none, is_ok, is_some, IfOk};
 
 use crate::entry::Entry;
 use lwp_types::NoMemory;
+use std::alloc::AllocError;
 use std::cmp::Ordering;
 
 /// Where a key stands, found by halving, or else where it belongs.
@@ -89,4 +90,15 @@ pub fn put<'s>(
         }
     }
     Ok(())
+}
+
+/// Equal entries, in memory of their own.
+pub fn again<'s>(entries: &Vec<Entry<'s>>) -> Result<Vec<Entry<'s>>, AllocError>
+    ensures { IfOk result (λ copy. copy.items ≡ entries.now.items) }
+{
+    let mut copy = Vec::with_capacity(*entries.allocator(), entries.len())?;
+    for entry in entries.iter() {
+        copy.push_reserved(entry.again());
+    }
+    Ok(copy)
 }

@@ -36,6 +36,16 @@ impl<'s> Entry<'s> {
         }
     }
 
+    /// An equal entry. Its bytes are shared.
+    pub fn again(&self) -> Entry<'s>
+        ensures { result ≡ self.now }
+    {
+        Entry {
+            key: self.key,
+            kept: self.kept.again(),
+        }
+    }
+
     /// How the key stands to these bytes.
     #[inline(always)]
     pub fn order(&self, key: &[u8]) -> Ordering

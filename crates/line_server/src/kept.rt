@@ -34,6 +34,13 @@ impl<'s> Kept<'s> {
         Kept { value }
     }
 
+    /// An equal value. Its bytes are shared.
+    pub fn again(&self) -> Kept<'s>
+        ensures { result ≡ self.now }
+    {
+        Kept { value: self.value }
+    }
+
     /// What a get is told.
     pub fn text(&self) -> Text<'s>
         ensures { result ≡ self.now }

@@ -9,7 +9,7 @@ ghost use Rattle.std.specs.Prelude.{◌≡◌, IsTrue, codes, if◌then◌else�
 use crate::calls::{set_agent, set_recv, set_reply, set_return, set_send, set_word};
 use crate::command::command_of;
 use crate::words::was_replied;
-use lwp_types::{Answer, Body, Call, Env, NULL_TID, NoMemory, Polled, Text, Tid};
+use lwp_types::{Again, Answer, Body, Call, Env, NULL_TID, NoMemory, Polled, Text, Tid};
 use std::marker::Model;
 
 /// What a session's last call was.
@@ -202,4 +202,15 @@ impl<'s> Polled<'s> for SessionBody {
     }
 
     ghost keeps_lengths = { session_next-keeps_lengths };
+}
+
+impl Again for SessionBody {
+    fn again(&self) -> Result<SessionBody, NoMemory> {
+        Ok(SessionBody {
+            event: self.event,
+            store: self.store,
+            agent: self.agent,
+            place: self.place,
+        })
+    }
 }

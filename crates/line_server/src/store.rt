@@ -5,7 +5,7 @@ ghost use Rattle.std.specs.Prelude.{◌≡◌, IfOk, OnOk};
 use crate::calls::{set_recv, set_reply, set_return, set_word};
 use crate::table::Table;
 use crate::words::was_replied;
-use lwp_types::{Answer, Body, Call, Env, LwpErr, NULL_TID, NoMemory, Polled, Text, Tid};
+use lwp_types::{Again, Answer, Body, Call, Env, LwpErr, NULL_TID, NoMemory, Polled, Text, Tid};
 use std::alloc::Global;
 use std::collections::BTreeMap;
 use std::marker::Model;
@@ -156,4 +156,23 @@ impl<'s> Polled<'s> for StoreBody<'s> {
     }
 
     ghost keeps_lengths = { store_next-keeps_lengths };
+}
+
+// Equal tables, in memory of their own.
+fn tables_again<'s>(tables: &BTreeMap<u64, Table<'s>>) -> Result<BTreeMap<u64, Table<'s>>, NoMemory>
+    ensures { IfOk result (λ copy. copy.entries ≡ tables.now.entries) }
+{
+    let copy = tables.clone()?;
+    Ok(copy)
+}
+
+impl<'s> Again for StoreBody<'s> {
+    fn again(&self) -> Result<StoreBody<'s>, NoMemory> {
+        Ok(StoreBody {
+            alloc: self.alloc,
+            tables: tables_again(&self.tables)?,
+            client: self.client,
+            place: self.place,
+        })
+    }
 }

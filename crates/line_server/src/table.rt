@@ -8,7 +8,7 @@ use crate::command::{Asked, command_of};
 use crate::entries;
 use crate::entry::Entry;
 use lwp_types::{NoMemory, Text};
-use std::alloc::Global;
+use std::alloc::{AllocError, Global};
 use std::marker::Model;
 
 /// How many keys a table may have.
@@ -89,5 +89,15 @@ impl<'s> Table<'s> {
             Some(Asked::Del { key }) => Ok(self.del(key)),
             None => Ok(Text::lent(b"bad")),
         }
+    }
+}
+
+impl<'s> Clone for Table<'s> {
+    ghost is_clone = { λ table copy. copy ≡ table };
+
+    fn clone(&self) -> Result<Table<'s>, AllocError> {
+        Ok(Table {
+            entries: entries::again(&self.entries)?,
+        })
     }
 }

@@ -2,7 +2,7 @@
 ghost use Rattle.std.specs.Prelude.{◌≡◌, ◌≤◌, ◌+◌, length};
 ghost use Rattle.lists.specs.Texts.{text_in};
 
-use crate::copies::cloned_exactly;
+use crate::copies::cloned;
 use lwp_types::{NoMemory, Text};
 use std::alloc::Global;
 use std::marker::Model;
@@ -63,8 +63,8 @@ impl TextList {
         ensures { IfOk result (λ copy. copy ≡ self.now) }
     {
         Ok(TextList {
-            bytes: cloned_exactly(&self.bytes)?,
-            spans: cloned_exactly(&self.spans)?,
+            bytes: cloned(&self.bytes)?,
+            spans: cloned(&self.spans)?,
         })
     }
 

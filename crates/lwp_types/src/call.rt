@@ -347,6 +347,50 @@ pub enum Effect<'s> {
     },
 }
 
+impl<'s> Effect<'s> {
+    /// An equal effect. A list of numbers has memory of its own.
+    pub fn again(&self) -> Result<Effect<'s>, NoMemory>
+        ensures { IfOk result (λ copy. copy ≡ self.now) }
+    {
+        Ok(match self {
+            Effect::Called { tid, call } => Effect::Called {
+                tid: *tid,
+                call: call.again(),
+            },
+            Effect::Answered { tid, answer } => Effect::Answered {
+                tid: *tid,
+                answer: answer.again()?,
+            },
+            Effect::Exited {
+                tid,
+                reg,
+                call,
+                answer,
+            } => Effect::Exited {
+                tid: *tid,
+                reg: *reg,
+                call: call.again(),
+                answer: answer.again()?,
+            },
+            Effect::Died { tid } => Effect::Died { tid: *tid },
+            Effect::Delivered { agent, event } => Effect::Delivered {
+                agent: *agent,
+                event: *event,
+            },
+            Effect::Ticked { now } => Effect::Ticked { now: *now },
+            Effect::Ended { status } => Effect::Ended { status: *status },
+            Effect::Trapped { tid, event } => Effect::Trapped {
+                tid: *tid,
+                event: *event,
+            },
+            Effect::Rites { agent, dead } => Effect::Rites {
+                agent: *agent,
+                dead: *dead,
+            },
+        })
+    }
+}
+
 /// Why it is nobody's turn: the pod has ended, with a status; or nobody may run as it stands.
 #[derive(Clone, Copy, Debug, PartialEq, Eq)]
 pub enum PodEnd {

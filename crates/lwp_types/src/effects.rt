@@ -42,6 +42,18 @@ fn empty(places: &mut Vec<Effect>)
     }
 }
 
+// Equal effects, and as much room for more.
+fn list_again<'s>(places: &Vec<Effect<'s>>) -> Result<Vec<Effect<'s>>, NoMemory>
+    ensures items { IfOk result (λ copy. copy.items ≡ places.now.items) }
+    ensures room { IfOk result (λ copy. vec_capacity copy ≡ vec_capacity places.now) }
+{
+    let mut copy = Vec::with_capacity(*places.allocator(), places.capacity())?;
+    for effect in places.iter() {
+        copy.push_reserved(effect.again()?);
+    }
+    Ok(copy)
+}
+
 impl<'s> Effects<'s> {
     /// None, with places for 2,048.
     pub fn new(alloc: Global) -> Result<Effects<'s>, NoMemory>
@@ -49,6 +61,15 @@ impl<'s> Effects<'s> {
     {
         let places = Vec::with_capacity(alloc, PLACES)?;
         Ok(Effects { places })
+    }
+
+    /// Equal effects, with places for as many.
+    pub fn again(&self) -> Result<Effects<'s>, NoMemory>
+        ensures { IfOk result (λ copy. copy ≡ self.now) }
+    {
+        Ok(Effects {
+            places: list_again(&self.places)?,
+        })
     }
 
     /// How many there are.

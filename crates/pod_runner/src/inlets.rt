@@ -14,8 +14,8 @@ use event_gate::Inlet;
 use lwp_types::{Polled, Program, Sink};
 use std::sync::Wait;
 
-// Whether all passes came back to each.
-pub(crate) fn all_told<'s, I: Inlet<'s>>(inlets: &[I]) -> bool
+/// Whether all passes came back to each.
+pub fn all_told<'s, I: Inlet<'s>>(inlets: &[I]) -> bool
     ensures { IsTrue result ↔ AllTold (map I.intake inlets.now) }
 {
     for inlet in inlets {
@@ -88,9 +88,9 @@ fn place_of<'s, I: Inlet<'s>>(inlets: &[I], from: usize, event: u8) -> usize
     places
 }
 
-// Each inlet in turn may have one line taken. One whose event doesn't wait is passed over: as long as somebody may run, or no line was
-// taken, its event still doesn't wait at the end.
-pub(crate) fn serve_all<'s, B: Polled<'s>, P: Program<B>, I: Inlet<'s>, K: Sink, R: Wait>(
+/// Each inlet in turn may have one line taken. One whose event doesn't wait is passed over: as long as somebody may run, or no line was
+/// taken, its event still doesn't wait at the end.
+pub fn serve_all<'s, B: Polled<'s>, P: Program<B>, I: Inlet<'s>, K: Sink, R: Wait>(
     rt: &R,
     run: &mut Run<'s, B, P>,
     inlets: &mut Vec<I>,

@@ -12,6 +12,9 @@
 //! calls were made before which a line of its event could be taken; that a look comes right before its call, no clause says. It is
 //! stuck only where no line will come that can be delivered, and quiet only where some client may post still.
 //!
+//! `Run::again` gives an equal run in memory of its own: either then goes on by itself, which a search over all sessions needs. Texts are
+//! lent, so both share them.
+//!
 //! The crate stands on the pod of `lwp_calls`, the events of `pod_events`, the gates and inlets of `event_gate` and the lines of
 //! `trace_text`, for every kind of body, program, gate, inlet and sink.
 #![tactic(auto)]
@@ -32,6 +35,7 @@ mod snapshot;
 mod take_list;
 
 pub use drive::{go_round, run};
+pub use inlets::{all_told, serve_all};
 pub use laws::{every_session, every_session_moves};
 pub use live::Live;
 pub use live_rounds::run_live;

@@ -18,7 +18,9 @@ use crate::rows::{proc_of, settle};
 use crate::{Made, Phase, Took};
 use lists::TextList;
 use lwp_calls::Pod;
-use lwp_types::{Call, Effects, Env, NoMemory, PodEnd, PodParams, Polled, Program, Tid};
+use lwp_types::{
+    Again, Body, Call, Effects, Env, NoMemory, PodEnd, PodParams, Polled, Program, Tid,
+};
 use pod_events::{Driven, EventPod};
 use std::alloc::Global;
 use trace_text::StepLines;
@@ -248,5 +250,23 @@ impl<'s, B: Polled<'s>> RunParts<'s, B> {
         self.caller = caller;
         let born = proc_of(call);
         settle(&mut self.rows, program, born, &self.effects)
+    }
+}
+
+impl<'s, B: Body + Again> RunParts<'s, B> {
+    ghost use Rattle.pod_runner.specs.RunParts.{live_of, last_step_effects};
+
+    /// Parts that stand alike, in memory of their own.
+    pub(crate) fn again(&self) -> Result<RunParts<'s, B>, NoMemory>
+        ensures live { IfOk result (λ copy. live_of copy ≡ live_of self.now) }
+        ensures effects { IfOk result (λ copy. last_step_effects copy ≡ last_step_effects self.now) }
+    {
+        Ok(RunParts {
+            pod: self.pod.again()?,
+            rows: self.rows.again()?,
+            env: self.env.again()?,
+            effects: self.effects.again()?,
+            caller: self.caller,
+        })
     }
 }

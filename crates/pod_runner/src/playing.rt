@@ -12,7 +12,7 @@ ghost use Rattle.streams.specs.Streams.{sides};
 use crate::parts::RunParts;
 use crate::{Made, Phase, RunErr, TakeList, Took};
 use lists::TextList;
-use lwp_types::{Body, Env, Line, NoMemory, PodParams, Polled, Program, Sink};
+use lwp_types::{Again, Body, Env, Line, NoMemory, PodParams, Polled, Program, Sink};
 use std::alloc::Global;
 use std::marker::Model;
 use streams::write_all;
@@ -287,5 +287,27 @@ impl<'s, B: Polled<'s>, P: Program<B>> Run<'s, B, P> {
         self.parts.turn(&self.program, &self.procs, &mut self.out)?;
         self.calls += 1;
         tell(&self.out, &mut self.failed, sink)
+    }
+}
+
+impl<'s, B: Body + Again, P: Program<B> + Again> Run<'s, B, P> {
+    /// An equal run, in memory of its own, which goes on by itself. Each step of either is told its own sink.
+    pub fn again(&self) -> Result<Run<'s, B, P>, NoMemory>
+        ensures { IfOk result (λ copy. copy ≡ self.now) }
+    {
+        Ok(Run {
+            parts: self.parts.again()?,
+            program: self.program.again()?,
+            procs: self.procs.again()?,
+            params: self.params,
+            threads: self.threads,
+            mons: self.mons,
+            conds: self.conds,
+            turns: self.turns,
+            calls: self.calls,
+            takes: self.takes.again()?,
+            failed: self.failed,
+            out: StepLines::new(self.parts.rows.allocator()),
+        })
     }
 }

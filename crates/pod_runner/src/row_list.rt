@@ -10,7 +10,7 @@ ghost use Rattle.std.specs.List.{remove};
 
 use crate::Row;
 use lwp_types::{
-    Answer, Body, Call, Env, IdKind, IdList, NoMemory, Polled, Program, Tid, likely_place,
+    Again, Answer, Body, Call, Env, IdKind, IdList, NoMemory, Polled, Program, Tid, likely_place,
 };
 use std::alloc::Global;
 use std::marker::Model;
@@ -46,6 +46,31 @@ pub fn copy_list(alloc: Global, list: &IdList) -> Result<IdList, NoMemory>
     let mut copy = IdList::new(alloc);
     for i in 0..list.len() {
         copy.push(list.get(i))?;
+    }
+    Ok(copy)
+}
+
+// An equal row, in memory of its own.
+fn row_again<'s, B: Again>(row: &Row<'s, B>) -> Result<Row<'s, B>, NoMemory>
+    ensures { IfOk result (λ copy. copy ≡ row.now) }
+{
+    Ok(Row {
+        tid: row.tid,
+        proc: row.proc,
+        body: row.body.again()?,
+        answer: row.answer.again()?,
+        called: row.called,
+        call: row.call.again(),
+    })
+}
+
+// Equal rows, in memory of their own.
+fn rows_again<'s, B: Again>(rows: &Vec<Row<'s, B>>) -> Result<Vec<Row<'s, B>>, NoMemory>
+    ensures { IfOk result (λ copy. copy.items ≡ rows.now.items) }
+{
+    let mut copy = Vec::with_capacity(*rows.allocator(), rows.len())?;
+    for row in rows.iter() {
+        copy.push_reserved(row_again(row)?);
     }
     Ok(copy)
 }
@@ -319,6 +344,20 @@ impl<'s, B> RowList<'s, B> {
             last: 0,
             gone: Call::Return,
         }
+    }
+
+    /// Equal rows, in memory of their own.
+    pub fn again(&self) -> Result<RowList<'s, B>, NoMemory>
+    where
+        B: Again,
+        ensures { IfOk result (λ copy. copy ≡ self.now) }
+    {
+        Ok(RowList {
+            rows: rows_again(&self.rows)?,
+            rising: self.rising,
+            last: self.last,
+            gone: self.gone.again(),
+        })
     }
 
     /// How many rows there are.

@@ -1,11 +1,11 @@
 // The lines that a run has taken.
-ghost use Rattle.std.specs.Prelude.{◌≡◌, ◌<◌, ◌∷◌, ◌++◌, [], length, slice_index_or, OnErr, OnOk};
+ghost use Rattle.std.specs.Prelude.{◌≡◌, ◌<◌, ◌∷◌, ◌++◌, [], length, slice_index_or, IfOk, OnErr, OnOk};
 ghost use Rattle.std.specs.List.{count_by};
 ghost use Rattle.pod_runner.specs.Snapshots.{taken_of};
 ghost use Rattle.pod_runner.specs.Takes.{is_of};
 
 use crate::Took;
-use lists::TextList;
+use lists::{TextList, cloned};
 use lwp_types::{Line, NoMemory};
 use std::alloc::Global;
 use std::marker::Model;
@@ -60,6 +60,16 @@ impl TakeList {
             rows: Vec::new(alloc),
             texts: TextList::new(alloc),
         }
+    }
+
+    /// Equal takes, in memory of their own.
+    pub fn again(&self) -> Result<TakeList, NoMemory>
+        ensures { IfOk result (λ copy. copy ≡ self.now) }
+    {
+        Ok(TakeList {
+            rows: cloned(&self.rows)?,
+            texts: self.texts.again()?,
+        })
     }
 
     /// How many takes there are.

@@ -10,7 +10,7 @@ use crate::frame::Frame;
 use crate::names::{name_by, name_condition, name_monitor, name_thread};
 use crate::numbers::{has_numbers, proc_number, stmts_at};
 use crate::walk::{is_refused, near_stmt, next_stmt};
-use lwp_types::{Answer, Body, Call, Env, NULL_TID, NoMemory, Polled, Tid};
+use lwp_types::{Again, Answer, Body, Call, Env, NULL_TID, NoMemory, Polled, Tid};
 use script_text::{Script, Stmt};
 use std::alloc::Global;
 use std::marker::Model;
@@ -328,4 +328,28 @@ impl<'s> Polled<'s> for ScriptBody<'s> {
     }
 
     ghost keeps_lengths = { script_next-keeps_lengths };
+}
+
+// Equal frames, in memory of their own.
+fn frames_again(frames: &Vec<Frame>) -> Result<Vec<Frame>, NoMemory>
+    ensures { IfOk result (λ copy. copy.items ≡ frames.now.items) }
+{
+    let mut copy = Vec::with_capacity(*frames.allocator(), frames.len())?;
+    for frame in frames.iter() {
+        copy.push_reserved(frame.again()?);
+    }
+    Ok(copy)
+}
+
+impl<'s> Again for ScriptBody<'s> {
+    fn again(&self) -> Result<ScriptBody<'s>, NoMemory> {
+        Ok(ScriptBody {
+            alloc: self.alloc,
+            script: self.script,
+            top: self.top.again()?,
+            below: frames_again(&self.below)?,
+            sender: self.sender,
+            last: self.last,
+        })
+    }
 }

@@ -1,7 +1,8 @@
 // A procedure that was begun and hasn't returned.
-ghost use Rattle.std.specs.Prelude.{◌≡◌, ◌==◌, not, length, slice_get, OnOk};
+ghost use Rattle.std.specs.Prelude.{◌≡◌, ◌==◌, not, length, slice_get, IfOk, OnOk};
 ghost use Rattle.script_body.specs.Frame.{opening_frame, with_handler, without_handler, with_caught};
 
+use lists::cloned;
 use lwp_types::NoMemory;
 use std::alloc::Global;
 use std::marker::Model;
@@ -41,6 +42,17 @@ impl Frame {
             place: 0,
             handlers: Vec::new(alloc),
         }
+    }
+
+    /// An equal frame, in memory of its own.
+    pub fn again(&self) -> Result<Frame, NoMemory>
+        ensures { IfOk result (λ copy. copy ≡ self.now) }
+    {
+        Ok(Frame {
+            number: self.number,
+            place: self.place,
+            handlers: cloned(&self.handlers)?,
+        })
     }
 
     pub fn number(&self) -> u32

@@ -6,6 +6,7 @@
 //! - `ThreadBody`: any thread of a script, one of these or one of the two that are built in (`specs/Bodies.antt`). `ScriptProgram`
 //!   gives them by number, first the procedures of statements and then those that are built in, with their names; so a script is
 //!   a program that `pod_runner` runs.
+//!   Bodies and programs can be had again, so a run of a script can.
 //! - `ScriptGate`: the lines of a script's clients, all in place before a run, with no copy of any of them. Of each event it has the
 //!   places of that event's posts in the script, in order, and how many of them were taken; a line is made of its post when it is
 //!   taken. `stock` makes the gate of a script of which nothing was taken (`specs/Stocked.antt`).

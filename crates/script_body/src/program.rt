@@ -6,7 +6,7 @@ ghost use Rattle.script_text.specs.Script.{proc_places};
 use crate::ScriptBody;
 use crate::thread_body::ThreadBody;
 use line_server::{SessionBody, StoreBody};
-use lwp_types::{NoMemory, Program};
+use lwp_types::{Again, NoMemory, Program};
 use script_text::{NativeKind, Script};
 use std::alloc::Global;
 use std::marker::Model;
@@ -90,4 +90,13 @@ impl<'s> Program<ThreadBody<'s>> for ScriptProgram<'s> {
     }
 
     ghost as_many = { as_many-of };
+}
+
+impl<'s> Again for ScriptProgram<'s> {
+    fn again(&self) -> Result<ScriptProgram<'s>, NoMemory> {
+        Ok(ScriptProgram {
+            alloc: self.alloc,
+            script: self.script,
+        })
+    }
 }

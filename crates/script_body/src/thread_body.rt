@@ -1,7 +1,7 @@
 // What a thread of a script runs.
 use crate::ScriptBody;
 use line_server::{SessionBody, StoreBody};
-use lwp_types::{Answer, Body, Call, Env, NoMemory, Polled};
+use lwp_types::{Again, Answer, Body, Call, Env, NoMemory, Polled};
 
 /// A thread's body: a procedure of statements, or one of the two that are built in.
 #[derive(Drop)]
@@ -35,4 +35,14 @@ impl<'s> Polled<'s> for ThreadBody<'s> {
     }
 
     ghost keeps_lengths = { body_next-keeps_lengths };
+}
+
+impl<'s> Again for ThreadBody<'s> {
+    fn again(&self) -> Result<ThreadBody<'s>, NoMemory> {
+        Ok(match self {
+            ThreadBody::Scripted(body) => ThreadBody::Scripted(body.again()?),
+            ThreadBody::Serving(body) => ThreadBody::Serving(body.again()?),
+            ThreadBody::Storing(body) => ThreadBody::Storing(body.again()?),
+        })
+    }
 }

@@ -23,7 +23,7 @@ module _ {X : Type 0} where
   take-next (y ∷ xs) (suc i) x here = ap (λ ys. y ∷ ys) (take-next xs i x here)
 
 module _ {T : Type 0} where
-  -- who stands behind a place was born later
+  -- what comes after a place was born later
   pub later : (live : List (ℕ × T)) (i n : ℕ) (v : T) → AreRising live → slice_get live i ≡ Some (n, v) → AllByRecursion (λ p. n < p.0) (drop (suc i) live)
   later [] i n v rising here = absurd (cc)
   later (p ∷ live) zero n v rising here = (let same : p ≡ (n, v) = cc in rw (same) at rising.0)

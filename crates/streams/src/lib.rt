@@ -31,6 +31,7 @@ mod until_fault;
 mod writing;
 
 pub use count::CountSink;
+pub use ghost_bytes::{GhostBytes, More};
 pub use reading::{Feed, ReadFailure, feed_up_to, read_all, read_up_to};
 pub use std_streams::{GATHERED, GatheringSink, ReaderSource, StdSink, StdSource};
 pub use until_fault::UntilFault;
