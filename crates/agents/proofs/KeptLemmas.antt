@@ -12,9 +12,11 @@ use Rattle.lwp_types.specs.CountLaws.{count-cons, count-push, count_found_by, co
 use Rattle.lwp_types.specs.Messages.{agent_with_holding, with_holding}
 use Rattle.lwp_types.specs.State.{agent_numbers, agent_of, all_below, is_agent_row, is_empty, member, passes, rises, without}
 use Rattle.lwp_types.specs.declared.rows.AgentRow.{AgentRow}
-use Rattle.std.proofs.Common.{Bool, IfNone, IfSome, List, None, Option, Some, [], ap, arith, cond, count_by, eqb, false, inl, inr, is_some, length, ltb, not, option_map, refl, replicate, set, slice_get, sym, true, ℕ, ◌&&◌, ◌++◌, ◌+◌, ◌-◌, ◌<◌, ◌∙◌, ◌∷◌, ◌≡◌, ◌≢◌, ◌≤◌, ◌⊎◌}
+use Rattle.std.proofs.Common.{Bool, IfNone, IfSome, List, None, Option, Some, [], ap, arith, cond, count_by, eqb, false, inl, inr, is_some, length, ltb}
+use Rattle.std.proofs.Common.{not, option_map, refl, replicate, set, slice_get, sym, true, ℕ, ◌&&◌, ◌++◌, ◌+◌, ◌-◌, ◌<◌, ◌∙◌, ◌∷◌, ◌≡◌, ◌≢◌, ◌≤◌, ◌⊎◌}
 use Rattle.std.proofs.lemmas.Bool.{and_parts, cases_eq, cases_lt, eq-eqb, ne_eqb}
-use Rattle.std.proofs.lemmas.List.{append-nil, get_or-set_other, get_or-set_same, get_or_past, length-map, length-replicate, length-set, length_push, map-append}
+use Rattle.std.proofs.lemmas.List.{append-nil, get_or-set_other, get_or-set_same, get_or_past, length-map}
+use Rattle.std.proofs.lemmas.List.{length-replicate, length-set, length_push, map-append}
 use Rattle.std.proofs.lemmas.List.Folds.{list_all-append}
 use Rattle.std.specs.List.{filter, find, list_all}
 use Rattle.std.specs.Slice.Scan.{HoldsNowhere, IsFirstPlace}
@@ -22,13 +24,15 @@ use Rattle.std.specs.Slice.Scan.{HoldsNowhere, IsFirstPlace}
 -- ---- birth order
 
 -- the numbers of some of the agents pass where those of all do
-pub numbers-filter : (test : ℕ → Bool) (keeps : AgentRow → Bool) (rows : List AgentRow) → list_all test (agent_numbers rows) ≡ true → list_all test (agent_numbers (filter keeps rows)) ≡ true
+pub numbers-filter : (test : ℕ → Bool) (keeps : AgentRow → Bool) (rows : List AgentRow) → list_all test (agent_numbers rows) ≡ true
+    → list_all test (agent_numbers (filter keeps rows)) ≡ true
 numbers-filter test keeps [] all = refl
 numbers-filter test keeps (row ∷ rows) all =
     let parts = and_parts (test row.number) (list_all test (agent_numbers rows)) all in
     by_test (keeps row) parts.0 (numbers-filter test keeps rows parts.1)
   where
-    by_test : (b : Bool) → test row.number ≡ true → list_all test (agent_numbers (filter keeps rows)) ≡ true → list_all test (agent_numbers (cond b (row ∷ filter keeps rows) (filter keeps rows))) ≡ true
+    by_test : (b : Bool) → test row.number ≡ true → list_all test (agent_numbers (filter keeps rows)) ≡ true
+        → list_all test (agent_numbers (cond b (row ∷ filter keeps rows) (filter keeps rows))) ≡ true
     by_test true here rest = rw here rest
     by_test false here rest = rest
 
@@ -38,7 +42,8 @@ rises-filter keeps (row ∷ rows) up =
     let parts = and_parts (list_all (λ n. ltb row.number n) (agent_numbers rows)) (rises (agent_numbers rows)) up in
     by_test (keeps row) (numbers-filter (λ n. ltb row.number n) keeps rows parts.0) (rises-filter keeps rows parts.1)
   where
-    by_test : (b : Bool) → list_all (λ n. ltb row.number n) (agent_numbers (filter keeps rows)) ≡ true → rises (agent_numbers (filter keeps rows)) ≡ true → rises (agent_numbers (cond b (row ∷ filter keeps rows) (filter keeps rows))) ≡ true
+    by_test : (b : Bool) → list_all (λ n. ltb row.number n) (agent_numbers (filter keeps rows)) ≡ true
+        → rises (agent_numbers (filter keeps rows)) ≡ true → rises (agent_numbers (cond b (row ∷ filter keeps rows) (filter keeps rows))) ≡ true
     by_test true above rest = rw above rest
     by_test false above rest = rest
 
@@ -56,17 +61,23 @@ numbers-held a b (row ∷ rows) = ap (λ ns. row.number ∷ ns) (numbers-held a 
 -- ---- the agents under a key
 
 module _ (key : AgentRow → ℕ) {rows : List AgentRow} {es : List Entry} (was : IsIndexed key rows es) where
-  pub IsIndexed-joined : (newest : AgentRow) (after : List Entry) → Puts es after (key newest) (numbers_under (key newest) es ++ newest.number ∷ []) → length after ≡ length es + 1 → IsIndexed key (rows ++ newest ∷ []) after
+  pub IsIndexed-joined : (newest : AgentRow) (after : List Entry)
+      → Puts es after (key newest) (numbers_under (key newest) es ++ newest.number ∷ []) → length after ≡ length es + 1
+      → IsIndexed key (rows ++ newest ∷ []) after
   IsIndexed-joined newest after puts len = record {
     each = λ k. by_key k (cases_eq (key newest) k) ∙ sym (numbers-push (λ row. eqb (key row) k) rows newest);
     all = omega (arith, len, was.all, length_push rows newest);
   }
     where
-      by_key : (k : ℕ) → (key newest ≡ k) ⊎ (key newest ≢ k) → numbers_under k after ≡ agent_numbers (filter (λ row. eqb (key row) k) rows) ++ cond (eqb (key newest) k) (newest.number ∷ []) []
-      by_key k (inl same) = rw (eq-eqb (key newest) k same) (ap (λ j. numbers_under j after) (sym same) ∙ puts.here ∙ ap (λ j. numbers_under j es ++ newest.number ∷ []) same ∙ ap (λ ns. ns ++ newest.number ∷ []) (was.each k))
-      by_key k (inr apart) = rw (ne_eqb (key newest) k apart) (puts.others k (λ same. apart (sym same)) ∙ was.each k ∙ sym (append-nil (agent_numbers (filter (λ row. eqb (key row) k) rows))))
+      by_key : (k : ℕ) → (key newest ≡ k) ⊎ (key newest ≢ k)
+          → numbers_under k after ≡ agent_numbers (filter (λ row. eqb (key row) k) rows) ++ cond (eqb (key newest) k) (newest.number ∷ []) []
+      by_key k (inl same) = rw (eq-eqb (key newest) k same) (ap (λ j. numbers_under j after) (sym same) ∙ puts.here
+          ∙ ap (λ j. numbers_under j es ++ newest.number ∷ []) same ∙ ap (λ ns. ns ++ newest.number ∷ []) (was.each k))
+      by_key k (inr apart) = rw (ne_eqb (key newest) k apart)
+          (puts.others k (λ same. apart (sym same)) ∙ was.each k ∙ sym (append-nil (agent_numbers (filter (λ row. eqb (key row) k) rows))))
 
-  pub IsIndexed-left : (a : ℕ) (row : AgentRow) (after : List Entry) → rises (agent_numbers rows) ≡ true → agent_of rows a ≡ Some row → Puts es after (key row) (without a (numbers_under (key row) es)) → length after + 1 ≡ length es
+  pub IsIndexed-left : (a : ℕ) (row : AgentRow) (after : List Entry) → rises (agent_numbers rows) ≡ true → agent_of rows a ≡ Some row
+      → Puts es after (key row) (without a (numbers_under (key row) es)) → length after + 1 ≡ length es
       → length (without_agent a rows) + 1 ≡ length rows → IsIndexed key (without_agent a rows) after
   IsIndexed-left a row after up found puts len fewer = record {
     each = λ k. by_key k (cases_eq (key row) k);
@@ -77,7 +88,8 @@ module _ (key : AgentRow → ℕ) {rows : List AgentRow} {es : List Entry} (was 
       by_key k (inl same) =
           ap (λ j. numbers_under j after) (sym same) ∙ puts.here ∙ ap (λ j. without a (numbers_under j es)) same
           ∙ ap (without a) (was.each k) ∙ sym (numbers-without (λ r. eqb (key r) k) a rows)
-      by_key k (inr apart) = puts.others k (λ same. apart (sym same)) ∙ was.each k ∙ sym (numbers-others (λ r. eqb (key r) k) a rows row up found (ne_eqb (key row) k apart))
+      by_key k (inr apart) = puts.others k (λ same. apart (sym same)) ∙ was.each k
+          ∙ sym (numbers-others (λ r. eqb (key r) k) a rows row up found (ne_eqb (key row) k apart))
 
   pub IsIndexed-holding : (a : ℕ) (b : Bool) → ((row : AgentRow) → key (agent_with_holding a b row) ≡ key row) → IsIndexed key (with_holding a b rows) es
   IsIndexed-holding a b same = record {
@@ -98,7 +110,8 @@ one_other : (e k : ℕ) (b : Bool) → e ≢ k → one (eqb e k && b) ≡ 0
 one_other e k b apart = rw (ne_eqb e k apart) refl
 
 -- the tally of one event changes, and those of the others stay
-tallied-put : (rows now : List AgentRow) (board : List Tally) (e : ℕ) (tally : Tally) → IsTallied rows board → e < length board → tally ≡ tally_in now e → ((k : ℕ) → e ≢ k → tally_in now k ≡ tally_in rows k) → IsTallied now (set board e tally)
+tallied-put : (rows now : List AgentRow) (board : List Tally) (e : ℕ) (tally : Tally) → IsTallied rows board → e < length board
+    → tally ≡ tally_in now e → ((k : ℕ) → e ≢ k → tally_in now k ≡ tally_in rows k) → IsTallied now (set board e tally)
 tallied-put rows now board e tally was within here others k = by_event (cases_eq e k)
   where
     by_event : (e ≡ k) ⊎ (e ≢ k) → tally_at (set board e tally) k ≡ tally_in now k
@@ -127,16 +140,19 @@ some_pass : (p : AgentRow → Bool) (rows : List AgentRow) → not (is_empty (fi
 some_pass p [] = refl
 some_pass p (row ∷ rows) = rw (count-cons p row rows) (by_test (p row) (some_pass p rows))
   where
-    by_test : (b : Bool) → not (is_empty (filter p rows)) ≡ not (eqb (count_by p rows) 0) → not (is_empty (cond b (row ∷ filter p rows) (filter p rows))) ≡ not (eqb (one b + count_by p rows) 0)
+    by_test : (b : Bool) → not (is_empty (filter p rows)) ≡ not (eqb (count_by p rows) 0)
+        → not (is_empty (cond b (row ∷ filter p rows) (filter p rows))) ≡ not (eqb (one b + count_by p rows) 0)
     by_test true rest = sym (ap not (one_more (count_by p rows)))
     by_test false rest = rest ∙ ap (λ n. not (eqb n 0)) (nothing_added (count_by p rows))
 
-none_holds : (p : AgentRow → Bool) (rows : List AgentRow) → list_all (λ (row : AgentRow). not row.holding) (filter p rows) ≡ eqb (count_by (λ (row : AgentRow). p row && row.holding) rows) 0
+none_holds : (p : AgentRow → Bool) (rows : List AgentRow)
+    → list_all (λ (row : AgentRow). not row.holding) (filter p rows) ≡ eqb (count_by (λ (row : AgentRow). p row && row.holding) rows) 0
 none_holds p [] = refl
 none_holds p (row ∷ rows) = rw (count-cons (λ (r : AgentRow). p r && r.holding) row rows) (by_tests (p row) row.holding (none_holds p rows))
   where
     by_tests : (b holds : Bool) → list_all (λ (r : AgentRow). not r.holding) (filter p rows) ≡ eqb (count_by (λ (r : AgentRow). p r && r.holding) rows) 0
-        → list_all (λ (r : AgentRow). not r.holding) (cond b (record row { holding = holds } ∷ filter p rows) (filter p rows)) ≡ eqb (one (b && holds) + count_by (λ (r : AgentRow). p r && r.holding) rows) 0
+        → list_all (λ (r : AgentRow). not r.holding) (cond b (record row { holding = holds } ∷ filter p rows) (filter p rows))
+        ≡ eqb (one (b && holds) + count_by (λ (r : AgentRow). p r && r.holding) rows) 0
     by_tests true true rest = sym (one_more (count_by (λ (r : AgentRow). p r && r.holding) rows))
     by_tests true false rest = rest ∙ ap (λ n. eqb n 0) (nothing_added (count_by (λ (r : AgentRow). p r && r.holding) rows))
     by_tests false holds rest = rest ∙ ap (λ n. eqb n 0) (nothing_added (count_by (λ (r : AgentRow). p r && r.holding) rows))
@@ -152,11 +168,17 @@ module _ (p q : ℕ → Bool) (same : (e : ℕ) → p e ≡ q e) (from most : �
 
   pub first_same : (o : Option ℕ) → IfSome o (IsFirstPlace p from most) → IfSome o (IsFirstPlace q from most)
   first_same None first = tt
-  first_same (Some e) first = record { low = first.low; high = first.high; before = λ i least under. sym (same i) ∙ first.before i least under; hit = λ within. sym (same e) ∙ first.hit within }
+  first_same (Some e) first = record {
+    low = first.low;
+    high = first.high;
+    before = λ i least under. sym (same i) ∙ first.before i least under;
+    hit = λ within. sym (same e) ∙ first.hit within;
+  }
 
 -- ---- the first agent of a thread
 
-first_number : (p : AgentRow → Bool) (rows : List AgentRow) → slice_get (agent_numbers (filter p rows)) 0 ≡ option_map (λ (row : AgentRow). row.number) (find p rows)
+first_number : (p : AgentRow → Bool) (rows : List AgentRow)
+    → slice_get (agent_numbers (filter p rows)) 0 ≡ option_map (λ (row : AgentRow). row.number) (find p rows)
 first_number p [] = refl
 first_number p (row ∷ rows) = by_test (p row) (first_number p rows)
   where
@@ -175,7 +197,8 @@ listed_found p rows row found = by_found (agent_of rows row.number) refl
         let some = count_found_by p (is_agent_row row.number) rows row found (eq-eqb row.number row.number refl) in
         absurd (omega (arith, some, count_not_found (is_agent_row row.number) rows e))
 
-module _ (rows : List AgentRow) (es : List Entry) (was : IsIndexed (λ row. row.owner) rows es) (t : ℕ) (answer : Option ℕ) (read : answer ≡ slice_get (numbers_under t es) 0) where
+module _ (rows : List AgentRow) (es : List Entry) (was : IsIndexed (λ row. row.owner) rows es) (t : ℕ) (answer : Option ℕ)
+    (read : answer ≡ slice_get (numbers_under t es) 0) where
   pub first_read : answer ≡ option_map (λ (row : AgentRow). row.number) (first_of rows t)
   first_read = read ∙ ap (λ ns. slice_get ns 0) (was.each t) ∙ first_number (belongs_to t) rows
 
@@ -207,12 +230,15 @@ module _ (rows : List AgentRow) (es : List Entry) (was : IsIndexed (λ row. row.
 -- ---- each call
 
 -- the number is greater than those under a key, as it is greater than all
-pub newest_under : (key : AgentRow → ℕ) (rows : List AgentRow) (es : List Entry) → IsIndexed key rows es → (a k : ℕ) → all_below a (agent_numbers rows) ≡ true → all_below a (numbers_under k es) ≡ true
+pub newest_under : (key : AgentRow → ℕ) (rows : List AgentRow) (es : List Entry) → IsIndexed key rows es → (a k : ℕ)
+    → all_below a (agent_numbers rows) ≡ true → all_below a (numbers_under k es) ≡ true
 newest_under key rows es was a k newest = ap (all_below a) (was.each k) ∙ numbers-filter (λ n. ltb n a) (λ row. eqb (key row) k) rows newest
 
 -- the number stands under the agent's key
-pub listed_key : (key : AgentRow → ℕ) (rows : List AgentRow) (es : List Entry) → IsIndexed key rows es → (a : ℕ) (row : AgentRow) → agent_of rows a ≡ Some row → member a (numbers_under (key row) es) ≡ true
-listed_key key rows es was a row found = ap (member a) (was.each (key row)) ∙ listed_under (λ r. eqb (key r) (key row)) a rows row found (eq-eqb (key row) (key row) refl)
+pub listed_key : (key : AgentRow → ℕ) (rows : List AgentRow) (es : List Entry) → IsIndexed key rows es → (a : ℕ) (row : AgentRow)
+    → agent_of rows a ≡ Some row → member a (numbers_under (key row) es) ≡ true
+listed_key key rows es was a row found = ap (member a) (was.each (key row))
+    ∙ listed_under (λ r. eqb (key r) (key row)) a rows row found (eq-eqb (key row) (key row) refl)
 
 pub idle_row : (rows : List AgentRow) (a : ℕ) (row : AgentRow) → agent_of rows a ≡ Some row → is_idle rows a ≡ true → row.holding ≡ false
 idle_row rows a row found idle = by_test row.holding (sym (ap (passes (λ (r : AgentRow). not r.holding)) found) ∙ idle)
@@ -238,15 +264,20 @@ module _ {r : Roster} {room : ℕ} {evs ows : Entries} {board : List Tally} (was
   pub low_event : (a : ℕ) (row : AgentRow) → agent_of r.agents a ≡ Some row → row.event < 33
   low_event a row found = let low = low_found r.agents board a row was.tallied found in omega (arith, low, was.wide)
 
-  pub IsKept-created : (a e t : ℕ) (evs_now ows_now : Entries) (tally : Tally) → all_below a (agent_numbers r.agents) ≡ true → e ≤ 32 → length r.agents < r.places
+  pub IsKept-created : (a e t : ℕ) (evs_now ows_now : Entries) (tally : Tally) → all_below a (agent_numbers r.agents) ≡ true → e ≤ 32
+      → length r.agents < r.places
       → Puts evs.entries evs_now.entries e (numbers_under e evs.entries ++ a ∷ []) → length evs_now.entries ≡ length evs.entries + 1 → evs_now.room ≡ evs.room
       → Puts ows.entries ows_now.entries t (numbers_under t ows.entries ++ a ∷ []) → length ows_now.entries ≡ length ows.entries + 1 → ows_now.room ≡ ows.room
-      → tally ≡ tally_at board e → IsKept (after_create r a e t) room evs_now ows_now (set board e (record { agents = tally.agents + 1; holding = tally.holding }))
+      → tally ≡ tally_at board e
+      → IsKept (after_create r a e t) room evs_now ows_now (set board e (record { agents = tally.agents + 1; holding = tally.holding }))
   IsKept-created a e t evs_now ows_now tally newest low free ev_puts ev_len ev_room ow_puts ow_len ow_room is =
       let added = new_agent a e t in
       let known : tally ≡ tally_in r.agents e = is ∙ was.tallied e in
       record {
-        in_order = record { rises = ap rises (map-append (λ (row : AgentRow). row.number) r.agents (added ∷ [])) ∙ rises-push (agent_numbers r.agents) a was.in_order.rises newest };
+        in_order = record {
+          rises = ap rises (map-append (λ (row : AgentRow). row.number) r.agents (added ∷ []))
+              ∙ rises-push (agent_numbers r.agents) a was.in_order.rises newest;
+        };
         events = IsIndexed-joined (λ row. row.event) was.events added evs_now.entries ev_puts ev_len;
         owners = IsIndexed-joined (λ row. row.owner) was.owners added ows_now.entries ow_puts ow_len;
         tallied = tallied-put r.agents (r.agents ++ added ∷ []) board e _ was.tallied (omega (arith, low, was.wide))
@@ -281,7 +312,12 @@ module _ {r : Roster} {room : ℕ} {evs ows : Entries} {board : List Tally} (was
         tallied = tallied-put r.agents (with_holding a b r.agents) board row.event tally was.tallied (low_found r.agents board a row was.tallied found) is
             (λ k apart. tally_same _ _ _ _
             (omega (arith, count-holding (is_for k) a b r.agents row was.in_order.rises found))
-            (omega (arith, count-holding (holds_for k) a b r.agents row was.in_order.rises found, one_other row.event k row.holding apart, one_other row.event k b apart)));
+            (omega (
+              arith,
+              count-holding (holds_for k) a b r.agents row was.in_order.rises found,
+              one_other row.event k row.holding apart,
+              one_other row.event k b apart,
+            )));
         wide = length-set board row.event tally ∙ was.wide;
         fits = omega (arith, length-map r.agents (agent_with_holding a b), was.fits);
         places_fit = was.places_fit;
@@ -296,28 +332,53 @@ module _ {r : Roster} {room : ℕ} {evs ows : Entries} {board : List Tally} (was
     holds_own : (b : Bool) → one (holds_for row.event (record row { holding = b })) ≡ one b
     holds_own b = rw (eq-eqb row.event row.event refl) refl
 
-    pub IsKept-held : row.holding ≡ false → IsKept (after_hold r a) room evs ows (set board row.event (record { agents = tally.agents; holding = tally.holding + 1 }))
+    pub IsKept-held : row.holding ≡ false
+        → IsKept (after_hold r a) room evs ows (set board row.event (record { agents = tally.agents; holding = tally.holding + 1 }))
     IsKept-held idle = IsKept-holding a true row _ found (tally_same _ _ _ _
         (omega (arith, ap (λ (x : Tally). x.agents) known, count-holding (is_for row.event) a true r.agents row was.in_order.rises found))
-        (omega (arith, ap (λ (x : Tally). x.holding) known, count-holding (holds_for row.event) a true r.agents row was.in_order.rises found, holds_own row.holding, holds_own true, ap one idle)))
+        (omega (
+          arith,
+          ap (λ (x : Tally). x.holding) known,
+          count-holding (holds_for row.event) a true r.agents row was.in_order.rises found,
+          holds_own row.holding,
+          holds_own true,
+          ap one idle,
+        )))
 
     -- those that hold one are counted with this one, if it does
     pub holding_counted : one row.holding ≤ tally.holding
-    holding_counted = omega (arith, ap (λ (x : Tally). x.holding) known, count-holding (holds_for row.event) a false r.agents row was.in_order.rises found, holds_own row.holding, holds_own false)
+    holding_counted = omega (
+      arith,
+      ap (λ (x : Tally). x.holding) known,
+      count-holding (holds_for row.event) a false r.agents row was.in_order.rises found,
+      holds_own row.holding,
+      holds_own false,
+    )
 
-    pub IsKept-released : IsKept (after_release r a) room evs ows (set board row.event (record { agents = tally.agents; holding = tally.holding - one row.holding }))
+    pub IsKept-released : IsKept (after_release r a) room evs ows (set board row.event
+        (record { agents = tally.agents; holding = tally.holding - one row.holding }))
     IsKept-released = IsKept-holding a false row _ found (tally_same _ _ _ _
         (omega (arith, ap (λ (x : Tally). x.agents) known, count-holding (is_for row.event) a false r.agents row was.in_order.rises found))
-        (omega (arith, ap (λ (x : Tally). x.holding) known, count-holding (holds_for row.event) a false r.agents row was.in_order.rises found, holds_own row.holding, holds_own false)))
+        (omega (
+          arith,
+          ap (λ (x : Tally). x.holding) known,
+          count-holding (holds_for row.event) a false r.agents row was.in_order.rises found,
+          holds_own row.holding,
+          holds_own false,
+        )))
 
     -- the agent itself is counted
     pub agent_counted : 1 ≤ tally.agents
-    agent_counted = omega (arith, ap (λ (x : Tally). x.agents) known, count_found_by (is_agent_row a) (is_for row.event) r.agents row found (eq-eqb row.event row.event refl))
+    agent_counted = omega
+        (arith, ap (λ (x : Tally). x.agents) known, count_found_by (is_agent_row a) (is_for row.event) r.agents row found (eq-eqb row.event row.event refl))
 
     pub IsKept-destroyed : (evs_now ows_now : Entries)
-        → Puts evs.entries evs_now.entries row.event (without a (numbers_under row.event evs.entries)) → length evs_now.entries + 1 ≡ length evs.entries → evs_now.room ≡ evs.room
-        → Puts ows.entries ows_now.entries row.owner (without a (numbers_under row.owner ows.entries)) → length ows_now.entries + 1 ≡ length ows.entries → ows_now.room ≡ ows.room
-        → IsKept (after_destroy r a) room evs_now ows_now (set board row.event (record { agents = tally.agents - 1; holding = tally.holding - one row.holding }))
+        → Puts evs.entries evs_now.entries row.event (without a (numbers_under row.event evs.entries))
+        → length evs_now.entries + 1 ≡ length evs.entries → evs_now.room ≡ evs.room
+        → Puts ows.entries ows_now.entries row.owner (without a (numbers_under row.owner ows.entries))
+        → length ows_now.entries + 1 ≡ length ows.entries → ows_now.room ≡ ows.room
+        → IsKept (after_destroy r a) room evs_now ows_now (set board row.event
+        (record { agents = tally.agents - 1; holding = tally.holding - one row.holding }))
     IsKept-destroyed evs_now ows_now ev_puts ev_len ev_room ow_puts ow_len ow_room =
         let rest = without_agent a r.agents in
         record {
@@ -326,8 +387,18 @@ module _ {r : Roster} {room : ℕ} {evs ows : Entries} {board : List Tally} (was
           owners = IsIndexed-left (λ row. row.owner) was.owners a row ows_now.entries was.in_order.rises found ow_puts ow_len fewer;
           tallied = tallied-put r.agents rest board row.event _ was.tallied (low_found r.agents board a row was.tallied found)
               (tally_same _ _ _ _
-              (omega (arith, ap (λ (x : Tally). x.agents) known, count-without (is_for row.event) a r.agents row was.in_order.rises found, ap one (eq-eqb row.event row.event refl)))
-              (omega (arith, ap (λ (x : Tally). x.holding) known, count-without (holds_for row.event) a r.agents row was.in_order.rises found, holds_own row.holding)))
+              (omega (
+                arith,
+                ap (λ (x : Tally). x.agents) known,
+                count-without (is_for row.event) a r.agents row was.in_order.rises found,
+                ap one (eq-eqb row.event row.event refl),
+              ))
+              (omega (
+                arith,
+                ap (λ (x : Tally). x.holding) known,
+                count-without (holds_for row.event) a r.agents row was.in_order.rises found,
+                holds_own row.holding,
+              )))
               (λ k apart. tally_same _ _ _ _
               (omega (arith, count-without (is_for k) a r.agents row was.in_order.rises found, ap one (ne_eqb row.event k apart)))
               (omega (arith, count-without (holds_for k) a r.agents row was.in_order.rises found, one_other row.event k row.holding apart)));
@@ -339,4 +410,5 @@ module _ {r : Roster} {room : ℕ} {evs ows : Entries} {board : List Tally} (was
         }
       where
         fewer : length (without_agent a r.agents) + 1 ≡ length r.agents
-        fewer = omega (arith, count-without (λ x. true) a r.agents row was.in_order.rises found, length_counted (without_agent a r.agents), length_counted r.agents)
+        fewer =
+            omega (arith, count-without (λ x. true) a r.agents row was.in_order.rises found, length_counted (without_agent a r.agents), length_counted r.agents)

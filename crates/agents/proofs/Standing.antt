@@ -5,7 +5,8 @@ use Rattle.lwp_types.specs.CountLaws.{count-cons, one}
 use Rattle.lwp_types.specs.Messages.{agent_with_holding, with_holding}
 use Rattle.lwp_types.specs.State.{agent_numbers, agent_of, is_agent_row, member, rises, without}
 use Rattle.lwp_types.specs.declared.rows.AgentRow.{AgentRow}
-use Rattle.std.proofs.Common.{Bool, Err, IfNone, IfSome, List, None, Ok, Result, Some, [], ap, arith, cond, count_by, eqb, false, get_or, inl, inr, length, ltb, not, refl, set, suc, sym, true, zero, ℕ, ◌++◌, ◌+◌, ◌<◌, ◌∙◌, ◌∷◌, ◌≡◌, ◌≢◌, ◌≤◌}
+use Rattle.std.proofs.Common.{Bool, Err, IfNone, IfSome, List, None, Ok, Result, Some, [], ap, arith, cond, count_by, eqb, false, get_or}
+use Rattle.std.proofs.Common.{inl, inr, length, ltb, not, refl, set, suc, sym, true, zero, ℕ, ◌++◌, ◌+◌, ◌<◌, ◌∙◌, ◌∷◌, ◌≡◌, ◌≢◌, ◌≤◌}
 use Rattle.std.proofs.lemmas.Bool.{and_parts, cases_lt, eq-eqb, eqb-true, ltb-true, ne_eqb, or_right}
 use Rattle.std.proofs.lemmas.Bool.Decides.{nat_tests}
 use Rattle.std.proofs.lemmas.Cmp.{ranked}
@@ -15,10 +16,12 @@ use Rattle.std.specs.Ordering.{nat_cmp, ordering_index}
 use Rattle.std.specs.Result.{result_ok}
 
 -- what all numbers pass, that at a place passes
-number_at : (test : ℕ → Bool) (rows : List AgentRow) (i : ℕ) (d : AgentRow) → list_all test (agent_numbers rows) ≡ true → i < length rows → test (get_or rows i d).number ≡ true
+number_at : (test : ℕ → Bool) (rows : List AgentRow) (i : ℕ) (d : AgentRow) → list_all test (agent_numbers rows) ≡ true → i < length rows
+    → test (get_or rows i d).number ≡ true
 number_at test [] i d all within = absurd (omega arith)
 number_at test (row ∷ rows) zero d all within = (and_parts (test row.number) (list_all test (agent_numbers rows)) all).0
-number_at test (row ∷ rows) (suc i) d all within = number_at test rows i d (and_parts (test row.number) (list_all test (agent_numbers rows)) all).1 (omega arith)
+number_at test (row ∷ rows) (suc i) d all within =
+    number_at test rows i d (and_parts (test row.number) (list_all test (agent_numbers rows)) all).1 (omega arith)
 
 -- of agents in birth order: the first, and those after it, which are born later
 module _ (row : AgentRow) (rows : List AgentRow) (up : rises (agent_numbers (row ∷ rows)) ≡ true) where
@@ -36,7 +39,8 @@ module _ (row : AgentRow) (rows : List AgentRow) (up : rises (agent_numbers (row
   later_than a same = ap (λ m. list_all (λ n. ltb m n) (agent_numbers rows)) (sym same) ∙ all_later
 
 -- of two agents the later in the list has the greater number
-rising : (rows : List AgentRow) (i j : ℕ) (d : AgentRow) → rises (agent_numbers rows) ≡ true → i < j → j < length rows → (get_or rows i d).number < (get_or rows j d).number
+rising : (rows : List AgentRow) (i j : ℕ) (d : AgentRow) → rises (agent_numbers rows) ≡ true → i < j → j < length rows
+    → (get_or rows i d).number < (get_or rows j d).number
 rising [] i j d up lt within = absurd (omega arith)
 rising (row ∷ rows) zero zero d up lt within = absurd (omega arith)
 rising (row ∷ rows) zero (suc j) d up lt within = later_at row rows up j d (omega arith)
@@ -51,7 +55,8 @@ module _ (rows : List AgentRow) (up : rises (agent_numbers rows) ≡ true) (a : 
   -- the agents are sorted by the comparison of their numbers with a
   sorted : IsNonDecreasingBy (λ (row : AgentRow). ordering_index (nat_cmp row.number a)) rows
   sorted i j d le within =
-      let numbers_rise : (get_or rows i d).number ≤ (get_or rows j d).number = grind (arith, rising rows i j d up, λ (same : i ≡ j). ap (λ k. (get_or rows k d).number) same) in
+      let numbers_rise : (get_or rows i d).number
+      ≤ (get_or rows j d).number = grind (arith, rising rows i j d up, λ (same : i ≡ j). ap (λ k. (get_or rows k d).number) same) in
       grind (arith, nat_tests)
 
   -- what the search answers: where the agent stands, or that there is none
@@ -90,7 +95,8 @@ module _ (a : ℕ) where
   absent_held b [] none = refl
   absent_held b (row ∷ rows) none = by_test (is_agent_row a row) none (absent_held b rows)
     where
-      by_test : (t : Bool) → cond t (Some row) (agent_of rows a) ≡ None → (agent_of rows a ≡ None → rows ≡ with_holding a b rows) → row ∷ rows ≡ record row { holding = cond t b row.holding } ∷ with_holding a b rows
+      by_test : (t : Bool) → cond t (Some row) (agent_of rows a) ≡ None → (agent_of rows a ≡ None → rows ≡ with_holding a b rows)
+          → row ∷ rows ≡ record row { holding = cond t b row.holding } ∷ with_holding a b rows
       by_test true here rest = absurd (cc)
       by_test false other rest = ap (λ ys. row ∷ ys) (rest other)
 
@@ -98,32 +104,38 @@ module _ (a : ℕ) where
   absent_kept [] none = refl
   absent_kept (row ∷ rows) none = by_test (is_agent_row a row) none (absent_kept rows)
     where
-      by_test : (t : Bool) → cond t (Some row) (agent_of rows a) ≡ None → (agent_of rows a ≡ None → rows ≡ without_agent a rows) → row ∷ rows ≡ cond (not t) (row ∷ without_agent a rows) (without_agent a rows)
+      by_test : (t : Bool) → cond t (Some row) (agent_of rows a) ≡ None → (agent_of rows a ≡ None → rows ≡ without_agent a rows)
+          → row ∷ rows ≡ cond (not t) (row ∷ without_agent a rows) (without_agent a rows)
       by_test true here rest = absurd (cc)
       by_test false other rest = ap (λ ys. row ∷ ys) (rest other)
 
 -- ---- the agent that stands there
 
-pub agent_there : (a : ℕ) (rows : List AgentRow) (i : ℕ) (d : AgentRow) → rises (agent_numbers rows) ≡ true → i < length rows → (get_or rows i d).number ≡ a → Some (get_or rows i d) ≡ agent_of rows a
+pub agent_there : (a : ℕ) (rows : List AgentRow) (i : ℕ) (d : AgentRow) → rises (agent_numbers rows) ≡ true → i < length rows
+    → (get_or rows i d).number ≡ a → Some (get_or rows i d) ≡ agent_of rows a
 agent_there a [] i d up within here = absurd (omega arith)
 agent_there a (row ∷ rows) zero d up within here = rw (eq-eqb row.number a here) refl
 agent_there a (row ∷ rows) (suc i) d up within here =
     let later = later_at row rows up i d (omega arith) in
     rw (ne_eqb row.number a (λ same. omega (arith, same, here, later))) (agent_there a rows i d (behind_rise row rows up) (omega arith) here)
 
-pub held_there : (a : ℕ) (b : Bool) (rows : List AgentRow) (i : ℕ) (d : AgentRow) → rises (agent_numbers rows) ≡ true → i < length rows → (get_or rows i d).number ≡ a → set rows i (record (get_or rows i d) { holding = b }) ≡ with_holding a b rows
+pub held_there : (a : ℕ) (b : Bool) (rows : List AgentRow) (i : ℕ) (d : AgentRow) → rises (agent_numbers rows) ≡ true → i < length rows
+    → (get_or rows i d).number ≡ a → set rows i (record (get_or rows i d) { holding = b }) ≡ with_holding a b rows
 held_there a b [] i d up within here = absurd (omega arith)
 held_there a b (row ∷ rows) zero d up within here = rw (eq-eqb row.number a here, later_held a b rows (later_than row rows up a here)) refl
 held_there a b (row ∷ rows) (suc i) d up within here =
     let later = later_at row rows up i d (omega arith) in
-    rw (ne_eqb row.number a (λ same. omega (arith, same, here, later))) (ap (λ rest. row ∷ rest) (held_there a b rows i d (behind_rise row rows up) (omega arith) here))
+    rw (ne_eqb row.number a (λ same. omega (arith, same, here, later)))
+    (ap (λ rest. row ∷ rest) (held_there a b rows i d (behind_rise row rows up) (omega arith) here))
 
-pub removed_there : (a : ℕ) (rows : List AgentRow) (i : ℕ) (d : AgentRow) → rises (agent_numbers rows) ≡ true → i < length rows → (get_or rows i d).number ≡ a → remove rows i ≡ without_agent a rows
+pub removed_there : (a : ℕ) (rows : List AgentRow) (i : ℕ) (d : AgentRow) → rises (agent_numbers rows) ≡ true → i < length rows
+    → (get_or rows i d).number ≡ a → remove rows i ≡ without_agent a rows
 removed_there a [] i d up within here = absurd (omega arith)
 removed_there a (row ∷ rows) zero d up within here = rw (eq-eqb row.number a here) (sym (later_kept a rows (later_than row rows up a here)))
 removed_there a (row ∷ rows) (suc i) d up within here =
     let later = later_at row rows up i d (omega arith) in
-    rw (ne_eqb row.number a (λ same. omega (arith, same, here, later))) (ap (λ rest. row ∷ rest) (removed_there a rows i d (behind_rise row rows up) (omega arith) here))
+    rw (ne_eqb row.number a (λ same. omega (arith, same, here, later)))
+    (ap (λ rest. row ∷ rest) (removed_there a rows i d (behind_rise row rows up) (omega arith) here))
 
 -- ---- what counts
 
@@ -141,13 +153,21 @@ module _ (p : AgentRow → Bool) (a : ℕ) where
           let first : r ≡ row = cc in
           let set : agent_with_holding a b r ≡ record row { holding = b } = rw (here, first) refl in
           let others = later_held a b rows (later_than r rows up a (eqb-true r.number a here)) in
-          omega (arith, count-cons p (agent_with_holding a b r) (with_holding a b rows), count-cons p r rows, ap (λ x. one (p x)) set, ap (λ x. one (p x)) first, ap (count_by p) others)
+          omega (
+            arith,
+            count-cons p (agent_with_holding a b r) (with_holding a b rows),
+            count-cons p r rows,
+            ap (λ x. one (p x)) set,
+            ap (λ x. one (p x)) first,
+            ap (count_by p) others,
+          )
       by_test false here found rest =
           let set : agent_with_holding a b r ≡ r = rw here refl in
           omega (arith, count-cons p (agent_with_holding a b r) (with_holding a b rows), count-cons p r rows, ap (λ x. one (p x)) set, rest found)
 
   -- the agent that is gone counts no more
-  pub count-without : (rows : List AgentRow) (row : AgentRow) → rises (agent_numbers rows) ≡ true → agent_of rows a ≡ Some row → count_by p (without_agent a rows) + one (p row) ≡ count_by p rows
+  pub count-without : (rows : List AgentRow) (row : AgentRow) → rises (agent_numbers rows) ≡ true → agent_of rows a ≡ Some row
+      → count_by p (without_agent a rows) + one (p row) ≡ count_by p rows
   count-without [] row up found = absurd (cc)
   count-without (r ∷ rows) row up found = by_test (is_agent_row a r) refl found (count-without rows row (behind_rise r rows up))
     where
@@ -162,7 +182,8 @@ module _ (p : AgentRow → Bool) (a : ℕ) where
 
 -- ---- the numbers of the agents that pass a test
 
-pub numbers-push : (q : AgentRow → Bool) (rows : List AgentRow) (newest : AgentRow) → agent_numbers (filter q (rows ++ newest ∷ [])) ≡ agent_numbers (filter q rows) ++ cond (q newest) (newest.number ∷ []) []
+pub numbers-push : (q : AgentRow → Bool) (rows : List AgentRow) (newest : AgentRow)
+    → agent_numbers (filter q (rows ++ newest ∷ [])) ≡ agent_numbers (filter q rows) ++ cond (q newest) (newest.number ∷ []) []
 numbers-push q [] newest = by_test (q newest)
   where
     by_test : (t : Bool) → agent_numbers (cond t (newest ∷ []) []) ≡ cond t (newest.number ∷ []) []
@@ -171,37 +192,46 @@ numbers-push q [] newest = by_test (q newest)
 numbers-push q (row ∷ rows) newest = by_test (q row) (numbers-push q rows newest)
   where
     by_test : (t : Bool) → agent_numbers (filter q (rows ++ newest ∷ [])) ≡ agent_numbers (filter q rows) ++ cond (q newest) (newest.number ∷ []) []
-        → agent_numbers (cond t (row ∷ filter q (rows ++ newest ∷ [])) (filter q (rows ++ newest ∷ []))) ≡ agent_numbers (cond t (row ∷ filter q rows) (filter q rows)) ++ cond (q newest) (newest.number ∷ []) []
+        → agent_numbers (cond t (row ∷ filter q (rows ++ newest ∷ [])) (filter q (rows ++ newest ∷ [])))
+        ≡ agent_numbers (cond t (row ∷ filter q rows) (filter q rows)) ++ cond (q newest) (newest.number ∷ []) []
     by_test true rest = ap (λ ns. row.number ∷ ns) rest
     by_test false rest = rest
 
 -- the test doesn't look at whether an agent holds a message
-pub numbers-holding : (q : AgentRow → Bool) (a : ℕ) (b : Bool) → ((row : AgentRow) → q (agent_with_holding a b row) ≡ q row) → (rows : List AgentRow) → agent_numbers (filter q (with_holding a b rows)) ≡ agent_numbers (filter q rows)
+pub numbers-holding : (q : AgentRow → Bool) (a : ℕ) (b : Bool) → ((row : AgentRow) → q (agent_with_holding a b row) ≡ q row)
+    → (rows : List AgentRow) → agent_numbers (filter q (with_holding a b rows)) ≡ agent_numbers (filter q rows)
 numbers-holding q a b same [] = refl
 numbers-holding q a b same (row ∷ rows) = rw (same row) (by_test (q row) (numbers-holding q a b same rows))
   where
     by_test : (t : Bool) → agent_numbers (filter q (with_holding a b rows)) ≡ agent_numbers (filter q rows)
-        → agent_numbers (cond t (agent_with_holding a b row ∷ filter q (with_holding a b rows)) (filter q (with_holding a b rows))) ≡ agent_numbers (cond t (row ∷ filter q rows) (filter q rows))
+        → agent_numbers (cond t (agent_with_holding a b row ∷ filter q (with_holding a b rows)) (filter q (with_holding a b rows)))
+        ≡ agent_numbers (cond t (row ∷ filter q rows) (filter q rows))
     by_test true rest = ap (λ ns. row.number ∷ ns) rest
     by_test false rest = rest
 
-pub numbers-without : (q : AgentRow → Bool) (a : ℕ) (rows : List AgentRow) → agent_numbers (filter q (without_agent a rows)) ≡ without a (agent_numbers (filter q rows))
+pub numbers-without : (q : AgentRow → Bool) (a : ℕ) (rows : List AgentRow)
+    → agent_numbers (filter q (without_agent a rows)) ≡ without a (agent_numbers (filter q rows))
 numbers-without q a [] = refl
 numbers-without q a (row ∷ rows) = by_tests (is_agent_row a row) refl (q row) refl (numbers-without q a rows)
   where
-    by_tests : (k : Bool) → is_agent_row a row ≡ k → (t : Bool) → q row ≡ t → agent_numbers (filter q (without_agent a rows)) ≡ without a (agent_numbers (filter q rows))
-        → agent_numbers (filter q (cond (not k) (row ∷ without_agent a rows) (without_agent a rows))) ≡ without a (agent_numbers (cond t (row ∷ filter q rows) (filter q rows)))
+    by_tests : (k : Bool) → is_agent_row a row ≡ k → (t : Bool) → q row ≡ t
+        → agent_numbers (filter q (without_agent a rows)) ≡ without a (agent_numbers (filter q rows))
+        → agent_numbers (filter q (cond (not k) (row ∷ without_agent a rows) (without_agent a rows)))
+        ≡ without a (agent_numbers (cond t (row ∷ filter q rows) (filter q rows)))
     by_tests true its true f h = rw its h
     by_tests true its false f h = h
     by_tests false its true f h = rw (f, its) (ap (λ ns. row.number ∷ ns) h)
     by_tests false its false f h = rw f h
 
 -- the agent that is gone didn't pass the test
-pub numbers-others : (q : AgentRow → Bool) (a : ℕ) (rows : List AgentRow) (row : AgentRow) → rises (agent_numbers rows) ≡ true → agent_of rows a ≡ Some row → q row ≡ false → agent_numbers (filter q (without_agent a rows)) ≡ agent_numbers (filter q rows)
+pub numbers-others : (q : AgentRow → Bool) (a : ℕ) (rows : List AgentRow) (row : AgentRow) → rises (agent_numbers rows) ≡ true
+    → agent_of rows a ≡ Some row → q row ≡ false → agent_numbers (filter q (without_agent a rows)) ≡ agent_numbers (filter q rows)
 numbers-others q a [] row up found fails = refl
 numbers-others q a (r ∷ rows) row up found fails = by_test (is_agent_row a r) refl found (numbers-others q a rows row (behind_rise r rows up))
   where
-    by_kept : (t : Bool) → agent_numbers (filter q (without_agent a rows)) ≡ agent_numbers (filter q rows) → agent_numbers (cond t (r ∷ filter q (without_agent a rows)) (filter q (without_agent a rows))) ≡ agent_numbers (cond t (r ∷ filter q rows) (filter q rows))
+    by_kept : (t : Bool) → agent_numbers (filter q (without_agent a rows)) ≡ agent_numbers (filter q rows)
+        → agent_numbers (cond t (r ∷ filter q (without_agent a rows)) (filter q (without_agent a rows)))
+        ≡ agent_numbers (cond t (r ∷ filter q rows) (filter q rows))
     by_kept true rest = ap (λ ns. r.number ∷ ns) rest
     by_kept false rest = rest
 
@@ -214,7 +244,8 @@ numbers-others q a (r ∷ rows) row up found fails = by_test (is_agent_row a r) 
     by_test false here found rest = by_kept (q r) (rest found fails)
 
 -- an agent that was found passes the test: its number is among those that do
-pub listed_under : (q : AgentRow → Bool) (a : ℕ) (rows : List AgentRow) (row : AgentRow) → agent_of rows a ≡ Some row → q row ≡ true → member a (agent_numbers (filter q rows)) ≡ true
+pub listed_under : (q : AgentRow → Bool) (a : ℕ) (rows : List AgentRow) (row : AgentRow) → agent_of rows a ≡ Some row → q row ≡ true
+    → member a (agent_numbers (filter q rows)) ≡ true
 listed_under q a [] row found passed = absurd (cc)
 listed_under q a (r ∷ rows) row found passed = by_test (is_agent_row a r) refl found (listed_under q a rows row)
   where
@@ -222,7 +253,8 @@ listed_under q a (r ∷ rows) row found passed = by_test (is_agent_row a r) refl
     by_kept true rest = or_right (eqb r.number a) _ rest
     by_kept false rest = rest
 
-    by_test : (t : Bool) → is_agent_row a r ≡ t → cond t (Some r) (agent_of rows a) ≡ Some row → (agent_of rows a ≡ Some row → q row ≡ true → member a (agent_numbers (filter q rows)) ≡ true) → member a (agent_numbers (filter q (r ∷ rows))) ≡ true
+    by_test : (t : Bool) → is_agent_row a r ≡ t → cond t (Some r) (agent_of rows a) ≡ Some row
+        → (agent_of rows a ≡ Some row → q row ≡ true → member a (agent_numbers (filter q rows)) ≡ true) → member a (agent_numbers (filter q (r ∷ rows))) ≡ true
     by_test true here found rest =
         let first : r ≡ row = cc in
         rw (ap q first ∙ passed, here) refl

@@ -23,7 +23,9 @@ module _ {board : List Tally} {word : ℕ} (was : IsMarked board word) (e : ℕ)
   IsMarked-put new here others = record {
     wide = length-set board e tally ∙ was.wide;
     marked = λ i. elim (cases_eq i e) [
-      | inl same ↦ ap (is_marked new) same ∙ here ∙ sym (ap is_ready (ap (tally_at (set board e tally)) same ∙ get_or-set_same board e tally no_tally (omega (arith, was.wide))))
+      | inl same
+          ↦ ap (is_marked new) same ∙ here
+          ∙ sym (ap is_ready (ap (tally_at (set board e tally)) same ∙ get_or-set_same board e tally no_tally (omega (arith, was.wide))))
       | inr apart ↦ others i apart ∙ was.marked i ∙ sym (ap is_ready (get_or-set_other board e i tally no_tally apart))
     ];
   }

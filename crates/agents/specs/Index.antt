@@ -1,7 +1,8 @@
 -- An index: the numbers of the agents under each key, by which they are looked for. No public clause cites this module.
 use Rattle.agents.specs.declared.index.Entry.{Entry}
 use Rattle.std.specs.List.{AllByRecursion, filter}
-use Rattle.std.specs.Prelude.{Bool, List, [], drop, false, length, map, nat_le, nat_lt, slice_index_or, suc, take, true, ℕ, ◌&&◌, ◌<◌, ◌==◌, ◌||◌, ◌∷◌, ◌≡◌, ◌≢◌, ◌≤◌}
+use Rattle.std.specs.Prelude.{Bool, List, [], drop, false, length, map, nat_le, nat_lt, slice_index_or}
+use Rattle.std.specs.Prelude.{suc, take, true, ℕ, ◌&&◌, ◌<◌, ◌==◌, ◌||◌, ◌∷◌, ◌≡◌, ◌≢◌, ◌≤◌}
 
 -- what a contract sees of an index
 pub record Entries : Type 0 where

@@ -8,11 +8,13 @@ use Rattle.lwp_types.specs.Choice.{choice}
 use Rattle.lwp_types.specs.Conditions.{after_wait, after_wake, after_wake_all, condition_of, waking}
 use Rattle.lwp_types.specs.CountLaws.{count-cons, count-filter, count_agree, count_found_and, one}
 use Rattle.lwp_types.specs.Counts.{goes_well, is_owners}
-use Rattle.lwp_types.specs.Death.{answer_joiners, bury, death, destroy_case, end_agents, refuse_receivers, refuse_sender, refuse_senders, release_all, return_from, run_all_exits, withdraw}
+use Rattle.lwp_types.specs.Death.{answer_joiners, bury, death, destroy_case, end_agents, refuse_receivers, refuse_sender}
+use Rattle.lwp_types.specs.Death.{refuse_senders, release_all, return_from, run_all_exits, withdraw}
 use Rattle.lwp_types.specs.Exceptions.{caught_marks, exits_of, first_frames, frames, handler_in, later_frames, searching, with_match}
 use Rattle.lwp_types.specs.Exits.{catch_case, exit_case, leave_frame, excnotify_case_by, run_exit, unwind}
 use Rattle.lwp_types.specs.Lawful.{Lawful, NineParts}
-use Rattle.lwp_types.specs.Messages.{after_reply, as_received, agent_with_holding, is_letter_of, is_open, is_to, next_letter, post, receive_by, receivers_of, senders_to, takes_from, with_holding, without_letter}
+use Rattle.lwp_types.specs.Messages.{after_reply, as_received, agent_with_holding, is_letter_of, is_open, is_to, next_letter}
+use Rattle.lwp_types.specs.Messages.{post, receive_by, receivers_of, senders_to, takes_from, with_holding, without_letter}
 use Rattle.lwp_types.specs.MonitorRelease.{grant, last_lock, next_owner, release, without_lock}
 use Rattle.lwp_types.specs.Monitors.{after_exit, after_request, depth_in, enter_case, is_owned_by_other, with_depth}
 use Rattle.lwp_types.specs.State.{Outcome, State, and_then, for_each, in_order, is_agent, is_agent_row, is_id, is_thread, marks_in, passes, still, thread_of}
@@ -36,7 +38,8 @@ use Rattle.pod_laws.proofs.Chosen.{chosen, living}
 use Rattle.pod_laws.proofs.Deaths.{unowning}
 use Rattle.pod_laws.proofs.Elements.{all_found, find_filter_none, find_filter_same, find_map, find_passes, find_push_some, true_of}
 use Rattle.pod_laws.proofs.Holding.{agents_once, no_thread}
-use Rattle.std.proofs.Common.{Bool, List, None, Option, Some, [], ap, arith, cond, count_by, eqb, false, not, refl, subst, sym, true, ℕ, ◌&&◌, ◌++◌, ◌-◌, ◌||◌, ◌∙◌, ◌∷◌, ◌≡◌, ◌≢◌}
+use Rattle.std.proofs.Common.{Bool, List, None, Option, Some, [], ap, arith, cond, count_by, eqb, false, not}
+use Rattle.std.proofs.Common.{refl, subst, sym, true, ℕ, ◌&&◌, ◌++◌, ◌-◌, ◌||◌, ◌∙◌, ◌∷◌, ◌≡◌, ◌≢◌}
 use Rattle.std.proofs.lemmas.Bool.{and_from, and_parts, eq-eqb, eqb-true, ne_eqb}
 use Rattle.std.specs.List.{filter, find, fold, list_all}
 use Rattle.std.specs.Prelude.{is_some, map, nat_le, option_map}
@@ -61,7 +64,8 @@ module _ (a : ℕ) where
   off_after : (v : ℕ) (s after : State) → Kept s after → Off v s → Off v after
   off_after v s after kept off = ap (λ x. count_by (is_to v) x.letters) kept ∙ off
 
-  kept_then : (s : State) (first : Outcome) (more : State → Outcome) → Kept s first.after → Kept first.after (more first.after).after → Kept s (and_then first more).after
+  kept_then : (s : State) (first : Outcome) (more : State → Outcome) → Kept s first.after → Kept first.after (more first.after).after
+      → Kept s (and_then first more).after
   unfolding and_then
   kept_then s first more one two = two ∙ one
 
@@ -70,7 +74,8 @@ module _ (a : ℕ) where
   kept_unless s [] otherwise fine = fine tt
   kept_unless s (check ∷ checks) otherwise fine = by_test check.0 refl (λ here. kept_unless s checks otherwise (λ rest. fine (here, rest)))
     where
-      by_test : (b : Bool) → check.0 ≡ b → (check.0 ≡ false → Kept s (unless s checks otherwise).after) → Kept s (cond b (refusal_case s check.1) (unless s checks otherwise)).after
+      by_test : (b : Bool) → check.0 ≡ b → (check.0 ≡ false → Kept s (unless s checks otherwise).after)
+          → Kept s (cond b (refusal_case s check.1) (unless s checks otherwise)).after
       by_test true e rest = refl
       by_test false e rest = rest e
 
@@ -90,7 +95,8 @@ module _ (a : ℕ) where
   kept_release m s = kept_grant s m (next_owner s m)
 
   kept_exited : (s : State) (m : ℕ) → Kept s (after_exit m s).after
-  kept_exited s m = kept_cond s (nat_le (depth_in s.locks m) 1) (release m s) (still (record s { locks = with_depth m (depth_in s.locks m - 1) s.locks })) (kept_release m s) refl
+  kept_exited s m = kept_cond s (nat_le (depth_in s.locks m) 1) (release m s)
+      (still (record s { locks = with_depth m (depth_in s.locks m - 1) s.locks })) (kept_release m s) refl
 
   kept_fold : (m : ℕ) (ws : List WaitRow) (s : State) → Kept s (fold (λ now w. after_wake m w now) s ws)
   kept_fold m [] s = refl
@@ -109,7 +115,8 @@ module _ (a : ℕ) where
     where
       unmoved : (o : Option AgentRow) → find (is_agent_row a) s.agents ≡ o → option_map (agent_with_holding v false) o ≡ o
       unmoved None e = refl
-      unmoved (Some row) e = ap Some (rw (ne_eqb row.number v (λ is. other (sym is ∙ eqb-true row.number a (find_passes (is_agent_row a) s.agents row e)))) refl)
+      unmoved (Some row) e = ap Some
+          (rw (ne_eqb row.number v (λ is. other (sym is ∙ eqb-true row.number a (find_passes (is_agent_row a) s.agents row e)))) refl)
 
       rows : find (is_agent_row a) (with_holding v false s.agents) ≡ find (is_agent_row a) s.agents
       rows = find_map (is_agent_row a) (is_agent_row a) (agent_with_holding v false) (λ row. refl) s.agents ∙ unmoved (find (is_agent_row a) s.agents) refl
@@ -118,14 +125,16 @@ module _ (a : ℕ) where
       idle = λ i. seen_by (rows i) (without_own a Never v other s.letters i)
 
   -- changes for each of a list, all of whose elements are others
-  kept_all : {A : Type 0} (p : A → Bool) (change : A → State → Outcome) → ((x : A) (s : State) → p x ≡ true → Kept s (change x s).after) → (xs : List A) → list_all p xs ≡ true → (s : State) → Kept s (for_each change xs s).after
+  kept_all : {A : Type 0} (p : A → Bool) (change : A → State → Outcome) → ((x : A) (s : State) → p x ≡ true → Kept s (change x s).after)
+      → (xs : List A) → list_all p xs ≡ true → (s : State) → Kept s (for_each change xs s).after
   unfolding for_each
   kept_all p change keeps [] all s = refl
   kept_all p change keeps (x ∷ xs) all s =
       let parts = and_parts (p x) (list_all p xs) all in
       kept_then s (change x s) (for_each change xs) (keeps x s parts.0) (kept_all p change keeps xs parts.1 (change x s).after)
 
-  kept_each : {A : Type 0} (change : A → State → Outcome) → ((x : A) (s : State) → Kept s (change x s).after) → (xs : List A) (s : State) → Kept s (for_each change xs s).after
+  kept_each : {A : Type 0} (change : A → State → Outcome) → ((x : A) (s : State) → Kept s (change x s).after) → (xs : List A) (s : State)
+      → Kept s (for_each change xs s).after
   unfolding for_each
   kept_each change keeps [] s = refl
   kept_each change keeps (x ∷ xs) s = kept_then s (change x s) (for_each change xs) (keeps x s) (kept_each change keeps xs (change x s).after)
@@ -133,7 +142,8 @@ module _ (a : ℕ) where
   -- an agent ends that is another
   kept_end : (v : ℕ) (s : State) → v ≢ a → Kept s (end_agent v s).after
   kept_end v s other = kept_then s woke (λ now. still (after_agent_end v now)) (kept_each (unblock nonexist) (λ x now. refl) (receivers_of s v) s)
-      (λ i. seen_by (find_filter_same (is_agent_row a) (λ row. not (is_agent_row v row)) keeps woke.after.agents i) (without_own a Never v other woke.after.letters i))
+      (λ i. seen_by (find_filter_same (is_agent_row a) (λ row. not (is_agent_row v row)) keeps woke.after.agents i)
+      (without_own a Never v other woke.after.letters i))
     where
       woke : Outcome
       woke = for_each (unblock nonexist) (receivers_of s v) s
@@ -179,14 +189,17 @@ module _ (a : ℕ) where
         arith,
         count-filter (is_letter_of a) (is_to v) s.letters,
         count-filter (is_to v) (is_letter_of a) s.letters,
-        count_agree (λ letter. is_to v letter && is_letter_of a letter) (λ letter. is_letter_of a letter && is_to v letter) (λ letter. either (is_to v letter) (is_letter_of a letter)) s.letters,
+        count_agree (λ letter. is_to v letter && is_letter_of a letter) (λ letter. is_letter_of a letter && is_to v letter)
+            (λ letter. either (is_to v letter) (is_letter_of a letter)) s.letters,
       )
 
       none : (ls : List Letter) → count_by (is_letter_of a) ls ≡ 0 → list_all (λ x. not (eqb x a)) (map (λ (letter : Letter). letter.from) ls) ≡ true
       none [] e = refl
       none (l ∷ ls) e = by_test (is_letter_of a l) refl (none ls)
         where
-          by_test : (b : Bool) → is_letter_of a l ≡ b → (count_by (is_letter_of a) ls ≡ 0 → list_all (λ x. not (eqb x a)) (map (λ (letter : Letter). letter.from) ls) ≡ true) → list_all (λ x. not (eqb x a)) (map (λ (letter : Letter). letter.from) (l ∷ ls)) ≡ true
+          by_test : (b : Bool) → is_letter_of a l ≡ b
+              → (count_by (is_letter_of a) ls ≡ 0 → list_all (λ x. not (eqb x a)) (map (λ (letter : Letter). letter.from) ls) ≡ true)
+              → list_all (λ x. not (eqb x a)) (map (λ (letter : Letter). letter.from) (l ∷ ls)) ≡ true
           by_test true is rest = absurd (omega (arith, e, count-cons (is_letter_of a) l ls, ap one is))
           by_test false is rest = and_from _ _ (ap not is) (rest (omega (arith, e, count-cons (is_letter_of a) l ls)))
 
@@ -194,26 +207,34 @@ module _ (a : ℕ) where
   other_of x h e = let bad : false ≡ true = sym (ap not (eq-eqb x a e)) ∙ h in cc
 
   kept_senders : (v : ℕ) (s : State) → Off v s → Kept s (refuse_senders v s).after
-  kept_senders v s off = kept_all (λ x. not (eqb x a)) refuse_sender (λ x now h. λ i. seen_by (agent_sight now a).row (without_own a Never x (other_of x h) now.letters i)) (senders_to s.letters v) (senders_other v s off) s
+  kept_senders v s off = kept_all (λ x. not (eqb x a)) refuse_sender
+      (λ x now h. λ i. seen_by (agent_sight now a).row (without_own a Never x (other_of x h) now.letters i)) (senders_to s.letters v) (senders_other v s off) s
 
   -- the agents of another than its owner
-  agents_other : (s : State) (d : Option ℕ) → NineParts s d → (row : AgentRow) → find (is_agent_row a) s.agents ≡ Some row → (v : ℕ) → eqb row.owner v ≡ false → list_all (λ x. not (eqb x a)) (agents_of s.agents v) ≡ true
-  agents_other s d nine row known v other = none s.agents (omega (arith, count_found_and (is_agent_row a) (belongs_to v) s.agents row known (agents_once s d nine a row known a), ap one other))
+  agents_other : (s : State) (d : Option ℕ) → NineParts s d → (row : AgentRow) → find (is_agent_row a) s.agents ≡ Some row → (v : ℕ)
+      → eqb row.owner v ≡ false → list_all (λ x. not (eqb x a)) (agents_of s.agents v) ≡ true
+  agents_other s d nine row known v other =
+      none s.agents (omega (arith, count_found_and (is_agent_row a) (belongs_to v) s.agents row known (agents_once s d nine a row known a), ap one other))
     where
-      none : (rows : List AgentRow) → count_by (λ row. is_agent_row a row && belongs_to v row) rows ≡ 0 → list_all (λ x. not (eqb x a)) (agents_of rows v) ≡ true
+      none : (rows : List AgentRow) → count_by (λ row. is_agent_row a row && belongs_to v row) rows ≡ 0
+          → list_all (λ x. not (eqb x a)) (agents_of rows v) ≡ true
       none [] e = refl
       none (r ∷ rs) e = by_tests (belongs_to v r) refl (is_agent_row a r) refl (none rs)
         where
-          by_tests : (b : Bool) → belongs_to v r ≡ b → (d : Bool) → is_agent_row a r ≡ d → (count_by (λ row. is_agent_row a row && belongs_to v row) rs ≡ 0 → list_all (λ x. not (eqb x a)) (agents_of rs v) ≡ true)
+          by_tests : (b : Bool) → belongs_to v r ≡ b → (d : Bool) → is_agent_row a r ≡ d
+              → (count_by (λ row. is_agent_row a row && belongs_to v row) rs ≡ 0 → list_all (λ x. not (eqb x a)) (agents_of rs v) ≡ true)
               → list_all (λ x. not (eqb x a)) (map (λ (row : AgentRow). row.number) (cond b (r ∷ filter (belongs_to v) rs) (filter (belongs_to v) rs))) ≡ true
           by_tests true f true is rest = absurd (omega (arith, e, count-cons (λ row. is_agent_row a row && belongs_to v row) r rs, ap one (and_from _ _ is f)))
           by_tests true f false is rest = and_from _ _ (ap not is) (rest (omega (arith, e, count-cons (λ row. is_agent_row a row && belongs_to v row) r rs)))
           by_tests false f d is rest = rest (omega (arith, e, count-cons (λ row. is_agent_row a row && belongs_to v row) r rs))
 
-  kept_agents : (s : State) (d : Option ℕ) → NineParts s d → (row : AgentRow) → find (is_agent_row a) s.agents ≡ Some row → (v : ℕ) → eqb row.owner v ≡ false → Kept s (end_agents v s).after
-  kept_agents s d nine row known v other = kept_all (λ x. not (eqb x a)) end_agent (λ x now h. kept_end x now (other_of x h)) (agents_of s.agents v) (agents_other s d nine row known v other) s
+  kept_agents : (s : State) (d : Option ℕ) → NineParts s d → (row : AgentRow) → find (is_agent_row a) s.agents ≡ Some row → (v : ℕ)
+      → eqb row.owner v ≡ false → Kept s (end_agents v s).after
+  kept_agents s d nine row known v other =
+      kept_all (λ x. not (eqb x a)) end_agent (λ x now h. kept_end x now (other_of x h)) (agents_of s.agents v) (agents_other s d nine row known v other) s
 
-  kept_first : (change : State → Outcome) (changes : List (State → Outcome)) (s : State) → Kept s (change s).after → Kept (change s).after (in_order changes (change s).after).after → Kept s (in_order (change ∷ changes) s).after
+  kept_first : (change : State → Outcome) (changes : List (State → Outcome)) (s : State) → Kept s (change s).after
+      → Kept (change s).after (in_order changes (change s).after).after → Kept s (in_order (change ∷ changes) s).after
   unfolding in_order
   kept_first change changes s one rest = kept_then s (change s) (in_order changes) one rest
 
@@ -222,7 +243,8 @@ module _ (a : ℕ) where
   kept_none s = refl
 
   module _ (row : AgentRow) (v : ℕ) (apart : v ≢ a) (other : eqb row.owner v ≡ false) where
-    pub kept_death : (s : State) → NineParts s None → (x : _) → thread_of s v ≡ Some x → find (is_agent_row a) s.agents ≡ Some row → Off v s → Kept s (death v s).after
+    pub kept_death : (s : State) → NineParts s None → (x : _) → thread_of s v ≡ Some x → find (is_agent_row a) s.agents ≡ Some row → Off v s
+        → Kept s (death v s).after
     kept_death s nine x known there off =
         kept_first (withdraw v) _ s one
         (kept_first (run_all_exits v) _ s1 two
@@ -289,7 +311,8 @@ module _ (a : ℕ) where
             let parts = and_parts (goes_well s l) (list_all (goes_well s) ls) all in
             by_test (is_letter_of a l) refl parts.0 (none ls parts.1)
           where
-            by_test : (b : Bool) → is_letter_of a l ≡ b → goes_well s l ≡ true → count_by (is_to v) (filter (is_letter_of a) ls) ≡ 0 → count_by (is_to v) (cond b (l ∷ filter (is_letter_of a) ls) (filter (is_letter_of a) ls)) ≡ 0
+            by_test : (b : Bool) → is_letter_of a l ≡ b → goes_well s l ≡ true → count_by (is_to v) (filter (is_letter_of a) ls) ≡ 0
+                → count_by (is_to v) (cond b (l ∷ filter (is_letter_of a) ls) (filter (is_letter_of a) ls)) ≡ 0
             by_test true is well rest = omega (arith, rest, count-cons (is_to v) l (filter (is_letter_of a) ls), ap one (owned l well is))
             by_test false is well rest = rest
 
@@ -303,9 +326,11 @@ module _ (a : ℕ) where
     kept_destroyed : (t v : ℕ) → v ≢ a → eqb row.owner v ≡ false → is_id s v ≡ true → Kept s (destroy_case s t v).after
     kept_destroyed t v apart other lives = by_agent (is_agent s v) lives
       where
-        by_agent : (b : Bool) → (is_thread s v || b) ≡ true → Kept s (cond b (with_zero (end_agent v s)) (cond (eqb t v) (silent_case (death v s)) (with_zero (death v s)))).after
+        by_agent : (b : Bool) → (is_thread s v || b) ≡ true
+            → Kept s (cond b (with_zero (end_agent v s)) (cond (eqb t v) (silent_case (death v s)) (with_zero (death v s)))).after
         by_agent true h = kept_end v s apart
-        by_agent false h = let died = dies v (either (is_thread s v) h) other in cond_case s (eqb t v) (silent_case (death v s)) (with_zero (death v s)) died died
+        by_agent false h = let died = dies v (either (is_thread s v) h) other in
+            cond_case s (eqb t v) (silent_case (death v s)) (with_zero (death v s)) died died
           where
             either : (b : Bool) → (b || false) ≡ true → b ≡ true
             either true e = refl
@@ -337,20 +362,26 @@ module _ (a : ℕ) where
       kept_returned = cond_case s (nat_le 2 (frames (marks_in s t))) (leave_frame s t) (silent_case (death t s)) kept_leave (dies t lives other)
 
       kept_received : (from : Option ℕ) (how : Mode) (o : Option Letter) → next_letter s.letters t from ≡ o → Kept s (receive_by s t from how o).after
-      kept_received from how (Some letter) e = λ i. seen_by (agent_sight s a).row (received_own a Never letter.from (found_other a Never t s off (is_open from) letter e) s.letters i)
+      kept_received from how (Some letter) e =
+          λ i. seen_by (agent_sight s a).row (received_own a Never letter.from (found_other a Never t s off (is_open from) letter e) s.letters i)
       kept_received from mode.Poll None e = refl
       kept_received from mode.Block None e = refl
-      kept_received from (mode.Until ticks) None e = cond_case s (eqb ticks 0) (refusal_case s error.Timeout) (silent_case (still (after_block_for s t (block.Receiving from) ticks))) refl refl
+      kept_received from (mode.Until ticks) None e =
+          cond_case s (eqb ticks 0) (refusal_case s error.Timeout) (silent_case (still (after_block_for s t (block.Receiving from) ticks))) refl refl
 
       kept_waited : (c : ℕ) (o : Option Lock) → Kept s (after_wait t c o s).after
       kept_waited c None = refl
-      kept_waited c (Some lock) = kept_grant (after_block (record s { waits = s.waits ++ record { cond = c; tid = t; depth = lock.depth } ∷ [] }) t (block.Waiting c)) lock.mon _
+      kept_waited c (Some lock) =
+          kept_grant (after_block (record s { waits = s.waits ++ record { cond = c; tid = t; depth = lock.depth } ∷ [] }) t (block.Waiting c)) lock.mon _
 
-      kept_sent : (v room : ℕ) (text : List ℕ) → Kept s (post (record { from = t; to = v; text = text; room = room; received = false }) (after_block s t block.Sending)).after
-      kept_sent v room text = kept_post (after_block s t block.Sending) (record { from = t; to = v; text = text; room = room; received = false }) (thread_other t lives)
+      kept_sent : (v room : ℕ) (text : List ℕ)
+          → Kept s (post (record { from = t; to = v; text = text; room = room; received = false }) (after_block s t block.Sending)).after
+      kept_sent v room text = kept_post (after_block s t block.Sending)
+          (record { from = t; to = v; text = text; room = room; received = false }) (thread_other t lives)
 
       kept_made : (e : ℕ) → Kept s (make_agent s t e).after
-      kept_made e = kept_unless s _ _ (λ passed. λ i. seen_by ((find_push_some (is_agent_row a) s.agents row (new_agent s.births e t) there ∙ sym there) i) (agent_sight s a).letters)
+      kept_made e = kept_unless s _ _
+          (λ passed. λ i. seen_by ((find_push_some (is_agent_row a) s.agents row (new_agent s.births e t) there ∙ sym there) i) (agent_sight s a).letters)
 
       parts : (x y : Bool) → (not x && not y) ≡ true → (x ≡ false) × (y ≡ false)
       parts true y h = absurd (cc)
@@ -364,7 +395,8 @@ module _ (a : ℕ) where
       apart_of v w e same = let bad : true ≡ false = sym (eq-eqb v w same) ∙ e in cc
 
       kept_destroy : (v : ℕ) → (not (eqb v a) && not (eqb v row.owner)) ≡ true → Kept s (case_of s t (call.Destroy v)).after
-      kept_destroy v h = let w = parts (eqb v a) (eqb v row.owner) h in kept_unless s _ _ (λ passed. kept_destroyed t v (apart_of v a w.0) (flip v row.owner w.1) (true_of _ passed.0))
+      kept_destroy v h = let w = parts (eqb v a) (eqb v row.owner) h in
+          kept_unless s _ _ (λ passed. kept_destroyed t v (apart_of v a w.0) (flip v row.owner w.1) (true_of _ passed.0))
 
       -- of every call that spares it: the last line is for each that is refused by its checks or else leaves what is seen of it as it is
       kept_case : (c : Call) → spares_agent a row.owner c ≡ true → Kept s (case_of s t c).after
@@ -378,7 +410,8 @@ module _ (a : ℕ) where
       kept_case (call.Reply v text) h = kept_unless s _ _ (λ passed. kept_replied s v text (replied_other a Never t s off v passed.1.0))
       kept_case call.Senders h = refl
       kept_case call.Receivers h = refl
-      kept_case (call.Enter m) h = kept_unless s _ _ (λ passed. cond_case s (is_owned_by_other s.locks t m) (silent_case (still (after_request s t m))) (enter_case s t m) refl refl)
+      kept_case (call.Enter m) h =
+          kept_unless s _ _ (λ passed. cond_case s (is_owned_by_other s.locks t m) (silent_case (still (after_request s t m))) (enter_case s t m) refl refl)
       kept_case (call.MonExit m) h = kept_unless s _ _ (λ passed. kept_exited s m)
       kept_case (call.MonBreak m) h = kept_unless s _ _ (λ passed. kept_release m s)
       kept_case call.Monitors h = refl
@@ -408,7 +441,10 @@ module _ (a : ℕ) where
 
   ended_agent : (s : State) → agent_sight (end_agent a s).after a ≡ no_agent
   unfolding and_then
-  ended_agent s = λ i. seen_by (find_filter_none (is_agent_row a) (λ row. not (is_agent_row a row)) (λ row e. ap not e) (for_each (unblock nonexist) (receivers_of s a) s).after.agents i) (filter_none (is_letter_of a) (for_each (unblock nonexist) (receivers_of s a) s).after.letters i)
+  ended_agent s = λ i. seen_by
+      (find_filter_none (is_agent_row a) (λ row. not (is_agent_row a row)) (λ row e. ap not e)
+      (for_each (unblock nonexist) (receivers_of s a) s).after.agents i)
+      (filter_none (is_letter_of a) (for_each (unblock nonexist) (receivers_of s a) s).after.letters i)
 
 pub others_leave_agents : OthersLeaveAgents
 others_leave_agents s was t a row turn there apart c spared = kept_step a s was row there t turn apart c spared
@@ -432,6 +468,7 @@ destroyed_agents_are_gone s t a row turn there =
     is_end : destroy_case s t a ≡ with_zero (end_agent a s)
     is_end = by_agent (is_agent s a) lives
       where
-        by_agent : (b : Bool) → b ≡ true → cond b (with_zero (end_agent a s)) (cond (eqb t a) (silent_case (death a s)) (with_zero (death a s))) ≡ with_zero (end_agent a s)
+        by_agent : (b : Bool) → b ≡ true
+            → cond b (with_zero (end_agent a s)) (cond (eqb t a) (silent_case (death a s)) (with_zero (death a s))) ≡ with_zero (end_agent a s)
         by_agent true e = refl
         by_agent false e = absurd (cc)

@@ -9,7 +9,8 @@ use Rattle.std.proofs.Common.{List, ℕ}
 
 module _ (n : ℕ) where
   pub event_fades : (es : EventState) (c : Call) → Fades n es.state (event_step es c).after.state
-  event_fades es c = call_keeps (Fades n es.state) (λ s arms text fades. fades_then n es.state s (deliver s rites_event text).after fades (deliver_fades n s rites_event text)) es c
+  event_fades es c = call_keeps (Fades n es.state)
+      (λ s arms text fades. fades_then n es.state s (deliver s rites_event text).after fades (deliver_fades n s rites_event text)) es c
       (λ t chosen free. step_fades n es.state c) (λ t chosen d own. step_fades n es.state d) (fades_still n es.state)
 
   pub take_fades : (es : EventState) (e : ℕ) (text : List ℕ) → Fades n es.state (take_event es e text).after.state

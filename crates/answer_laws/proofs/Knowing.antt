@@ -19,7 +19,8 @@ use Rattle.lwp_types.specs.declared.call.Call.{Call}
 use Rattle.lwp_types.specs.declared.call.Effect.{Effect}
 use Rattle.lwp_types.specs.declared.call.LwpErr.{LwpErr}
 use Rattle.line_server.specs.Commands.{Command, command_of}
-use Rattle.line_server.specs.Sessions.{SessionBody, session_at, session_by, session_next, session_turn_after_agent, session_turn_after_letter, session_receives, session_returns, session_sends, session_turn_after_reply}
+use Rattle.line_server.specs.Sessions.{SessionBody, session_at, session_by, session_next, session_turn_after_agent, session_turn_after_letter}
+use Rattle.line_server.specs.Sessions.{session_receives, session_returns, session_sends, session_turn_after_reply}
 use Rattle.line_server.specs.Stores.{store_next}
 use Rattle.line_server.specs.Tables.{is_quit}
 use Rattle.line_server.specs.Turns.{is_replied, stops}
@@ -29,10 +30,12 @@ use Rattle.lwp_types.specs.declared.call.PodParams.{PodParams}
 use Rattle.pod_events.specs.Events.{EventState, after_pass_on, after_take_trap, is_trapped, rites_event, take_event}
 use Rattle.pod_events.specs.Rites.{after_first_report, as_rites, report_text, reports_after, after_rites}
 use Rattle.pod_events.specs.Step.{event_step, event_step_by, event_step_if}
-use Rattle.pod_events.specs.Traps.{after_call as traps_made, after_call_as, after_machine_step, after_trap, after_trap_and_call as traps_called, agent_event_of, but_call, is_catch, is_given, notice, after_refusal, trap_of, trap_refusal}
+use Rattle.pod_events.specs.Traps.{after_call as traps_made, after_call_as, after_machine_step, after_trap, after_trap_and_call as traps_called}
+use Rattle.pod_events.specs.Traps.{agent_event_of, but_call, is_catch, is_given, notice, after_refusal, trap_of, trap_refusal}
 use Rattle.pod_laws.proofs.Opening.{Lawful-opening}
 use Rattle.pod_runner.specs.Play.{play}
-use Rattle.pod_runner.specs.Session.{Live, Session, Setting, after_answer as rows_answered, after_poll, after_settle, after_settle_by, call_move, move, move_by, move_row, opening_session, proc_of, row_of, rows_of_new, rows_born, take_move, thread_in, with_row, without_row}
+use Rattle.pod_runner.specs.Session.{Live, Session, Setting, after_answer as rows_answered, after_poll, after_settle, after_settle_by, call_move, move, move_by}
+use Rattle.pod_runner.specs.Session.{move_row, opening_session, proc_of, row_of, rows_of_new, rows_born, take_move, thread_in, with_row, without_row}
 use Rattle.pod_runner.specs.declared.session.Row.{Row}
 use Rattle.pod_runner.specs.declared.session.Took.{Took}
 use Rattle.script_body.specs.Naming.{after_name, after_name_by, with_condition_name_by, with_monitor_name_by, with_thread_name_by}
@@ -41,7 +44,8 @@ use Rattle.script_body.specs.Bodies.{body_next}
 use Rattle.script_body.specs.declared.thread_body.ThreadBody.{ThreadBody}
 use Rattle.script_body.specs.declared.thread_body.ThreadBody.TheVariants.{Scripted, Serving, Storing}
 use Rattle.script_text.specs.declared.script.Stmt.{Stmt}
-use Rattle.std.proofs.Common.{Bool, List, None, Option, Some, [], arith, cond, drop, eqb, false, inl, inr, refl, subst, suc, sym, true, zero, ℕ, ◌++◌, ◌<◌, ◌∷◌, ◌≡◌, ◌≤◌, ◌⊎◌}
+use Rattle.std.proofs.Common.{Bool, List, None, Option, Some, [], arith, cond, drop, eqb, false, inl, inr}
+use Rattle.std.proofs.Common.{refl, subst, suc, sym, true, zero, ℕ, ◌++◌, ◌<◌, ◌∷◌, ◌≡◌, ◌≤◌, ◌⊎◌}
 use Rattle.std.specs.Prelude.{codes, map, replicate, slice_get, slice_set}
 use Rattle.lwp_types.specs.declared.call.Answer.TheVariants as answer
 use Rattle.lwp_types.specs.declared.call.Call.TheVariants as call
@@ -85,7 +89,9 @@ module _ (st : State) (was : Lawful st None) where
       by_refusal e None = (tt, (tt, tt))
       by_refusal e (Some why) = (tt, (tt, tt))
 
-      by_agent : (b : Bool) → AllNamed (cond b (after_refusal st trapped t c error.InUse) (after_machine_step trapped (step st c))).state.births (cond b (after_refusal st trapped t c error.InUse) (after_machine_step trapped (step st c))).effects
+      by_agent : (b : Bool)
+          → AllNamed (cond b (after_refusal st trapped t c error.InUse) (after_machine_step trapped (step st c))).state.births
+          (cond b (after_refusal st trapped t c error.InUse) (after_machine_step trapped (step st c))).effects
       by_agent true = (tt, (tt, tt))
       by_agent false = step_named st born_now c
 
@@ -93,15 +99,26 @@ module _ (st : State) (was : Lawful st None) where
       by_trap None = by_agent (passes (is_trapped trapped) (agent_event_of c))
       by_trap (Some e) = by_refusal e (trap_refusal st trapped e)
 
-  named_called : (trapped : List Bool) (t : ℕ) (c : Call) (pending : Option ℕ) → AllNamed (traps_called st trapped t c pending).state.births (traps_called st trapped t c pending).effects
+  named_called : (trapped : List Bool) (t : ℕ) (c : Call) (pending : Option ℕ)
+      → AllNamed (traps_called st trapped t c pending).state.births (traps_called st trapped t c pending).effects
   named_called trapped t c None = named_made trapped t c
   named_called trapped t c (Some e) = by_given (passes is_given (notice st t e)) (passes is_catch (notice st t e))
     where
-      by_given : (b d : Bool) → AllNamed (cond b (traps_made st trapped t c) (cond d (after_machine_step trapped (but_call (step st (call.ExcNotify e)))) (after_machine_step trapped (but_call (step st (call.Destroy t)))))).state.births
-          (effect.Trapped t e ∷ (cond b (traps_made st trapped t c) (cond d (after_machine_step trapped (but_call (step st (call.ExcNotify e)))) (after_machine_step trapped (but_call (step st (call.Destroy t)))))).effects)
+      by_given : (b d : Bool)
+          → AllNamed (cond b (traps_made st trapped t c) (cond d (after_machine_step trapped (but_call (step st (call.ExcNotify e))))
+          (after_machine_step trapped (but_call (step st (call.Destroy t)))))).state.births
+          (effect.Trapped t e
+          ∷ (cond b (traps_made st trapped t c) (cond d (after_machine_step trapped (but_call (step st (call.ExcNotify e))))
+          (after_machine_step trapped (but_call (step st (call.Destroy t)))))).effects)
       by_given true d = (tt, named_made trapped t c)
-      by_given false true = (tt, named_drop (step st (call.ExcNotify e)).after.births (step st (call.ExcNotify e)).effects (step_named st born_now (call.ExcNotify e)))
-      by_given false false = (tt, named_drop (step st (call.Destroy t)).after.births (step st (call.Destroy t)).effects (step_named st born_now (call.Destroy t)))
+      by_given false true = (
+        tt,
+        named_drop (step st (call.ExcNotify e)).after.births (step st (call.ExcNotify e)).effects (step_named st born_now (call.ExcNotify e)),
+      )
+      by_given false false = (
+        tt,
+        named_drop (step st (call.Destroy t)).after.births (step st (call.Destroy t)).effects (step_named st born_now (call.Destroy t)),
+      )
 
 named_said : (n : ℕ) (after : State) (es : List Effect) (reports : List ℕ) → AllNamed n es → AllNamed n (after_rites after es reports).effects
 named_said n after es reports all = by_armed (is_event_armed after rites_event) reports
@@ -109,7 +126,8 @@ named_said n after es reports all = by_armed (is_event_armed after rites_event) 
     by_armed : (b : Bool) (rs : List ℕ) → AllNamed n (cond b (after_first_report after es rs) (record { state = after; reports = rs; effects = es })).effects
     by_armed true [] = all
     by_armed false rs = all
-    by_armed true (dead ∷ later) = named_append n es (map (as_rites dead) (deliver after rites_event (report_text dead)).effects) all (named_rites n dead (deliver after rites_event (report_text dead)).effects (named_deliver n after rites_event (report_text dead)))
+    by_armed true (dead ∷ later) = named_append n es (map (as_rites dead) (deliver after rites_event (report_text dead)).effects) all
+        (named_rites n dead (deliver after rites_event (report_text dead)).effects (named_deliver n after rites_event (report_text dead)))
 
 event_named : (es : EventState) → Lawful es.state None → (c : Call) → AllNamed (event_step es c).after.state.births (event_step es c).effects
 unfolding event_step event_step_by
@@ -120,7 +138,8 @@ event_named es was c = by_choice (choice es.state)
     by_choice (Some t) =
         let out = traps_called es.state es.trapped t c es.pending in
         let reports = reports_after es.state out.state es.reports out.effects in
-        subst (λ n. AllNamed n (after_rites out.state out.effects reports).effects) (sym (births_said out.state out.effects reports)) (named_said out.state.births out.state out.effects reports (named_called es.state was es.trapped t c es.pending))
+        subst (λ n. AllNamed n (after_rites out.state out.effects reports).effects) (sym (births_said out.state out.effects reports))
+        (named_said out.state.births out.state out.effects reports (named_called es.state was es.trapped t c es.pending))
 
 take_named : (n : ℕ) (es : EventState) (e : ℕ) (text : List ℕ) → AllNamed n (take_event es e text).effects
 unfolding take_event
@@ -142,7 +161,8 @@ module _ {B : Type 0} (n : ℕ) where
   rows_append [] ys one two = two
   rows_append (x ∷ xs) ys one two = (one.0, rows_append xs ys one.1 two)
 
-  rows_with : (t : ℕ) (change : Row B → Row B) → ((row : Row B) → Below n (thread_in row.answer) → Below n (thread_in (change row).answer)) → (rows : List (Row B)) → RowsNamed rows → RowsNamed (with_row t change rows)
+  rows_with : (t : ℕ) (change : Row B → Row B) → ((row : Row B) → Below n (thread_in row.answer) → Below n (thread_in (change row).answer))
+      → (rows : List (Row B)) → RowsNamed rows → RowsNamed (with_row t change rows)
   rows_with t change keeps [] all = tt
   rows_with t change keeps (row ∷ rows) all = by_test (eqb row.tid t) (rows_with t change keeps rows all.1)
     where
@@ -167,12 +187,14 @@ module _ {B : Type 0} (n : ℕ) where
   rows_come bodies None t = tt
   rows_come bodies (Some number) None = tt
 
-  rows_settled : (bodies : List B) (born : Option ℕ) (es : List Effect) (rows : List (Row B)) → AllNamed n es → RowsNamed rows → RowsNamed (after_settle bodies born es rows)
+  rows_settled : (bodies : List B) (born : Option ℕ) (es : List Effect) (rows : List (Row B)) → AllNamed n es → RowsNamed rows
+      → RowsNamed (after_settle bodies born es rows)
   rows_settled bodies born [] rows names all = all
   rows_settled bodies born (e ∷ es) rows names all = rows_settled bodies born es (after_settle_by bodies born e rows) names.1 (by_effect e names.0)
     where
       by_effect : (e : Effect) → NamedIn n e → RowsNamed (after_settle_by bodies born e rows)
-      by_effect (effect.Answered t a) below = rows_append (rows_answered t a rows) (rows_born bodies born (thread_in a)) (rows_with t (λ row. record row { answer = a }) (λ row old. below) rows all) (rows_come bodies born (thread_in a))
+      by_effect (effect.Answered t a) below = rows_append (rows_answered t a rows) (rows_born bodies born (thread_in a))
+          (rows_with t (λ row. record row { answer = a }) (λ row old. below) rows all) (rows_come bodies born (thread_in a))
       by_effect (effect.Died t) below = rows_without t rows all
       by_effect (effect.Called t c) below = all
       by_effect (effect.Exited t reg c a) below = all
@@ -187,7 +209,8 @@ module _ {B : Type 0} (n : ℕ) where
   row_named t [] all row found = absurd (cc)
   row_named t (r ∷ rs) all row found = by_test (eqb r.tid t) found (row_named t rs all.1 row)
     where
-      by_test : (b : Bool) → cond b (Some r) (row_of t rs) ≡ Some row → (row_of t rs ≡ Some row → Below n (thread_in row.answer)) → Below n (thread_in row.answer)
+      by_test : (b : Bool) → cond b (Some r) (row_of t rs) ≡ Some row → (row_of t rs ≡ Some row → Below n (thread_in row.answer))
+          → Below n (thread_in row.answer)
       by_test true found rest = subst (λ (x : Row B). Below n (thread_in x.answer)) (let is : r ≡ row = cc found in is) all.0
       by_test false found rest = rest found
 
@@ -238,7 +261,8 @@ module _ (n : ℕ) where
   last_kept a None names below all = all
   last_kept a (Some s) names below all = stmt_kept a s names below all
 
-  taken_kept : (body : ScriptBody) (names : Names) (a : Answer) (now : Option ScriptBody) → Below n (thread_in a) → AllKnown n names → AllKnown n (poll_of_answer body names a now).2
+  taken_kept : (body : ScriptBody) (names : Names) (a : Answer) (now : Option ScriptBody) → Below n (thread_in a) → AllKnown n names
+      → AllKnown n (poll_of_answer body names a now).2
   taken_kept body names a None below all = all
   taken_kept body names a (Some now) below all = last_kept a body.last names below all
 
@@ -256,20 +280,26 @@ pub record Tells (live : Live ThreadBody) : Type 0 where
   pub names : AllKnown live.pod.state.births live.names
 
 module _ (setting : Setting ThreadBody) (scripts : setting.next ≡ body_next) where
-  tells_called : (live : Live ThreadBody) → Lawful live.pod.state None → (t : ℕ) (reply : Polled ThreadBody) → live.pod.state.births ≤ (event_step live.pod reply.0).after.state.births → RowsNamed live.pod.state.births live.rows → AllKnown live.pod.state.births reply.2
+  tells_called : (live : Live ThreadBody) → Lawful live.pod.state None → (t : ℕ) (reply : Polled ThreadBody)
+      → live.pod.state.births ≤ (event_step live.pod reply.0).after.state.births → RowsNamed live.pod.state.births live.rows
+      → AllKnown live.pod.state.births reply.2
       → Tells (call_move setting.bodies live t reply).live
   unfolding call_move
   tells_called live was t reply more rows names = record {
-    rows = rows_settled _ setting.bodies (proc_of reply.0) (event_step live.pod reply.0).effects (after_poll t reply.1 reply.0 live.rows) (event_named live.pod was reply.0)
-        (rows_with _ t (λ row. record row { body = reply.1; called = true; call = reply.0 }) (λ row below. below) live.rows (rows_later live.pod.state.births _ more live.rows rows));
+    rows = rows_settled _ setting.bodies (proc_of reply.0) (event_step live.pod reply.0).effects (after_poll t reply.1 reply.0 live.rows)
+        (event_named live.pod was reply.0)
+        (rows_with _ t (λ row. record row { body = reply.1; called = true; call = reply.0 }) (λ row below. below) live.rows
+        (rows_later live.pod.state.births _ more live.rows rows));
     names = λ place. known_later live.pod.state.births _ (id_at reply.2.threads place) more (names place);
   }
 
-  tells_row : (live : Live ThreadBody) → Lawful live.pod.state None → Tells live → (t : ℕ) (o : Option (Row ThreadBody)) → row_of t live.rows ≡ o → Tells (move_row body_next setting.bodies live t o).live
+  tells_row : (live : Live ThreadBody) → Lawful live.pod.state None → Tells live → (t : ℕ) (o : Option (Row ThreadBody))
+      → row_of t live.rows ≡ o → Tells (move_row body_next setting.bodies live t o).live
   tells_row live was h t None found = h
   tells_row live was h t (Some row) found =
       let reply = body_next row.body (names_for_poll t live.names) row.answer in
-      tells_called live was t reply (event_fades 0 live.pod reply.0).births h.rows (body_kept live.pod.state.births row.body (names_for_poll t live.names) row.answer (row_named live.pod.state.births t live.rows h.rows row found) h.names)
+      tells_called live was t reply (event_fades 0 live.pod reply.0).births h.rows (body_kept live.pod.state.births row.body
+      (names_for_poll t live.names) row.answer (row_named live.pod.state.births t live.rows h.rows row found) h.names)
 
   tells_call : (live : Live ThreadBody) → Lawful live.pod.state None → Tells live → Tells (move body_next setting.bodies live).live
   unfolding move
@@ -284,21 +314,29 @@ module _ (setting : Setting ThreadBody) (scripts : setting.next ≡ body_next) w
   tells_take live took h =
       let more = (take_fades 0 live.pod took.event took.line.text).births in
       record {
-        rows = rows_settled _ setting.bodies None (take_event live.pod took.event took.line.text).effects live.rows (take_named _ live.pod took.event took.line.text) (rows_later live.pod.state.births _ more live.rows h.rows);
+        rows = rows_settled _ setting.bodies None (take_event live.pod took.event took.line.text).effects live.rows
+            (take_named _ live.pod took.event took.line.text) (rows_later live.pod.state.births _ more live.rows h.rows);
         names = λ place. known_later live.pod.state.births _ (id_at live.names.threads place) more (h.names place);
       }
 
-  pub tells_moved : (session : Session ThreadBody) (m : Option Took) → Lawful session.live.pod.state None → Tells session.live → Tells (after_move setting session m).live
+  pub tells_moved : (session : Session ThreadBody) (m : Option Took) → Lawful session.live.pod.state None → Tells session.live
+      → Tells (after_move setting session m).live
   tells_moved session None was h = subst (λ next. Tells (move next setting.bodies session.live).live) (sym scripts) (tells_call session.live was h)
   tells_moved session (Some took) was h = tells_take session.live took h
 
-  tells_gone : (moves : List (Option Took)) (session : Session ThreadBody) → CanGoOn setting moves session → Lawful session.live.pod.state None → Tells session.live → Tells (after_moves setting moves session).live
+  tells_gone : (moves : List (Option Took)) (session : Session ThreadBody) → CanGoOn setting moves session
+      → Lawful session.live.pod.state None → Tells session.live → Tells (after_moves setting moves session).live
   tells_gone [] session can was h = h
-  tells_gone (m ∷ ms) session can was h = tells_gone ms (after_move setting session m) can.1 (moved_lawful setting session m can.0 was) (tells_moved session m was h)
+  tells_gone (m ∷ ms) session can was h =
+      tells_gone ms (after_move setting session m) can.1 (moved_lawful setting session m can.0 was) (tells_moved session m was h)
 
 -- it holds at an opening whose names are known
-pub tells_opening : (bodies : List ThreadBody) (params : PodParams) (names : Names) → KnowsItsNames (opening_session (script_setting bodies params names)) → Tells (opening_session (script_setting bodies params names)).live
-tells_opening bodies params names known = record { rows = rows_opened (opening_session (script_setting bodies params names)).live.pod.state.births 0 0 (slice_get bodies 0); names = known }
+pub tells_opening : (bodies : List ThreadBody) (params : PodParams) (names : Names)
+    → KnowsItsNames (opening_session (script_setting bodies params names)) → Tells (opening_session (script_setting bodies params names)).live
+tells_opening bodies params names known = record {
+  rows = rows_opened (opening_session (script_setting bodies params names)).live.pod.state.births 0 0 (slice_get bodies 0);
+  names = known;
+}
 
 pub names_are_of_the_born : NamesAreOfTheBorn
 names_are_of_the_born bodies params names least most known takes n defined =
@@ -329,7 +367,8 @@ module _ (n : ℕ) (body : SessionBody) (names : Names) (known : AllKnown n name
   sends_commands text None to room words e = absurd (cc)
   sends_commands text (Some c) to room words e = subst (Known n) (let is : id_at names.threads body.store ≡ to = cc e in is) (known body.store)
 
-  sends_reads : (text : List ℕ) (b : Bool) → SendsKnown (cond b (call.Reply body.agent (codes "bye"), session_at body at.Bye) (session_sends body names text (command_of text))).0
+  sends_reads : (text : List ℕ) (b : Bool)
+      → SendsKnown (cond b (call.Reply body.agent (codes "bye"), session_at body at.Bye) (session_sends body names text (command_of text))).0
   sends_reads text true = λ to room words e. absurd (cc)
   sends_reads text false = sends_commands text (command_of text)
 
@@ -372,4 +411,5 @@ module _ (n : ℕ) (body : SessionBody) (names : Names) (known : AllKnown n name
 pub sessions_send_to_the_born : SessionsSendToTheBorn
 sessions_send_to_the_born bodies params names least most known takes n defined s body heard row =
     let session = play (script_setting bodies params names) takes n in
-    sends_next session.live.pod.state.births body (names_for_poll s session.live.names) (names_are_of_the_born bodies params names least most known takes n defined) heard
+    sends_next session.live.pod.state.births body (names_for_poll s session.live.names)
+    (names_are_of_the_born bodies params names least most known takes n defined) heard

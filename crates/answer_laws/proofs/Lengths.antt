@@ -70,7 +70,8 @@ inserted key value short (e ∷ es) h = by_order (key_cmp key e.0) (inserted key
     parts : (is_short e.1 ≡ true) × Kept es
     parts = and_parts (is_short e.1) (list_all (λ (e : List ℕ × List ℕ). is_short e.1) es) h
 
-    by_order : (o : Ordering) → Kept (insert_entry key_cmp es key value) → Kept (match_ordering o ((key, value) ∷ e ∷ es) ((e.0, value) ∷ es) (e ∷ insert_entry key_cmp es key value))
+    by_order : (o : Ordering) → Kept (insert_entry key_cmp es key value)
+        → Kept (match_ordering o ((key, value) ∷ e ∷ es) ((e.0, value) ∷ es) (e ∷ insert_entry key_cmp es key value))
     by_order Less rest = and_from _ _ short h
     by_order Equal rest = and_from _ _ short parts.1
     by_order Greater rest = and_from _ _ parts.0 rest
@@ -100,7 +101,8 @@ module _ (test : List ℕ → Bool) where
 
 -- ---- replies
 
-command_told : (o : Option Command) → Few (value_of o) → (table : Table) → Kept table → (is_short (served_command o table).reply ≡ true) × Kept (served_command o table).table
+command_told : (o : Option Command) → Few (value_of o) → (table : Table) → Kept table
+    → (is_short (served_command o table).reply ≡ true) × Kept (served_command o table).table
 command_told None few table h = (refl, h)
 command_told (Some (Put key value)) few table h = by_full (nat_le 100 (length table) && is_none (at_key key table))
   where
@@ -135,7 +137,8 @@ taken_all (suc n) (text ∷ texts) all = let parts = and_parts (is_short text) (
 pub short_lines_have_short_answers : ShortLinesHaveShortAnswers
 short_lines_have_short_answers lines all =
     list_all-append is_short (replies [] (before_first is_quit lines)) (cond (list_any is_quit lines) (codes "bye" ∷ []) [])
-    ∙ and_from _ _ (replies_short (before_first is_quit lines) [] (taken_all (prefix_len (λ x. not (is_quit x)) lines) lines all) refl) (by_quit (list_any is_quit lines))
+    ∙ and_from _ _ (replies_short (before_first is_quit lines) [] (taken_all (prefix_len (λ x. not (is_quit x)) lines) lines all) refl)
+    (by_quit (list_any is_quit lines))
   where
     by_quit : (b : Bool) → list_all is_short (cond b (codes "bye" ∷ []) []) ≡ true
     by_quit true = refl

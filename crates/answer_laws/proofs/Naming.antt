@@ -6,11 +6,14 @@ use Rattle.answer_laws.proofs.Openings.{can_before, can_behind, gone_append, mov
 use Rattle.answer_laws.proofs.OwnSteps.{alive_seen}
 use Rattle.answer_laws.proofs.Phases.{Phase.Starting, TellsAt, phase_first}
 use Rattle.answer_laws.proofs.Reports.{moves_short}
-use Rattle.answer_laws.proofs.Servings.{Grows, K_of, S_of, Stood, gone_fades, gone_grows, gone_stood, moved_lawful, sends_before, sends_last, sends_named, short_before}
+use Rattle.answer_laws.proofs.Servings.{Grows, K_of, S_of, Stood, gone_fades, gone_grows, gone_stood, moved_lawful}
+use Rattle.answer_laws.proofs.Servings.{sends_before, sends_last, sends_named, short_before}
 use Rattle.answer_laws.proofs.TalkSteps.{apart_of}
-use Rattle.answer_laws.proofs.Unsent.{IsQuiet, Lone, Quiet, Sent, Sent.IsNone, Sent.IsSend, Unpolled, alone_at, is_quiet_by, lone_moves, own_effects, phase_met, quiet_behind, sent_of}
+use Rattle.answer_laws.proofs.Unsent.{IsQuiet, Lone, Quiet, Sent, Sent.IsNone, Sent.IsSend, Unpolled, alone_at}
+use Rattle.answer_laws.proofs.Unsent.{is_quiet_by, lone_moves, own_effects, phase_met, quiet_behind, sent_of}
 use Rattle.answer_laws.proofs.Wholes.{in_whole_sessions, line_server}
-use Rattle.answer_laws.specs.Births.{FromNullNames, InEveryScript, InEverySession, IsAnsweredAlways, IsUnsentTill, begins_in, born_in, is_named, is_send_of, is_unsent_till}
+use Rattle.answer_laws.specs.Births.{FromNullNames, InEveryScript, InEverySession, IsAnsweredAlways, IsUnsentTill}
+use Rattle.answer_laws.specs.Births.{begins_in, born_in, is_named, is_send_of, is_unsent_till}
 use Rattle.answer_laws.specs.Clients.{IsAnsweredInTurn, all_sends_to, texts_delivered, names_only, replies_accepted, sends_nothing, sends_only}
 use Rattle.answer_laws.specs.Known.{KnowsItsNames, script_setting}
 use Rattle.answer_laws.specs.Lengths.{is_short}
@@ -33,7 +36,8 @@ use Rattle.pod_runner.specs.declared.session.Row.{Row}
 use Rattle.pod_runner.specs.declared.session.Took.{Took}
 use Rattle.script_body.specs.Bodies.{body_next}
 use Rattle.script_body.specs.declared.thread_body.ThreadBody.{ThreadBody}
-use Rattle.std.proofs.Common.{Bool, List, None, Option, Some, [], ap, append-nil, append_assoc, arith, cond, eqb, false, inl, inr, not, refl, subst, sym, true, ℕ, ◌&&◌, ◌++◌, ◌<◌, ◌∙◌, ◌∷◌, ◌≡◌, ◌≤◌, ◌≢◌, ◌||◌, ◌⊎◌}
+use Rattle.std.proofs.Common.{Bool, List, None, Option, Some, [], ap, append-nil, append_assoc, arith, cond, eqb, false, inl}
+use Rattle.std.proofs.Common.{inr, not, refl, subst, sym, true, ℕ, ◌&&◌, ◌++◌, ◌<◌, ◌∙◌, ◌∷◌, ◌≡◌, ◌≤◌, ◌≢◌, ◌||◌, ◌⊎◌}
 use Rattle.std.proofs.lemmas.Bool.{and_parts, eqb-true, leb-false, leb-true, ne_eqb}
 use Rattle.std.specs.List.{list_all, list_any}
 use Rattle.std.specs.Prelude.{nat_le, slice_get}
@@ -56,7 +60,9 @@ module _ {B : Type 0} (setting : Setting B) where
 
   steps_are : (moves : List (Option Took)) (session : Session B) → (after_moves setting moves session).steps ≡ session.steps ++ made_in moves session
   steps_are [] session = sym (append-nil session.steps)
-  steps_are (m ∷ ms) session = steps_are ms (after_move setting session m) ∙ ap (λ xs. xs ++ made_in ms (after_move setting session m)) (steps_after session m) ∙ append_assoc session.steps (made_by session m ∷ []) (made_in ms (after_move setting session m))
+  steps_are (m ∷ ms) session = steps_are ms (after_move setting session m)
+      ∙ ap (λ xs. xs ++ made_in ms (after_move setting session m)) (steps_after session m)
+      ∙ append_assoc session.steps (made_by session m ∷ []) (made_in ms (after_move setting session m))
 
   -- no step of these moves names it
   abbrev Unnamed : ℕ → List (Option Took) → Session B → Type 0
@@ -74,37 +80,55 @@ module _ {B : Type 0} (setting : Setting B) where
 
   named_by : (u p : ℕ) (moves : List (Option Took)) (session : Session B) → begins_in u (made_in moves session) ≡ Some p → Named u p moves session
   named_by u p [] session begins = absurd (cc)
-  named_by u p (m ∷ ms) session begins = by_test (is_named u (made_by session m).effects) refl begins (λ later. named_by u p ms (after_move setting session m) later)
+  named_by u p (m ∷ ms) session begins =
+      by_test (is_named u (made_by session m).effects) refl begins (λ later. named_by u p ms (after_move setting session m) later)
     where
-      by_test : (b : Bool) → is_named u (made_by session m).effects ≡ b → cond b (born_in u (made_by session m).effects) (begins_in u (made_in ms (after_move setting session m))) ≡ Some p
+      by_test : (b : Bool) → is_named u (made_by session m).effects ≡ b
+          → cond b (born_in u (made_by session m).effects) (begins_in u (made_in ms (after_move setting session m))) ≡ Some p
           → (begins_in u (made_in ms (after_move setting session m)) ≡ Some p → Named u p ms (after_move setting session m)) → Named u p (m ∷ ms) session
       by_test true e bears rest = record { before = []; birth = m; later = ms; is = refl; unnamed = tt; bears = bears }
-      by_test false e bears rest = let n = rest bears in record { before = m ∷ n.before; birth = n.birth; later = n.later; is = ap (λ xs. m ∷ xs) n.is; unnamed = (e, n.unnamed); bears = n.bears }
+      by_test false e bears rest = let n = rest bears in record {
+        before = m ∷ n.before;
+        birth = n.birth;
+        later = n.later;
+        is = ap (λ xs. m ∷ xs) n.is;
+        unnamed = (e, n.unnamed);
+        bears = n.bears;
+      }
 
   -- ---- rows of who isn't named
 
-  called_none : (u t : ℕ) (live : Live B) (reply : Polled B) → row_of u live.rows ≡ None → is_named u (call_move setting.bodies live t reply).effects ≡ false → row_of u (call_move setting.bodies live t reply).live.rows ≡ None
+  called_none : (u t : ℕ) (live : Live B) (reply : Polled B) → row_of u live.rows ≡ None
+      → is_named u (call_move setting.bodies live t reply).effects ≡ false → row_of u (call_move setting.bodies live t reply).live.rows ≡ None
   unfolding call_move
-  called_none u t live reply none unnamed = none_settled u setting.bodies (proc_of reply.0) (call_move setting.bodies live t reply).effects (after_poll t reply.1 reply.0 live.rows) (none_with u t (λ row. record row { body = reply.1; called = true; call = reply.0 }) (λ r. refl) live.rows none) unnamed
+  called_none u t live reply none unnamed = none_settled u setting.bodies (proc_of reply.0) (call_move setting.bodies live t reply).effects
+      (after_poll t reply.1 reply.0 live.rows)
+      (none_with u t (λ row. record row { body = reply.1; called = true; call = reply.0 }) (λ r. refl) live.rows none) unnamed
 
-  row_none : (u t : ℕ) (live : Live B) (o : Option (Row B)) → row_of u live.rows ≡ None → is_named u (move_row setting.next setting.bodies live t o).effects ≡ false → row_of u (move_row setting.next setting.bodies live t o).live.rows ≡ None
+  row_none : (u t : ℕ) (live : Live B) (o : Option (Row B)) → row_of u live.rows ≡ None
+      → is_named u (move_row setting.next setting.bodies live t o).effects ≡ false → row_of u (move_row setting.next setting.bodies live t o).live.rows ≡ None
   row_none u t live None none unnamed = none
   row_none u t live (Some row) none unnamed = called_none u t live (setting.next row.body (names_for_poll t live.names) row.answer) none unnamed
 
-  call_none : (u : ℕ) (live : Live B) → row_of u live.rows ≡ None → is_named u (move setting.next setting.bodies live).effects ≡ false → row_of u (move setting.next setting.bodies live).live.rows ≡ None
+  call_none : (u : ℕ) (live : Live B) → row_of u live.rows ≡ None → is_named u (move setting.next setting.bodies live).effects ≡ false
+      → row_of u (move setting.next setting.bodies live).live.rows ≡ None
   unfolding move
   call_none u live none = by_choice (choice live.pod.state)
     where
-      by_choice : (o : Option ℕ) → is_named u (move_by setting.next setting.bodies live o).effects ≡ false → row_of u (move_by setting.next setting.bodies live o).live.rows ≡ None
+      by_choice : (o : Option ℕ) → is_named u (move_by setting.next setting.bodies live o).effects ≡ false
+          → row_of u (move_by setting.next setting.bodies live o).live.rows ≡ None
       by_choice None unnamed = none
       by_choice (Some t) unnamed = row_none u t live (row_of t live.rows) none unnamed
 
-  moved_none : (u : ℕ) (session : Session B) (m : Option Took) → row_of u session.live.rows ≡ None → is_named u (made_by session m).effects ≡ false → row_of u (after_move setting session m).live.rows ≡ None
+  moved_none : (u : ℕ) (session : Session B) (m : Option Took) → row_of u session.live.rows ≡ None
+      → is_named u (made_by session m).effects ≡ false → row_of u (after_move setting session m).live.rows ≡ None
   unfolding take_move
   moved_none u session None none unnamed = call_none u session.live none unnamed
-  moved_none u session (Some took) none unnamed = none_settled u setting.bodies None (take_move setting.bodies took session.live).effects session.live.rows none unnamed
+  moved_none u session (Some took) none unnamed =
+      none_settled u setting.bodies None (take_move setting.bodies took session.live).effects session.live.rows none unnamed
 
-  gone_none : (u : ℕ) (moves : List (Option Took)) (session : Session B) → row_of u session.live.rows ≡ None → Unnamed u moves session → row_of u (after_moves setting moves session).live.rows ≡ None
+  gone_none : (u : ℕ) (moves : List (Option Took)) (session : Session B) → row_of u session.live.rows ≡ None → Unnamed u moves session
+      → row_of u (after_moves setting moves session).live.rows ≡ None
   gone_none u [] session none unnamed = none
   gone_none u (m ∷ ms) session none unnamed = gone_none u ms (after_move setting session m) (moved_none u session m none unnamed.0) unnamed.1
 
@@ -114,28 +138,39 @@ module _ {B : Type 0} (setting : Setting B) where
     number : live.pod.state.births ≡ u
     begins : row_of u live.rows ≡ None → (body : B) → slice_get setting.bodies p ≡ Some body → Begins u body after
 
-  called_bears : (u p t : ℕ) (live : Live B) → Lawful live.pod.state None → choice live.pod.state ≡ Some t → (reply : Polled B) → born_in u (call_move setting.bodies live t reply).effects ≡ Some p → Birth u p live (call_move setting.bodies live t reply).live
+  called_bears : (u p t : ℕ) (live : Live B) → Lawful live.pod.state None → choice live.pod.state ≡ Some t → (reply : Polled B)
+      → born_in u (call_move setting.bodies live t reply).effects ≡ Some p → Birth u p live (call_move setting.bodies live t reply).live
   unfolding call_move
   called_bears u p t live was turn reply bears =
       let b = call_bears setting.bodies u p live.pod was t turn reply.0 bears in
       record {
         number = b.number;
-        begins = λ none body is. record { row = b.rows (after_poll t reply.1 reply.0 live.rows) (none_with u t (λ row. record row { body = reply.1; called = true; call = reply.0 }) (λ r. refl) live.rows none) body is; thread = b.seen };
+        begins =
+            λ none body is.
+            record {
+              row = b.rows (after_poll t reply.1 reply.0 live.rows)
+                  (none_with u t (λ row. record row { body = reply.1; called = true; call = reply.0 }) (λ r. refl) live.rows none) body is;
+              thread = b.seen;
+            };
       }
 
-  call_bears_it : (u p : ℕ) (live : Live B) → Lawful live.pod.state None → born_in u (move setting.next setting.bodies live).effects ≡ Some p → Birth u p live (move setting.next setting.bodies live).live
+  call_bears_it : (u p : ℕ) (live : Live B) → Lawful live.pod.state None
+      → born_in u (move setting.next setting.bodies live).effects ≡ Some p → Birth u p live (move setting.next setting.bodies live).live
   unfolding move
   call_bears_it u p live was = by_choice (choice live.pod.state) refl
     where
-      by_row : (t : ℕ) → choice live.pod.state ≡ Some t → (o : Option (Row B)) → born_in u (move_row setting.next setting.bodies live t o).effects ≡ Some p → Birth u p live (move_row setting.next setting.bodies live t o).live
+      by_row : (t : ℕ) → choice live.pod.state ≡ Some t → (o : Option (Row B))
+          → born_in u (move_row setting.next setting.bodies live t o).effects ≡ Some p → Birth u p live (move_row setting.next setting.bodies live t o).live
       by_row t turn None bears = absurd (cc)
       by_row t turn (Some row) bears = called_bears u p t live was turn (setting.next row.body (names_for_poll t live.names) row.answer) bears
 
-      by_choice : (o : Option ℕ) → choice live.pod.state ≡ o → born_in u (move_by setting.next setting.bodies live o).effects ≡ Some p → Birth u p live (move_by setting.next setting.bodies live o).live
+      by_choice : (o : Option ℕ) → choice live.pod.state ≡ o → born_in u (move_by setting.next setting.bodies live o).effects ≡ Some p
+          → Birth u p live (move_by setting.next setting.bodies live o).live
       by_choice None e bears = absurd (cc)
       by_choice (Some t) e bears = by_row t e (row_of t live.rows) bears
 
-  move_bears : (u p : ℕ) (session : Session B) (m : Option Took) → Lawful session.live.pod.state None → born_in u (made_by session m).effects ≡ Some p → Birth u p session.live (after_move setting session m).live
+  move_bears : (u p : ℕ) (session : Session B) (m : Option Took) → Lawful session.live.pod.state None
+      → born_in u (made_by session m).effects ≡ Some p → Birth u p session.live (after_move setting session m).live
   unfolding take_move
   move_bears u p session None was bears = call_bears_it u p session.live was bears
   move_bears u p session (Some took) was bears = absurd (let bad : Some p ≡ None = sym bears ∙ take_bears u session.live.pod took.event took.line.text in cc)
@@ -147,16 +182,23 @@ module _ {B : Type 0} (setting : Setting B) where
 -- ---- s sends nothing
 
 module _ {B : Type 0} (setting : Setting B) (server : LineServer setting.next) (s k : ℕ) where
-  quiet_one : (m : Option Took) (session : Session B) → list_any (is_send_of s) (made_by setting session m).effects ≡ false → m ≡ None → IsQuiet setting server s session.live
+  quiet_one : (m : Option Took) (session : Session B) → list_any (is_send_of s) (made_by setting session m).effects ≡ false → m ≡ None
+      → IsQuiet setting server s session.live
   quiet_one None session none is = is_quiet_by setting server s session.live none
   quiet_one (Some took) session none is = absurd (cc)
 
-  quiet_till : (before : List (Option Took)) (birth : Option Took) (later : List (Option Took)) (session : Session B) → Unnamed setting k before session → is_unsent_till k s (made_in setting (before ++ birth ∷ later) session) ≡ true → Quiet setting server s (before ++ birth ∷ []) session
-  quiet_till [] birth later session unnamed unsent = (quiet_one birth session (false_of (list_any (is_send_of s) (made_by setting session birth).effects) (and_parts (not (list_any (is_send_of s) (made_by setting session birth).effects)) _ unsent).0), tt)
+  quiet_till : (before : List (Option Took)) (birth : Option Took) (later : List (Option Took)) (session : Session B)
+      → Unnamed setting k before session → is_unsent_till k s (made_in setting (before ++ birth ∷ later) session) ≡ true
+      → Quiet setting server s (before ++ birth ∷ []) session
+  quiet_till [] birth later session unnamed unsent =
+      (quiet_one birth session (false_of (list_any (is_send_of s) (made_by setting session birth).effects) (and_parts (not (list_any (is_send_of s) (made_by setting session birth).effects)) _ unsent).0), tt)
   quiet_till (m ∷ ms) birth later session unnamed unsent =
-      let parts = and_parts (not (list_any (is_send_of s) (made_by setting session m).effects)) (is_named k (made_by setting session m).effects || is_unsent_till k s (made_in setting (ms ++ birth ∷ later) (after_move setting session m))) unsent in (
+      let parts = and_parts (not (list_any (is_send_of s) (made_by setting session m).effects))
+      (is_named k (made_by setting session m).effects || is_unsent_till k s (made_in setting (ms ++ birth ∷ later) (after_move setting session m)))
+      unsent in (
         quiet_one m session (false_of (list_any (is_send_of s) (made_by setting session m).effects) parts.0),
-        quiet_till ms birth later (after_move setting session m) unnamed.1 (ap (λ b. b || is_unsent_till k s (made_in setting (ms ++ birth ∷ later) (after_move setting session m))) (sym unnamed.0) ∙ parts.1),
+        quiet_till ms birth later (after_move setting session m) unnamed.1
+            (ap (λ b. b || is_unsent_till k s (made_in setting (ms ++ birth ∷ later) (after_move setting session m))) (sym unnamed.0) ∙ parts.1),
       )
 
 -- two splits of one list
@@ -187,36 +229,50 @@ split_two (y ∷ ys) x1 l1 (z ∷ zs) x2 l2 e = by_rest (split_two ys x1 l1 zs x
 -- ---- every session
 
 module _ {B : Type 0} (setting : Setting B) (server : LineServer setting.next) (least : 1 ≤ setting.params.maxpri) (most : setting.params.maxpri ≤ 255) where
-  lines_of : (moves : List (Option Took)) (session : Session B) → list_all (λ (m : Made). line_is_short m.take) (made_in setting moves session) ≡ list_all line_is_short moves
+  lines_of : (moves : List (Option Took)) (session : Session B)
+      → list_all (λ (m : Made). line_is_short m.take) (made_in setting moves session) ≡ list_all line_is_short moves
   lines_of [] session = refl
   lines_of (None ∷ ms) session = lines_of ms (after_move setting session None)
   lines_of (Some took ∷ ms) session = ap (λ b. line_is_short (Some took) && b) (lines_of ms (after_move setting session (Some took)))
 
   module _ (moves : List (Option Took)) (can : CanGoOn setting moves (opening_session setting)) where
     -- a thread that begins in a procedure begins with its body after the move that bears it
-    born_at : (u p : ℕ) (n : Named setting u p moves (opening_session setting)) → Birth setting u p (after_moves setting n.before (opening_session setting)).live (after_move setting (after_moves setting n.before (opening_session setting)) n.birth).live
+    born_at : (u p : ℕ) (n : Named setting u p moves (opening_session setting))
+        → Birth setting u p (after_moves setting n.before (opening_session setting)).live
+        (after_move setting (after_moves setting n.before (opening_session setting)) n.birth).live
     born_at u p n = move_bears setting u p (after_moves setting n.before (opening_session setting)) n.birth
-        (gone_lawful setting n.before (opening_session setting) (can_before setting n.before (n.birth ∷ n.later) (opening_session setting) (subst (λ ms. CanGoOn setting ms (opening_session setting)) n.is can)) (Lawful-opening setting.params least most)) n.bears
+        (gone_lawful setting n.before (opening_session setting)
+        (can_before setting n.before (n.birth ∷ n.later) (opening_session setting) (subst (λ ms. CanGoOn setting ms (opening_session setting)) n.is can))
+        (Lawful-opening setting.params least most))
+        n.bears
 
-    begins_at : (u p : ℕ) (n : Named setting u p moves (opening_session setting)) (body : B) → slice_get setting.bodies p ≡ Some body → Begins u body (after_move setting (after_moves setting n.before (opening_session setting)) n.birth).live
+    begins_at : (u p : ℕ) (n : Named setting u p moves (opening_session setting)) (body : B) → slice_get setting.bodies p ≡ Some body
+        → Begins u body (after_move setting (after_moves setting n.before (opening_session setting)) n.birth).live
     begins_at u p n body is =
         let b = born_at u p n in
         let apart : u ≢ 0 = λ e. omega (arith, e, b.number, (gone_fades setting 0 n.before (opening_session setting)).births) in
         b.begins (gone_none setting u n.before (opening_session setting) (opening_none setting u apart) n.unnamed) body is
 
-    module _ (s k in_s in_k event place : ℕ) (ns : Named setting s in_s moves (opening_session setting)) (nk : Named setting k in_k moves (opening_session setting))
-        (body_s : slice_get setting.bodies in_s ≡ Some (server.serving (session_opening event place))) (body_k : slice_get setting.bodies in_k ≡ Some (server.storing store_opening))
+    module _ (s k in_s in_k event place : ℕ) (ns : Named setting s in_s moves (opening_session setting))
+        (nk : Named setting k in_k moves (opening_session setting))
+        (body_s : slice_get setting.bodies in_s ≡ Some (server.serving (session_opening event place)))
+        (body_k : slice_get setting.bodies in_k ≡ Some (server.storing store_opening))
         (serves : Serves s k (after_moves setting moves (opening_session setting))) (lines : list_all line_is_short moves ≡ true) (a : ℕ) where
       abbrev Answered : Type 0
       Answered = IsAnsweredInTurn s a (steps_of (after_moves setting moves (opening_session setting)).steps)
 
       later_answers : Inside nk.before nk.birth ns.before → IsAnsweredInTurn s a (steps_of (after_moves setting moves (opening_session setting)).steps)
       later_answers i = subst (λ ms. IsAnsweredInTurn s a (steps_of (after_moves setting ms (opening_session setting)).steps)) (sym moves_are)
-          (in_whole_sessions B setting server least most s k event place (nk.before ++ nk.birth ∷ []) i.between ns.birth ns.later (subst (λ ms. CanGoOn setting ms (opening_session setting)) moves_are can)
-          (subst (λ (x : Session B). Begins k (server.storing store_opening) x.live) (sym (gone_push setting nk.before nk.birth (opening_session setting))) (begins_at k in_k nk (server.storing store_opening) body_k))
+          (in_whole_sessions B setting server least most s k event place (nk.before ++ nk.birth ∷ []) i.between ns.birth ns.later
+          (subst (λ ms. CanGoOn setting ms (opening_session setting)) moves_are can)
+          (subst (λ (x : Session B). Begins k (server.storing store_opening) x.live)
+          (sym (gone_push setting nk.before nk.birth (opening_session setting))) (begins_at k in_k nk (server.storing store_opening) body_k))
           (omega (arith, ap (λ ms. (after_moves setting ms (opening_session setting)).live.pod.state.births) before_are, (born_at s in_s ns).number))
-          (subst (λ (x : Session B). Begins s (server.serving (session_opening event place)) x.live) (sym (ap (λ ms. after_moves setting ms (opening_session setting)) birth_are ∙ gone_push setting ns.before ns.birth (opening_session setting))) (begins_at s in_s ns (server.serving (session_opening event place)) body_s))
-          (subst (λ ms. Serves s k (after_moves setting ms (opening_session setting))) moves_are serves) (subst (λ ms. list_all line_is_short ms ≡ true) moves_are lines) a)
+          (subst (λ (x : Session B). Begins s (server.serving (session_opening event place)) x.live)
+          (sym (ap (λ ms. after_moves setting ms (opening_session setting)) birth_are ∙ gone_push setting ns.before ns.birth (opening_session setting)))
+          (begins_at s in_s ns (server.serving (session_opening event place)) body_s))
+          (subst (λ ms. Serves s k (after_moves setting ms (opening_session setting))) moves_are serves)
+          (subst (λ ms. list_all line_is_short ms ≡ true) moves_are lines) a)
         where
           before_are : (nk.before ++ nk.birth ∷ []) ++ i.between ≡ ns.before
           before_are = append_assoc nk.before (nk.birth ∷ []) i.between ∙ sym i.is
@@ -228,7 +284,8 @@ module _ {B : Type 0} (setting : Setting B) (server : LineServer setting.next) (
           moves_are = ns.is ∙ ap (λ xs. xs ++ ns.birth ∷ ns.later) (sym before_are) ∙ append_assoc (nk.before ++ nk.birth ∷ []) i.between (ns.birth ∷ ns.later)
 
       -- who was born later has more before it
-      born_in_order : {u v p q : ℕ} (nu : Named setting u p moves (opening_session setting)) (nv : Named setting v q moves (opening_session setting)) → u < v → Short nu.before nv.before → ⊥
+      born_in_order : {u v p q : ℕ} (nu : Named setting u p moves (opening_session setting)) (nv : Named setting v q moves (opening_session setting))
+          → u < v → Short nu.before nv.before → ⊥
       born_in_order nu nv below sh = omega (
         arith,
         below,
@@ -248,7 +305,8 @@ module _ {B : Type 0} (setting : Setting B) (server : LineServer setting.next) (
           by_split (inr sh) = absurd (born_in_order nk ns below sh)
 
       -- the session was, and sent nothing till then
-      module _ (below : s < k) (quiet : Quiet setting server s (nk.before ++ nk.birth ∷ []) (opening_session setting)) (i : Inside ns.before ns.birth nk.before) where
+      module _ (below : s < k) (quiet : Quiet setting server s (nk.before ++ nk.birth ∷ []) (opening_session setting))
+          (i : Inside ns.before ns.birth nk.before) where
         s_k : eqb s k ≡ false
         s_k = ne_eqb s k (λ e. omega (arith, e, below))
 
@@ -296,7 +354,8 @@ module _ {B : Type 0} (setting : Setting B) (server : LineServer setting.next) (
         apart_so = ap (λ xs. xs ++ nk.birth ∷ []) i.is ∙ append_assoc ns.before (ns.birth ∷ i.between) (nk.birth ∷ [])
 
         can_two : CanGoOn setting (ns.before ++ (ns.birth ∷ (i.between ++ nk.birth ∷ []))) start
-        can_two = subst (λ ms. CanGoOn setting ms start) apart_so (can_before setting (nk.before ++ nk.birth ∷ []) nk.later start (subst (λ ms. CanGoOn setting ms start) (sym (append_assoc nk.before (nk.birth ∷ []) nk.later)) can_all))
+        can_two = subst (λ ms. CanGoOn setting ms start) apart_so (can_before setting (nk.before ++ nk.birth ∷ []) nk.later start
+            (subst (λ ms. CanGoOn setting ms start) (sym (append_assoc nk.before (nk.birth ∷ []) nk.later)) can_all))
 
         can_s : CanGoOn setting (ns.birth ∷ (i.between ++ nk.birth ∷ [])) first
         can_s = can_behind setting ns.before (ns.birth ∷ (i.between ++ nk.birth ∷ [])) start can_two
@@ -308,7 +367,8 @@ module _ {B : Type 0} (setting : Setting B) (server : LineServer setting.next) (
         was_first = gone_lawful setting ns.before start can_ns was
 
         quiet_two : Quiet setting server s (i.between ++ nk.birth ∷ []) one
-        quiet_two = (quiet_behind setting server s ns.before (ns.birth ∷ (i.between ++ nk.birth ∷ [])) start (subst (λ ms. Quiet setting server s ms start) apart_so quiet)).1
+        quiet_two = (quiet_behind setting server s ns.before (ns.birth ∷ (i.between ++ nk.birth ∷ [])) start
+            (subst (λ ms. Quiet setting server s ms start) apart_so quiet)).1
 
         low : first.live.pod.state.births ≤ s
         low = omega (arith, (born_at s in_s ns).number)
@@ -320,15 +380,22 @@ module _ {B : Type 0} (setting : Setting B) (server : LineServer setting.next) (
         begins_s = begins_at s in_s ns (server.serving (session_opening event place)) body_s
 
         untold : (b : ℕ) → one.live.pod.state.births ≤ b → eqb null_id b ≡ false → texts_delivered b (steps_of one.steps) ≡ []
-        untold = move_untold setting server s k s_k first ns.birth was_first (moves_untold setting server s k s_k ns.before start was can_ns (λ b low away. refl))
+        untold = move_untold setting server s k s_k first ns.birth was_first
+            (moves_untold setting server s k s_k ns.before start was can_ns (λ b low away. refl))
 
         silent : (b : ℕ) → replies_accepted s b (steps_of one.steps) ≡ []
-        silent = move_silent setting server s k s_k first ns.birth was_first low (moves_silent setting server s k s_k ns.before start was can_ns low (λ a. refl))
+        silent = move_silent setting server s k s_k first ns.birth was_first low
+            (moves_silent setting server s k s_k ns.before start was can_ns low (λ a. refl))
 
         lone_one : Lone setting server s k s_k one
-        lone_one = Starting (alive_seen one.live.pod.state s block.Not (ap (λ (v : Sight). v.waits) begins_s.thread)) (session_opening event place) zero_answer store_opening zero_answer begins_s.row refl
-            (λ a low away. subst (λ xs. TellsAt s s a one.live.pod.state (session_opening event place) zero_answer store_opening zero_answer xs (replies_accepted s a (steps_of one.steps))) (sym (untold a low away))
-            (subst (λ xs. TellsAt s s a one.live.pod.state (session_opening event place) zero_answer store_opening zero_answer [] xs) (sym (silent a)) (alone_at s event place a one.live.pod.state was_one begins_s.thread low)))
+        lone_one = Starting (alive_seen one.live.pod.state s block.Not (ap (λ (v : Sight). v.waits) begins_s.thread))
+            (session_opening event place) zero_answer store_opening zero_answer begins_s.row refl
+            (λ a low away. subst
+            (λ xs. TellsAt s s a one.live.pod.state (session_opening event place) zero_answer store_opening zero_answer xs
+            (replies_accepted s a (steps_of one.steps)))
+            (sym (untold a low away))
+            (subst (λ xs. TellsAt s s a one.live.pod.state (session_opening event place) zero_answer store_opening zero_answer [] xs)
+            (sym (silent a)) (alone_at s event place a one.live.pod.state was_one begins_s.thread low)))
             refl silent
 
         two_is : after_moves setting (i.between ++ nk.birth ∷ []) one ≡ two
@@ -341,25 +408,32 @@ module _ {B : Type 0} (setting : Setting B) (server : LineServer setting.next) (
         ends = subst (λ (x : Session B). Serves s k x) whole serves
 
         short : TextsAreShort end
-        short = subst (λ (x : Session B). TextsAreShort x) whole (moves_short setting moves start was can (record { below = refl; short = λ a. refl }) serves.few lines).short
+        short = subst (λ (x : Session B). TextsAreShort x) whole
+            (moves_short setting moves start was can (record { below = refl; short = λ a. refl }) serves.few lines).short
 
         lone_two : Lone setting server s k s_k two
-        lone_two = subst (Lone setting server s k s_k) two_is (lone_moves setting server s k s_k (i.between ++ nk.birth ∷ []) one was_one can_s.1 quiet_two lone_one
-            (λ a. subst (λ (x : Session B). list_all is_short (texts_delivered a (steps_of x.steps)) ≡ true) (sym two_is) (short_before setting server s k s_k a two.steps end.steps (gone_grows setting nk.later two) (short a)))
+        lone_two = subst (Lone setting server s k s_k) two_is
+            (lone_moves setting server s k s_k (i.between ++ nk.birth ∷ []) one was_one can_s.1 quiet_two lone_one
+            (λ a. subst (λ (x : Session B). list_all is_short (texts_delivered a (steps_of x.steps)) ≡ true) (sym two_is)
+            (short_before setting server s k s_k a two.steps end.steps (gone_grows setting nk.later two) (short a)))
             (subst (λ (x : Session B). x.live.pod.state.births < null_id) (sym two_is) (omega (arith, ends.few, (gone_fades setting k nk.later two).births))))
 
         begins_k : Begins k (server.storing store_opening) two.live
         begins_k = begins_at k in_k nk (server.storing store_opening) body_k
 
         stood : Stood setting server s k s_k two
-        stood = phase_met s k two.live.pod.state was_two begins_k.thread (S_of setting server s k s_k two.live.rows) (Unpolled setting server s k s_k) (K_of setting server s k s_k two.live.rows) (λ b z is. is) begins_k.row
+        stood = phase_met s k two.live.pod.state was_two begins_k.thread (S_of setting server s k s_k two.live.rows)
+            (Unpolled setting server s k s_k) (K_of setting server s k s_k two.live.rows) (λ b z is. is) begins_k.row
             (λ b. texts_delivered b (steps_of two.steps)) (λ b. replies_accepted s b (steps_of two.steps)) lone_two
 
         early_answers : Answered
         early_answers =
             subst (λ (x : Session B). IsAnsweredInTurn s a (steps_of x.steps)) (sym whole)
-            (phase_first s k end.live.pod.state (S_of setting server s k s_k end.live.rows) (K_of setting server s k s_k end.live.rows) (λ b. texts_delivered b (steps_of end.steps)) (λ b. replies_accepted s b (steps_of end.steps))
-            (gone_stood setting server s k s_k nk.later two was_two can_end.1 stood (alive_seen two.live.pod.state k block.Not (ap (λ (v : Sight). v.waits) begins_k.thread)) ends.lives ends.sends short ends.few) a)
+            (phase_first s k end.live.pod.state (S_of setting server s k s_k end.live.rows) (K_of setting server s k s_k end.live.rows)
+            (λ b. texts_delivered b (steps_of end.steps)) (λ b. replies_accepted s b (steps_of end.steps))
+            (gone_stood setting server s k s_k nk.later two was_two can_end.1 stood
+            (alive_seen two.live.pod.state k block.Not (ap (λ (v : Sight). v.waits) begins_k.thread)) ends.lives ends.sends short ends.few)
+            a)
 
       session_first : s < k → Quiet setting server s (nk.before ++ nk.birth ∷ []) (opening_session setting) → Answered
       session_first below quiet = by_split (split_two ns.before ns.birth ns.later nk.before nk.birth nk.later (sym ns.is ∙ nk.is))
@@ -379,8 +453,10 @@ module _ {B : Type 0} (setting : Setting B) (server : LineServer setting.next) (
 module _ {B : Type 0} (setting : Setting B) (server : LineServer setting.next) (IsEarly : ℕ → ℕ → Session B → Type 0) where
   -- an early session sends nothing till the birth of its store
   abbrev EarlyIsQuiet : Type 0
-  EarlyIsQuiet = (moves : List (Option Took)) → CanGoOn setting moves (opening_session setting) → (s k in_k : ℕ) → eqb s k ≡ false → (nk : Named setting k in_k moves (opening_session setting)) → (after_moves setting nk.before (opening_session setting)).live.pod.state.births ≡ k
-      → Serves s k (after_moves setting moves (opening_session setting)) → IsEarly s k (after_moves setting moves (opening_session setting)) → Quiet setting server s (nk.before ++ nk.birth ∷ []) (opening_session setting)
+  EarlyIsQuiet = (moves : List (Option Took)) → CanGoOn setting moves (opening_session setting) → (s k in_k : ℕ) → eqb s k ≡ false
+      → (nk : Named setting k in_k moves (opening_session setting)) → (after_moves setting nk.before (opening_session setting)).live.pod.state.births ≡ k
+      → Serves s k (after_moves setting moves (opening_session setting)) → IsEarly s k (after_moves setting moves (opening_session setting))
+      → Quiet setting server s (nk.before ++ nk.birth ∷ []) (opening_session setting)
 
   in_every_by : (1 ≤ setting.params.maxpri → setting.params.maxpri ≤ 255 → EarlyIsQuiet) → IsAnsweredAlways setting server.serving server.storing IsEarly
   in_every_by quiets least most takes n defined s k in_s in_k event place apart early begins_s body_s begins_k body_k serves lines a =
@@ -390,7 +466,8 @@ module _ {B : Type 0} (setting : Setting B) (server : LineServer setting.next) (
       r = sessions_are_reached B setting takes n defined
 
       Goal : Session B → Type 0
-      Goal x = (s < k → IsEarly s k x) → begins_in s x.steps ≡ Some in_s → begins_in k x.steps ≡ Some in_k → Serves s k x → list_all (λ (m : Made). line_is_short m.take) x.steps ≡ true → IsAnsweredInTurn s a (steps_of x.steps)
+      Goal x = (s < k → IsEarly s k x) → begins_in s x.steps ≡ Some in_s → begins_in k x.steps ≡ Some in_k → Serves s k x
+          → list_all (λ (m : Made). line_is_short m.take) x.steps ≡ true → IsAnsweredInTurn s a (steps_of x.steps)
 
       core : Goal (after_moves setting r.moves (opening_session setting))
       core early begins_s begins_k serves lines =
@@ -398,13 +475,18 @@ module _ {B : Type 0} (setting : Setting B) (server : LineServer setting.next) (
           let nk = named_by setting k in_k r.moves (opening_session setting) (ap (begins_in k) (sym steps) ∙ begins_k) in
           both_answers setting server least most r.moves r.can s k in_s in_k event place
           (named_by setting s in_s r.moves (opening_session setting) (ap (begins_in s) (sym steps) ∙ begins_s)) nk
-          body_s body_k serves (sym (lines_of setting server least most r.moves (opening_session setting)) ∙ ap (list_all (λ (m : Made). line_is_short m.take)) (sym steps) ∙ lines) a apart
+          body_s body_k serves
+          (sym (lines_of setting server least most r.moves (opening_session setting))
+          ∙ ap (list_all (λ (m : Made). line_is_short m.take)) (sym steps) ∙ lines)
+          a apart
           (λ less. quiets least most r.moves r.can s k in_k apart nk (born_at setting server least most r.moves r.can k in_k nk).number serves (early less))
 
 -- who is told to send nothing till then
 unsent_is_quiet : {B : Type 0} (setting : Setting B) (server : LineServer setting.next) → EarlyIsQuiet setting server IsUnsentTill
-unsent_is_quiet setting server moves can s k in_k apart nk born serves unsent = quiet_till setting server s k nk.before nk.birth nk.later (opening_session setting) nk.unnamed
-    (ap (λ ms. is_unsent_till k s (made_in setting ms (opening_session setting))) (sym nk.is) ∙ ap (is_unsent_till k s) (sym (steps_are setting moves (opening_session setting))) ∙ unsent)
+unsent_is_quiet setting server moves can s k in_k apart nk born serves unsent =
+    quiet_till setting server s k nk.before nk.birth nk.later (opening_session setting) nk.unnamed
+    (ap (λ ms. is_unsent_till k s (made_in setting ms (opening_session setting))) (sym nk.is)
+    ∙ ap (is_unsent_till k s) (sym (steps_are setting moves (opening_session setting))) ∙ unsent)
 
 pub in_every_session : (B : Type 0) → InEverySession B
 in_every_session B setting server = in_every_by setting server IsUnsentTill (λ least most. unsent_is_quiet setting server)
@@ -412,15 +494,18 @@ in_every_session B setting server = in_every_by setting server IsUnsentTill (λ 
 -- ---- scripts
 
 -- a session that sends to its store alone, by names that it knows, sends nothing before that is born
-module _ (setting : Setting ThreadBody) (scripts : setting.next ≡ body_next) (server : LineServer setting.next) (s k : ℕ) (s_k : eqb s k ≡ false) (few : k < null_id) where
-  quiet_at : (session : Session ThreadBody) → Tells session.live → session.live.pod.state.births ≤ k → all_sends_to s k (steps_of (after_move setting session None).steps) ≡ true → IsQuiet setting server s session.live
+module _ (setting : Setting ThreadBody) (scripts : setting.next ≡ body_next) (server : LineServer setting.next) (s k : ℕ)
+    (s_k : eqb s k ≡ false) (few : k < null_id) where
+  quiet_at : (session : Session ThreadBody) → Tells session.live → session.live.pod.state.births ≤ k
+      → all_sends_to s k (steps_of (after_move setting session None).steps) ≡ true → IsQuiet setting server s session.live
   quiet_at session h low sends turn free b z row = by_sent (sent_of c)
     where
       c : Call
       c = (session_next b (names_for_poll s session.live.names) z).0
 
       only : names_only k c ≡ true
-      only = sends_named s k session.live.pod turn c free (ap (list_all (sends_only s k)) (sym (own_effects setting server s session.live turn b z row)) ∙ sends_last s k session.steps (record { take = None; effects = (move setting.next setting.bodies session.live).effects }) sends)
+      only = sends_named s k session.live.pod turn c free (ap (list_all (sends_only s k)) (sym (own_effects setting server s session.live turn b z row))
+          ∙ sends_last s k session.steps (record { take = None; effects = (move setting.next setting.bodies session.live).effects }) sends)
 
       unknown : (to : ℕ) → to ≡ k → (to ≡ null_id) ⊎ (to < session.live.pod.state.births) → ⊥
       unknown to is (inl null) = omega (arith, is, null, few)
@@ -428,19 +513,25 @@ module _ (setting : Setting ThreadBody) (scripts : setting.next ≡ body_next) (
 
       by_sent : Sent c → sends_nothing c ≡ true
       by_sent (IsNone none) = none
-      by_sent (IsSend to room text is) = absurd (unknown to (eqb-true to k (subst (λ c. names_only k c ≡ true) is only)) (sends_next session.live.pod.state.births b (names_for_poll s session.live.names) h.names z to room text is))
+      by_sent (IsSend to room text is) = absurd (unknown to (eqb-true to k (subst (λ c. names_only k c ≡ true) is only))
+          (sends_next session.live.pod.state.births b (names_for_poll s session.live.names) h.names z to room text is))
 
-  quiet_known : (moves : List (Option Took)) (birth : Option Took) (session : Session ThreadBody) → Lawful session.live.pod.state None → CanGoOn setting (moves ++ birth ∷ []) session → Tells session.live → (after_moves setting moves session).live.pod.state.births ≤ k
+  quiet_known : (moves : List (Option Took)) (birth : Option Took) (session : Session ThreadBody) → Lawful session.live.pod.state None
+      → CanGoOn setting (moves ++ birth ∷ []) session → Tells session.live → (after_moves setting moves session).live.pod.state.births ≤ k
       → all_sends_to s k (steps_of (after_moves setting (moves ++ birth ∷ []) session).steps) ≡ true → Quiet setting server s (moves ++ birth ∷ []) session
-  quiet_known [] birth session was can h low sends = (λ is. quiet_at session h low (subst (λ m. all_sends_to s k (steps_of (after_move setting session m).steps) ≡ true) is sends), tt)
+  quiet_known [] birth session was can h low sends =
+      (λ is. quiet_at session h low (subst (λ m. all_sends_to s k (steps_of (after_move setting session m).steps) ≡ true) is sends), tt)
   quiet_known (m ∷ ms) birth session was can h low sends =
       let next = after_move setting session m in
-      let sends_next = sends_before setting server s k s_k next.steps (after_moves setting (ms ++ birth ∷ []) next).steps (gone_grows setting (ms ++ birth ∷ []) next) sends in (
-        λ is. quiet_at session h (omega (arith, low, (gone_fades setting k (m ∷ ms) session).births)) (subst (λ m. all_sends_to s k (steps_of (after_move setting session m).steps) ≡ true) is sends_next),
+      let sends_next = sends_before setting server s k s_k next.steps (after_moves setting (ms ++ birth ∷ []) next).steps
+      (gone_grows setting (ms ++ birth ∷ []) next) sends in (
+        λ is. quiet_at session h (omega (arith, low, (gone_fades setting k (m ∷ ms) session).births))
+            (subst (λ m. all_sends_to s k (steps_of (after_move setting session m).steps) ≡ true) is sends_next),
         quiet_known ms birth next (moved_lawful setting session m can.0 was) can.1 (tells_moved setting scripts session m was h) low sends,
       )
 
-module _ (bodies : List ThreadBody) (params : PodParams) (names : Names) (server : LineServer body_next) (least : 1 ≤ params.maxpri) (most : params.maxpri ≤ 255) where
+module _ (bodies : List ThreadBody) (params : PodParams) (names : Names) (server : LineServer body_next) (least : 1 ≤ params.maxpri)
+    (most : params.maxpri ≤ 255) where
   abbrev script : Setting ThreadBody
   script = script_setting bodies params names
 
@@ -449,9 +540,16 @@ module _ (bodies : List ThreadBody) (params : PodParams) (names : Names) (server
 
   known_is_quiet : EarlyIsQuiet script server (λ s k end. KnowsItsNames (opening_session (script_setting bodies params names)))
   known_is_quiet moves can s k in_k apart nk born serves known =
-      quiet_known script refl server s k apart (omega (arith, born, serves.few, (gone_fades script k (nk.birth ∷ nk.later) (after_moves script nk.before opened)).births, ap (λ (x : Session ThreadBody). x.live.pod.state.births) whole))
+      quiet_known script refl server s k apart (omega (
+        arith,
+        born,
+        serves.few,
+        (gone_fades script k (nk.birth ∷ nk.later) (after_moves script nk.before opened)).births,
+        ap (λ (x : Session ThreadBody). x.live.pod.state.births) whole,
+      ))
       nk.before nk.birth opened (Lawful-opening params least most) can_two (tells_opening bodies params names known) (omega (arith, born))
-      (sends_before script server s k apart (after_moves script (nk.before ++ nk.birth ∷ []) opened).steps (after_moves script moves opened).steps grows serves.sends)
+      (sends_before script server s k apart (after_moves script (nk.before ++ nk.birth ∷ []) opened).steps
+      (after_moves script moves opened).steps grows serves.sends)
     where
       whole : after_moves script moves opened ≡ after_moves script (nk.birth ∷ nk.later) (after_moves script nk.before opened)
       whole = ap (λ ms. after_moves script ms opened) nk.is ∙ gone_append script nk.before (nk.birth ∷ nk.later) opened
@@ -463,7 +561,8 @@ module _ (bodies : List ThreadBody) (params : PodParams) (names : Names) (server
       can_two = can_before script (nk.before ++ nk.birth ∷ []) nk.later opened (subst (λ ms. CanGoOn script ms opened) moves_are can)
 
       grows : Grows script (after_moves script (nk.before ++ nk.birth ∷ []) opened).steps (after_moves script moves opened).steps
-      grows = subst (λ (x : Session ThreadBody). Grows script (after_moves script (nk.before ++ nk.birth ∷ []) opened).steps x.steps) (sym (ap (λ ms. after_moves script ms opened) moves_are ∙ gone_append script (nk.before ++ nk.birth ∷ []) nk.later opened))
+      grows = subst (λ (x : Session ThreadBody). Grows script (after_moves script (nk.before ++ nk.birth ∷ []) opened).steps x.steps)
+          (sym (ap (λ ms. after_moves script ms opened) moves_are ∙ gone_append script (nk.before ++ nk.birth ∷ []) nk.later opened))
           (gone_grows script nk.later (after_moves script (nk.before ++ nk.birth ∷ []) opened))
 
   by_premise : EarlyIsQuiet script server (λ s k end. KnowsItsNames (opening_session (script_setting bodies params names)) ⊎ IsUnsentTill s k end)
@@ -472,8 +571,11 @@ module _ (bodies : List ThreadBody) (params : PodParams) (names : Names) (server
 
 pub in_every_script : InEveryScript
 unfolding line_server
-in_every_script bodies params names = in_every_by (script_setting bodies params names) line_server (λ s k end. KnowsItsNames (opening_session (script_setting bodies params names)) ⊎ IsUnsentTill s k end) (λ least most. by_premise bodies params names line_server least most)
+in_every_script bodies params names = in_every_by (script_setting bodies params names) line_server
+    (λ s k end. KnowsItsNames (opening_session (script_setting bodies params names)) ⊎ IsUnsentTill s k end)
+    (λ least most. by_premise bodies params names line_server least most)
 
 pub from_null_names : FromNullNames
 from_null_names bodies params threads monitors conditions least most takes n defined s k in_s in_k event place apart early =
-    in_every_script bodies params (null_names threads monitors conditions) least most takes n defined s k in_s in_k event place apart (λ less. inl (null_names_are_known bodies params threads monitors conditions))
+    in_every_script bodies params (null_names threads monitors conditions) least most takes n defined s k in_s in_k event place apart
+    (λ less. inl (null_names_are_known bodies params threads monitors conditions))

@@ -15,7 +15,8 @@ use Rattle.pod_events.specs.Events.{EventState, take_event}
 use Rattle.pod_events.specs.Fates.{births_by}
 use Rattle.pod_events.specs.Step.{event_step}
 use Rattle.pod_laws.proofs.Elements.{differ}
-use Rattle.std.proofs.Common.{Bool, List, None, Some, [], ap, arith, cond, eqb, false, filter, inl, inr, not, refl, sym, true, ℕ, ◌&&◌, ◌<◌, ◌∙◌, ◌∷◌, ◌≡◌, ◌≤◌, ◌||◌}
+use Rattle.std.proofs.Common.{Bool, List, None, Some, [], ap, arith, cond, eqb, false, filter, inl}
+use Rattle.std.proofs.Common.{inr, not, refl, sym, true, ℕ, ◌&&◌, ◌<◌, ◌∙◌, ◌∷◌, ◌≡◌, ◌≤◌, ◌||◌}
 use Rattle.std.proofs.lemmas.Bool.{and_parts, eq-eqb, eqb-true, ltb-true, ne_eqb, or_parts}
 use Rattle.std.specs.List.{find, list_all, list_any}
 use Rattle.std.specs.Prelude.{is_none, is_some, nat_lt}
@@ -41,7 +42,8 @@ no_number births a (row ∷ rows) below high =
     let parts = and_parts (nat_lt row.number births) (all_below births (numbers rows)) below in
     rw (not_below row.number births a parts.0 high) (no_number births a rows parts.1 high)
 
-no_owner : (s births a : ℕ) (rows : List AgentRow) → all_below births (agent_numbers rows) ≡ true → births ≤ a → list_any (is_such (is_of_another s a)) rows ≡ false
+no_owner : (s births a : ℕ) (rows : List AgentRow) → all_below births (agent_numbers rows) ≡ true → births ≤ a
+    → list_any (is_such (is_of_another s a)) rows ≡ false
 no_owner s births a [] below high = refl
 no_owner s births a (row ∷ rows) below high =
     let parts = and_parts (nat_lt row.number births) (all_below births (agent_numbers rows)) below in
@@ -60,7 +62,8 @@ pub owned_thread : (s a : ℕ) (st : State) → IsOwned s a st → is_thread st 
 owned_thread s a st owned = absent_thread a st.threads owned.no_thread
 
 -- an agent that is there has one owner
-one_owner : (s t a : ℕ) (rows : List AgentRow) → is_some (find (is_agent_row a) rows) ≡ true → list_any (is_such (is_of_another s a)) rows ≡ false → list_any (is_such (is_of_another t a)) rows ≡ false → t ≡ s
+one_owner : (s t a : ℕ) (rows : List AgentRow) → is_some (find (is_agent_row a) rows) ≡ true
+    → list_any (is_such (is_of_another s a)) rows ≡ false → list_any (is_such (is_of_another t a)) rows ≡ false → t ≡ s
 one_owner s t a [] there one two = differ (sym there)
 one_owner s t a (row ∷ rows) there one two =
     let first = or_parts (is_such (is_of_another s a) row) (list_any (is_such (is_of_another s a)) rows) one in
@@ -75,13 +78,15 @@ one_owner s t a (row ∷ rows) there one two =
         by_owner true false same other = absurd (cc)
         by_owner false d same other = absurd (cc)
 
-    by_test : (b : Bool) → eqb row.number a ≡ b → is_some (cond b (Some row) (find (is_agent_row a) rows)) ≡ true → is_such (is_of_another s a) row ≡ false → is_such (is_of_another t a) row ≡ false
+    by_test : (b : Bool) → eqb row.number a ≡ b → is_some (cond b (Some row) (find (is_agent_row a) rows)) ≡ true
+        → is_such (is_of_another s a) row ≡ false → is_such (is_of_another t a) row ≡ false
         → (is_some (find (is_agent_row a) rows) ≡ true → t ≡ s) → t ≡ s
     by_test true same here first second later = sym (own t same second) ∙ own s same first
     by_test false other there first second later = later there
 
 -- who is there under an agent's number is the agent, and has its owner
-pub same_owner : (s t a : ℕ) (st : State) → is_id st a ≡ true → is_thread st a ≡ false → NoSuchAgent (is_of_another s a) st → NoSuchAgent (is_of_another t a) st → t ≡ s
+pub same_owner : (s t a : ℕ) (st : State) → is_id st a ≡ true → is_thread st a ≡ false → NoSuchAgent (is_of_another s a) st
+    → NoSuchAgent (is_of_another t a) st → t ≡ s
 same_owner s t a st there off one two = one_owner s t a st.agents (by_kind (is_thread st a) off there) one two
   where
     by_kind : (b : Bool) → b ≡ false → (b || is_agent st a) ≡ true → is_agent st a ≡ true
@@ -91,7 +96,8 @@ same_owner s t a st there off one two = one_owner s t a st.agents (by_kind (is_t
 -- ---- a letter that was received
 
 -- the letter is of v and for t: so if v is an agent, t is its owner
-letters_owner : (t v : ℕ) (letter : Letter) (rows : List AgentRow) → eqb letter.to t ≡ true → eqb letter.from v ≡ true → list_all (is_owners letter) rows ≡ true → list_any (is_such (is_of_another t v)) rows ≡ false
+letters_owner : (t v : ℕ) (letter : Letter) (rows : List AgentRow) → eqb letter.to t ≡ true → eqb letter.from v ≡ true
+    → list_all (is_owners letter) rows ≡ true → list_any (is_such (is_of_another t v)) rows ≡ false
 letters_owner t v letter [] to from well = refl
 letters_owner t v letter (row ∷ rows) to from well =
     let parts = and_parts (is_owners letter row) (list_all (is_owners letter) rows) well in
@@ -107,23 +113,31 @@ letters_owner t v letter (row ∷ rows) to from well =
     by_tests true false h = absurd (cc)
     by_tests false d h = refl
 
-mail_owner : (t v : ℕ) (st : State) (letters : List Letter) → list_all (goes_well st) letters ≡ true → is_none (find (λ (letter : Letter). letter.received && is_letter_of v letter) (filter (is_to t) letters)) ≡ false → NoSuchAgent (is_of_another t v) st
+mail_owner : (t v : ℕ) (st : State) (letters : List Letter) → list_all (goes_well st) letters ≡ true
+    → is_none (find (λ (letter : Letter). letter.received && is_letter_of v letter) (filter (is_to t) letters)) ≡ false → NoSuchAgent (is_of_another t v) st
 mail_owner t v st [] well found = absurd (cc)
-mail_owner t v st (letter ∷ letters) well found = by_to (is_to t letter) refl (λ rest. mail_owner t v st letters (and_parts (goes_well st letter) (list_all (goes_well st) letters) well).1 rest) found
+mail_owner t v st (letter ∷ letters) well found =
+    by_to (is_to t letter) refl (λ rest. mail_owner t v st letters (and_parts (goes_well st letter) (list_all (goes_well st) letters) well).1 rest) found
   where
     owners : list_all (is_owners letter) st.agents ≡ true
     owners = (and_parts (not (eqb letter.from letter.to)) (list_all (is_owners letter) st.agents)
-        (and_parts (is_thread st letter.to) (not (eqb letter.from letter.to) && list_all (is_owners letter) st.agents) (and_parts (goes_well st letter) (list_all (goes_well st) letters) well).0).1).1
+        (and_parts (is_thread st letter.to) (not (eqb letter.from letter.to) && list_all (is_owners letter) st.agents)
+        (and_parts (goes_well st letter) (list_all (goes_well st) letters) well).0).1).1
 
     by_test : is_to t letter ≡ true → (b : Bool) → (letter.received && is_letter_of v letter) ≡ b
-        → (is_none (find (λ (letter : Letter). letter.received && is_letter_of v letter) (filter (is_to t) letters)) ≡ false → NoSuchAgent (is_of_another t v) st)
-        → is_none (cond b (Some letter) (find (λ (letter : Letter). letter.received && is_letter_of v letter) (filter (is_to t) letters))) ≡ false → NoSuchAgent (is_of_another t v) st
+        → (is_none (find (λ (letter : Letter). letter.received && is_letter_of v letter) (filter (is_to t) letters)) ≡ false
+        → NoSuchAgent (is_of_another t v) st)
+        → is_none (cond b (Some letter) (find (λ (letter : Letter). letter.received && is_letter_of v letter) (filter (is_to t) letters))) ≡ false
+        → NoSuchAgent (is_of_another t v) st
     by_test to true is later here = letters_owner t v letter st.agents to (and_parts letter.received (is_letter_of v letter) is).1 owners
     by_test to false is later rest = later rest
 
     by_to : (b : Bool) → is_to t letter ≡ b
-        → (is_none (find (λ (letter : Letter). letter.received && is_letter_of v letter) (filter (is_to t) letters)) ≡ false → NoSuchAgent (is_of_another t v) st)
-        → is_none (find (λ (letter : Letter). letter.received && is_letter_of v letter) (cond b (letter ∷ filter (is_to t) letters) (filter (is_to t) letters))) ≡ false → NoSuchAgent (is_of_another t v) st
+        → (is_none (find (λ (letter : Letter). letter.received && is_letter_of v letter) (filter (is_to t) letters)) ≡ false
+        → NoSuchAgent (is_of_another t v) st)
+        → is_none (find (λ (letter : Letter). letter.received && is_letter_of v letter) (cond b (letter ∷ filter (is_to t) letters) (filter (is_to t) letters)))
+        ≡ false
+        → NoSuchAgent (is_of_another t v) st
     by_to true to later here = by_test to (letter.received && is_letter_of v letter) refl later here
     by_to false away later rest = later rest
 
@@ -134,10 +148,12 @@ receivers_own st was t v found = mail_owner t v st st.letters was.nine.letters f
 -- ---- from the birth on
 
 -- by a call of s that bears no thread, the next number is owned by s, if it is given
-pub owned_at_birth : (s t a : ℕ) (es : EventState) → Lawful es.state None → (c : Call) → choice es.state ≡ Some t → births_by c ≡ 0 → t ≡ s → es.state.births ≤ a → a < (event_step es c).after.state.births → IsOwned s a (event_step es c).after.state
+pub owned_at_birth : (s t a : ℕ) (es : EventState) → Lawful es.state None → (c : Call) → choice es.state ≡ Some t → births_by c ≡ 0 → t ≡ s
+    → es.state.births ≤ a → a < (event_step es c).after.state.births → IsOwned s a (event_step es c).after.state
 owned_at_birth s t a es was c turn none caller high given = record {
   no_thread = call_unborn (λ n. eqb n a) es c (inl none) (no_number es.state.births a es.state.threads was.nine.numbers.1.0 high);
-  no_other = call_unjoined (is_of_another s a) es c (λ u e chosen asks free. own u chosen) (no_owner s es.state.births a es.state.agents was.nine.numbers.1.1 high);
+  no_other = call_unjoined (is_of_another s a) es c (λ u e chosen asks free. own u chosen)
+      (no_owner s es.state.births a es.state.agents was.nine.numbers.1.1 high);
   born = given;
 }
   where

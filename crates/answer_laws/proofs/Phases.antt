@@ -13,8 +13,10 @@ use Rattle.answer_laws.specs.Events.{machine_of}
 use Rattle.answer_laws.specs.Lengths.{is_short}
 use Rattle.answer_laws.specs.Owns.{SessionComes, SessionComes.Dies, SessionComes.GoesOn, SessionComes.IsTurnedAway}
 use Rattle.answer_laws.specs.Sights.{IsLeft, Sight, answers_to, sight}
-use Rattle.answer_laws.specs.Stands.{AgentIs, AgentIs.Gone, AgentIs.Made, AgentIs.Unmade, Becomes, HeardAs, Leaves, Stands, block_of, is_placed, is_posted, is_reading, knows, last_heard, texts_in}
-use Rattle.answer_laws.specs.Talks.{AreFirst, Mail, Mail.Nothing, Mail.Received, Mail.Sent, Stand, Stand.AwaitsLetter, Stand.AwaitsReply, Stand.Hears, Stand.IsOver, Talk, after_events}
+use Rattle.answer_laws.specs.Stands.{AgentIs, AgentIs.Gone, AgentIs.Made, AgentIs.Unmade, Becomes, HeardAs, Leaves, Stands}
+use Rattle.answer_laws.specs.Stands.{block_of, is_placed, is_posted, is_reading, knows, last_heard, texts_in}
+use Rattle.answer_laws.specs.Talks.{AreFirst, Mail, Mail.Nothing, Mail.Received, Mail.Sent, Stand, Stand.AwaitsLetter}
+use Rattle.answer_laws.specs.Talks.{Stand.AwaitsReply, Stand.Hears, Stand.IsOver, Talk, after_events}
 use Rattle.line_server.specs.Sessions.{SessionBody, session_by, session_next, session_turn_after_agent}
 use Rattle.line_server.specs.Stores.{StoreBody}
 use Rattle.line_server.specs.Tables.{line_answers}
@@ -36,7 +38,8 @@ use Rattle.pod_laws.proofs.Chosen.{chosen}
 use Rattle.pod_laws.proofs.Elements.{differ}
 use Rattle.pod_laws.proofs.Fading.{Fades, gone_stays}
 use Rattle.pod_laws.specs.Forgotten.{IsGone}
-use Rattle.std.proofs.Common.{Bool, None, Some, [], ap, append-nil, arith, cond, eqb, false, inl, inr, not, refl, subst, sym, true, ℕ, ◌++◌, ◌<◌, ◌∙◌, ◌∷◌, ◌≡◌, ◌≤◌, ◌||◌, ◌⊎◌}
+use Rattle.std.proofs.Common.{Bool, None, Some, [], ap, append-nil, arith, cond, eqb, false, inl, inr, not}
+use Rattle.std.proofs.Common.{refl, subst, sym, true, ℕ, ◌++◌, ◌<◌, ◌∙◌, ◌∷◌, ◌≡◌, ◌≤◌, ◌||◌, ◌⊎◌}
 use Rattle.std.proofs.lemmas.Bool.{and_parts, eqb-true, leb-false, leb-true}
 use Rattle.std.proofs.lemmas.List.Folds.{list_all-append}
 use Rattle.std.specs.List.{list_all}
@@ -62,9 +65,11 @@ pub record TellsAt (s k a : ℕ) (st : State) (sb : SessionBody) (sz : Answer) (
   pub texts : talk.lines ++ waiting ≡ got
   pub told : talk.told ≡ said
 
-module _ (s k a : ℕ) (st : State) (sb : SessionBody) (sz : Answer) (kb : StoreBody) (kz : Answer) (got said : Texts) (t : TellsAt s k a st sb sz kb kz got said) where
+module _ (s k a : ℕ) (st : State) (sb : SessionBody) (sz : Answer) (kb : StoreBody) (kz : Answer) (got said : Texts)
+    (t : TellsAt s k a st sb sz kb kz got said) where
   tells_on : (session : SessionBody) (store : StoreBody) (new replies : Texts) (out : Outcome) → Becomes s k a t.talk session store t.waiting new replies out
-      → TellsAt s k a out.after session (last_heard sz (answers_to s out.effects)) store (last_heard kz (answers_to k out.effects)) (got ++ new) (said ++ replies)
+      → TellsAt s k a out.after session (last_heard sz (answers_to s out.effects)) store (last_heard kz (answers_to k out.effects))
+      (got ++ new) (said ++ replies)
   tells_on session store new replies out b = record {
     talk = after_events s a t.talk b.events;
     waiting = b.waits;
@@ -84,7 +89,8 @@ module _ (s k a : ℕ) (st : State) (sb : SessionBody) (sz : Answer) (kb : Store
       record { rest = first.rest; whole = ap (λ xs. xs ++ first.rest) (sym t.told) ∙ first.whole ∙ ap line_answers t.texts }
 
   pub lines_short : list_all is_short got ≡ true → list_all is_short t.talk.lines ≡ true
-  lines_short all = (and_parts (list_all is_short t.talk.lines) (list_all is_short t.waiting) (sym (list_all-append is_short t.talk.lines t.waiting) ∙ ap (list_all is_short) t.texts ∙ all)).0
+  lines_short all = (and_parts (list_all is_short t.talk.lines) (list_all is_short t.waiting)
+      (sym (list_all-append is_short t.talk.lines t.waiting) ∙ ap (list_all is_short) t.texts ∙ all)).0
 
   place_is : t.talk.session.place ≡ sb.place
   place_is = ap (λ (b : SessionBody). b.place) t.session
@@ -96,7 +102,8 @@ module _ (s k a : ℕ) (st : State) (sb : SessionBody) (sz : Answer) (kb : Store
       by_agent : AgentIs s a st t.talk t.waiting → t.talk.agent_lives ≡ true
       by_agent (Unmade below place lives none) = lives
       by_agent (Made row there owns lives known letters) = lives
-      by_agent (Gone off below lives known) = absurd (let bad : true ≡ false = sym known ∙ ap (λ p. knows a t.talk.session.agent p t.talk.client) (place_is ∙ start) in cc)
+      by_agent (Gone off below lives known) =
+          absurd (let bad : true ≡ false = sym known ∙ ap (λ p. knows a t.talk.session.agent p t.talk.client) (place_is ∙ start) in cc)
 
   -- whom a late session knows
   known : (sb.place ≡ at.Start → ⊥) → knows a sb.agent sb.place t.talk.client ≡ true
@@ -148,11 +155,14 @@ client_hears a IsOver Nothing posted free = absurd (cc)
 client_hears a IsOver (Sent text) posted free = absurd (cc)
 client_hears a IsOver (Received text) posted free = absurd (cc)
 
-pub session_hears : (s k a : ℕ) (st : State) → Lawful st None → (talk : Talk) (waiting : Texts) → Stands s k a st talk waiting → choice st ≡ Some s → IsHearing talk.client
-session_hears s k a st was talk waiting h turn = client_hears a talk.client talk.mail h.posted (chosen_waits st was s turn (block_of (Some a) talk.client) (ap (λ (v : Sight). v.waits) h.client))
+pub session_hears : (s k a : ℕ) (st : State) → Lawful st None → (talk : Talk) (waiting : Texts) → Stands s k a st talk waiting
+    → choice st ≡ Some s → IsHearing talk.client
+session_hears s k a st was talk waiting h turn =
+    client_hears a talk.client talk.mail h.posted (chosen_waits st was s turn (block_of (Some a) talk.client) (ap (λ (v : Sight). v.waits) h.client))
 
 -- and so does a store
-pub reader_hears : (st : State) → Lawful st None → (k : ℕ) → choice st ≡ Some k → (c : Stand) → (sight st k).waits ≡ Some (block_of None c) → is_reading c ≡ true → IsHearing c
+pub reader_hears : (st : State) → Lawful st None → (k : ℕ) → choice st ≡ Some k → (c : Stand) → (sight st k).waits ≡ Some (block_of None c)
+    → is_reading c ≡ true → IsHearing c
 reader_hears st was k turn (Hears x) seen reads = record { answer = x; is = refl }
 reader_hears st was k turn AwaitsLetter seen reads = absurd (let bad = chosen_waits st was k turn (block.Receiving None) seen in cc)
 reader_hears st was k turn AwaitsReply seen reads = absurd (cc)
@@ -173,15 +183,20 @@ resting = record { waits = Some block.Not; marks = mark.Frame ∷ []; letters = 
 -- each agent, and what the session has replied to it
 pub data Phase (s k : ℕ) (st : State) (S : SessionBody → Answer → Type 0) (K : StoreBody → Answer → Type 0) (got said : ℕ → Texts) : Type 0 where
   -- it has not been polled yet
-  Starting : is_thread st s ≡ true → (sb : SessionBody) (sz : Answer) (kb : StoreBody) (kz : Answer) → S sb sz → K kb kz → ((a : ℕ) → st.births ≤ a → eqb null_id a ≡ false → TellsAt s k a st sb sz kb kz (got a) (said a)) → sb.place ≡ at.Start → ((a : ℕ) → said a ≡ [])
+  Starting : is_thread st s ≡ true → (sb : SessionBody) (sz : Answer) (kb : StoreBody) (kz : Answer) → S sb sz → K kb kz
+      → ((a : ℕ) → st.births ≤ a → eqb null_id a ≡ false → TellsAt s k a st sb sz kb kz (got a) (said a)) → sb.place ≡ at.Start → ((a : ℕ) → said a ≡ [])
       → Phase s k st S K got said
   -- it talks, with this agent
-  Talking : (a : ℕ) (sb : SessionBody) (sz : Answer) (kb : StoreBody) (kz : Answer) → S sb sz → K kb kz → (t : TellsAt s k a st sb sz kb kz (got a) (said a)) → eqb null_id a ≡ false → (sb.place ≡ at.Start → ⊥) → (t.talk.agent_lives ≡ true) ⊎ (sb.place ≡ at.Agent)
+  Talking : (a : ℕ) (sb : SessionBody) (sz : Answer) (kb : StoreBody) (kz : Answer) → S sb sz → K kb kz
+      → (t : TellsAt s k a st sb sz kb kz (got a) (said a)) → eqb null_id a ≡ false → (sb.place ≡ at.Start → ⊥)
+      → (t.talk.agent_lives ≡ true) ⊎ (sb.place ≡ at.Agent)
       → ((b : ℕ) → eqb a b ≡ false → said b ≡ []) → Phase s k st S K got said
   -- it returns next
-  Ending : (sb : SessionBody) (sz : Answer) → S sb sz → ((names : Names) → (session_next sb names sz).0 ≡ call.Return) → sight st s ≡ resting → ((a : ℕ) → AreFirst (said a) (line_answers (got a))) → Phase s k st S K got said
+  Ending : (sb : SessionBody) (sz : Answer) → S sb sz → ((names : Names) → (session_next sb names sz).0 ≡ call.Return)
+      → sight st s ≡ resting → ((a : ℕ) → AreFirst (said a) (line_answers (got a))) → Phase s k st S K got said
   -- its agent is gone
-  Lost : is_thread st s ≡ true → (a : ℕ) (sb : SessionBody) (sz : Answer) → S sb sz → sb.agent ≡ a → is_late sb.place ≡ true → IsGone st a → ((b : ℕ) → AreFirst (said b) (line_answers (got b))) → Phase s k st S K got said
+  Lost : is_thread st s ≡ true → (a : ℕ) (sb : SessionBody) (sz : Answer) → S sb sz → sb.agent ≡ a → is_late sb.place ≡ true → IsGone st a
+      → ((b : ℕ) → AreFirst (said b) (line_answers (got b))) → Phase s k st S K got said
   -- it is dead
   Over : s < st.births → is_thread st s ≡ false → ((a : ℕ) → AreFirst (said a) (line_answers (got a))) → Phase s k st S K got said
 
@@ -209,7 +224,8 @@ born_below st was u lives = by_age (nat_le st.births u) refl
     by_age true e = differ (sym lives ∙ away (is_thread st u) (unborn_absent st was u (leb-true st.births u e)))
     by_age false e = leb-false st.births u e
 
-module _ (s k : ℕ) (st : State) (was : Lawful st None) (S S2 : SessionBody → Answer → Type 0) (K K2 : StoreBody → Answer → Type 0) (got said new : ℕ → Texts) (out : Outcome) (fades : (n : ℕ) → Fades n st out.after) where
+module _ (s k : ℕ) (st : State) (was : Lawful st None) (S S2 : SessionBody → Answer → Type 0) (K K2 : StoreBody → Answer → Type 0)
+    (got said new : ℕ → Texts) (out : Outcome) (fades : (n : ℕ) → Fades n st out.after) where
   abbrev got2 : ℕ → Texts
   got2 b = got b ++ new b
 
@@ -226,18 +242,23 @@ module _ (s k : ℕ) (st : State) (was : Lawful st None) (S S2 : SessionBody →
   still_dead below off firsts = Over (omega (arith, below, (fades s).births)) ((fades s).threads below off) firsts
 
   -- it goes on with this agent, or has lost it
-  settle : (a : ℕ) (sb : SessionBody) (sz : Answer) (kb : StoreBody) (kz : Answer) → S2 sb sz → K2 kb kz → TellsAt s k a out.after sb sz kb kz (got2 a) (said2 a) → eqb null_id a ≡ false → (sb.place ≡ at.Start → ⊥) → ((b : ℕ) → eqb a b ≡ false → said2 b ≡ []) → Phase2
+  settle : (a : ℕ) (sb : SessionBody) (sz : Answer) (kb : StoreBody) (kz : Answer) → S2 sb sz → K2 kb kz
+      → TellsAt s k a out.after sb sz kb kz (got2 a) (said2 a) → eqb null_id a ≡ false → (sb.place ≡ at.Start → ⊥)
+      → ((b : ℕ) → eqb a b ≡ false → said2 b ≡ []) → Phase2
   settle a sb sz kb kz row row_k t away started others = by_lives t.talk.agent_lives refl
     where
       firsts : (b : ℕ) → AreFirst (said2 b) (line_answers (got2 b))
       firsts b = by_test (eqb a b) refl
         where
           by_test : (d : Bool) → eqb a b ≡ d → AreFirst (said2 b) (line_answers (got2 b))
-          by_test true e = subst (λ n. AreFirst (said2 n) (line_answers (got2 n))) (eqb-true a b e) (tells_first s k a out.after sb sz kb kz (got2 a) (said2 a) t)
+          by_test true e = subst (λ n. AreFirst (said2 n) (line_answers (got2 n))) (eqb-true a b e)
+              (tells_first s k a out.after sb sz kb kz (got2 a) (said2 a) t)
           by_test false e = none_first (said2 b) (got2 b) (others b e)
 
       lost : t.talk.agent_lives ≡ false → is_late sb.place ≡ true → Phase2
-      lost ends late = Lost (alive_seen out.after s (block_of (Some a) t.talk.client) (ap (λ (v : Sight). v.waits) t.stands.client)) a sb sz row (knows_late a sb.agent sb.place t.talk.client late (known s k a out.after sb sz kb kz (got2 a) (said2 a) t started)) late (gone_now s k a out.after sb sz kb kz (got2 a) (said2 a) t started ends) firsts
+      lost ends late = Lost (alive_seen out.after s (block_of (Some a) t.talk.client) (ap (λ (v : Sight). v.waits) t.stands.client)) a sb sz
+          row (knows_late a sb.agent sb.place t.talk.client late (known s k a out.after sb sz kb kz (got2 a) (said2 a) t started)) late
+          (gone_now s k a out.after sb sz kb kz (got2 a) (said2 a) t started ends) firsts
 
       by_place : t.talk.agent_lives ≡ false → (p : SessionPlace) → sb.place ≡ p → Phase2
       by_place ends at.Start e = absurd (started e)
@@ -252,7 +273,8 @@ module _ (s k : ℕ) (st : State) (was : Lawful st None) (S S2 : SessionBody →
       by_lives true e = Talking a sb sz kb kz row row_k t away started (inl e) others
       by_lives false e = by_place e sb.place refl
 
-  all_first : (a : ℕ) (sb : SessionBody) (sz : Answer) (kb : StoreBody) (kz : Answer) → TellsAt s k a st sb sz kb kz (got a) (said a) → ((b : ℕ) → eqb a b ≡ false → said b ≡ []) → (b : ℕ) → AreFirst (said b) (line_answers (got b))
+  all_first : (a : ℕ) (sb : SessionBody) (sz : Answer) (kb : StoreBody) (kz : Answer) → TellsAt s k a st sb sz kb kz (got a) (said a)
+      → ((b : ℕ) → eqb a b ≡ false → said b ≡ []) → (b : ℕ) → AreFirst (said b) (line_answers (got b))
   all_first a sb sz kb kz t others b = by_test (eqb a b) refl
     where
       by_test : (d : Bool) → eqb a b ≡ d → AreFirst (said b) (line_answers (got b))
@@ -264,16 +286,25 @@ module _ (s k : ℕ) (st : State) (was : Lawful st None) (S S2 : SessionBody →
   module _ (silent : (b : ℕ) → replies_of_step s b out.effects ≡ []) (knext : StoreBody → Answer → StoreBody)
       (s_on : is_thread out.after s ≡ true → (b : SessionBody) (z : Answer) → S b z → S2 b (last_heard z (answers_to s out.effects)))
       (k_on : (b : StoreBody) (z : Answer) → K b z → K2 (knext b z) (last_heard z (answers_to k out.effects)))
-      (goes : (a : ℕ) (sb : SessionBody) (sz : Answer) (kb : StoreBody) (kz : Answer) → K kb kz → (t : TellsAt s k a st sb sz kb kz (got a) (said a)) → eqb null_id a ≡ false → (t.talk.agent_lives ≡ true) ⊎ (sb.place ≡ at.Agent) → (sb.place ≡ at.Start → out.after.births ≤ a) → is_thread out.after s ≡ true
+      (goes : (a : ℕ) (sb : SessionBody) (sz : Answer) (kb : StoreBody) (kz : Answer) → K kb kz
+      → (t : TellsAt s k a st sb sz kb kz (got a) (said a)) → eqb null_id a ≡ false
+      → (t.talk.agent_lives ≡ true) ⊎ (sb.place ≡ at.Agent) → (sb.place ≡ at.Start → out.after.births ≤ a) → is_thread out.after s ≡ true
       → Becomes s k a t.talk t.talk.session (knext kb kz) t.waiting (new a) [] out ⊎ Leaves s t.talk out)
       (left : sight st s ≡ resting → is_thread out.after s ≡ true → IsLeft s st out) where
     firsts_on : ((b : ℕ) → AreFirst (said b) (line_answers (got b))) → (b : ℕ) → AreFirst (said2 b) (line_answers (got2 b))
     firsts_on firsts b = still_first (said b) (got b) (new b) (replies_of_step s b out.effects) (silent b) (firsts b)
 
-    tells_so : (a : ℕ) (sb : SessionBody) (sz : Answer) (kb : StoreBody) (kz : Answer) → (t : TellsAt s k a st sb sz kb kz (got a) (said a)) → Becomes s k a t.talk t.talk.session (knext kb kz) t.waiting (new a) [] out
+    tells_so : (a : ℕ) (sb : SessionBody) (sz : Answer) (kb : StoreBody) (kz : Answer) → (t : TellsAt s k a st sb sz kb kz (got a) (said a))
+        → Becomes s k a t.talk t.talk.session (knext kb kz) t.waiting (new a) [] out
         → TellsAt s k a out.after sb (last_heard sz (answers_to s out.effects)) (knext kb kz) (last_heard kz (answers_to k out.effects)) (got2 a) (said2 a)
-    tells_so a sb sz kb kz t b = subst (λ xs. TellsAt s k a out.after sb (last_heard sz (answers_to s out.effects)) (knext kb kz) (last_heard kz (answers_to k out.effects)) (got2 a) (said a ++ xs)) (sym (silent a))
-        (subst (λ body. TellsAt s k a out.after body (last_heard sz (answers_to s out.effects)) (knext kb kz) (last_heard kz (answers_to k out.effects)) (got2 a) (said a ++ [])) t.session
+    tells_so a sb sz kb kz t b = subst
+        (λ xs.
+        TellsAt s k a out.after sb (last_heard sz (answers_to s out.effects)) (knext kb kz) (last_heard kz (answers_to k out.effects)) (got2 a) (said a ++ xs))
+        (sym (silent a))
+        (subst
+        (λ body. TellsAt s k a out.after body (last_heard sz (answers_to s out.effects)) (knext kb kz)
+        (last_heard kz (answers_to k out.effects)) (got2 a) (said a ++ []))
+        t.session
         (tells_on s k a st sb sz kb kz (got a) (said a) t t.talk.session (knext kb kz) (new a) [] out b))
 
     pub phase_other : Phase s k st S K got said → Phase2
@@ -281,7 +312,8 @@ module _ (s k : ℕ) (st : State) (was : Lawful st None) (S S2 : SessionBody →
     phase_other (Lost lives a sb sz row its late gone firsts) = by_lives (is_thread out.after s) refl
       where
         by_lives : (d : Bool) → is_thread out.after s ≡ d → Phase2
-        by_lives true e = Lost e a sb (last_heard sz (answers_to s out.effects)) (s_on e sb sz row) its late (gone_stays a st out.after (fades a) gone) (firsts_on firsts)
+        by_lives true e = Lost e a sb (last_heard sz (answers_to s out.effects)) (s_on e sb sz row) its late
+            (gone_stays a st out.after (fades a) gone) (firsts_on firsts)
         by_lives false e = dead_now lives e (firsts_on firsts)
     phase_other (Ending sb sz row returns seen firsts) = by_lives (is_thread out.after s) refl
       where
@@ -289,36 +321,47 @@ module _ (s k : ℕ) (st : State) (was : Lawful st None) (S S2 : SessionBody →
         by_lives false e = dead_now (alive_seen st s block.Not (ap (λ (v : Sight). v.waits) seen)) e (firsts_on firsts)
         by_lives true e =
             let l = left seen e in
-            Ending sb (last_heard sz (answers_to s out.effects)) (s_on e sb sz row) (λ names. ap (λ xs. (session_next sb names (last_heard sz xs)).0) l.quiet ∙ returns names) (l.same ∙ seen) (firsts_on firsts)
+            Ending sb (last_heard sz (answers_to s out.effects)) (s_on e sb sz row)
+            (λ names. ap (λ xs. (session_next sb names (last_heard sz xs)).0) l.quiet ∙ returns names) (l.same ∙ seen) (firsts_on firsts)
     phase_other (Starting lives sb sz kb kz row row_k tells place nothing) = by_lives (is_thread out.after s) refl
       where
-        one : (a : ℕ) → out.after.births ≤ a → eqb null_id a ≡ false → is_thread out.after s ≡ true → TellsAt s k a out.after sb (last_heard sz (answers_to s out.effects)) (knext kb kz) (last_heard kz (answers_to k out.effects)) (got2 a) (said2 a)
+        one : (a : ℕ) → out.after.births ≤ a → eqb null_id a ≡ false → is_thread out.after s ≡ true
+            → TellsAt s k a out.after sb (last_heard sz (answers_to s out.effects)) (knext kb kz) (last_heard kz (answers_to k out.effects)) (got2 a) (said2 a)
         one a low away e =
             let t = tells a (omega (arith, low, (fades s).births)) away in
             by_fate t (goes a sb sz kb kz row_k t away (inl (start_lives s k a st sb sz kb kz (got a) (said a) t place)) (λ start. low) e)
           where
-            by_fate : (t : TellsAt s k a st sb sz kb kz (got a) (said a)) → Becomes s k a t.talk t.talk.session (knext kb kz) t.waiting (new a) [] out ⊎ Leaves s t.talk out
-                → TellsAt s k a out.after sb (last_heard sz (answers_to s out.effects)) (knext kb kz) (last_heard kz (answers_to k out.effects)) (got2 a) (said2 a)
+            by_fate : (t : TellsAt s k a st sb sz kb kz (got a) (said a))
+                → Becomes s k a t.talk t.talk.session (knext kb kz) t.waiting (new a) [] out ⊎ Leaves s t.talk out
+                → TellsAt s k a out.after sb (last_heard sz (answers_to s out.effects)) (knext kb kz)
+                (last_heard kz (answers_to k out.effects)) (got2 a) (said2 a)
             by_fate t (inl b) = tells_so a sb sz kb kz t b
             by_fate t (inr l) =
                 let recv = placed_recv t.talk.session.place (subst (λ c. is_placed c t.talk.session.place ≡ true) l.place t.stands.placed) in
                 absurd (let bad : false ≡ true = ap is_late (sym place ∙ sym (place_is s k a st sb sz kb kz (got a) (said a) t) ∙ recv) in cc)
 
         by_lives : (d : Bool) → is_thread out.after s ≡ d → Phase2
-        by_lives true e = Starting e sb (last_heard sz (answers_to s out.effects)) (knext kb kz) (last_heard kz (answers_to k out.effects)) (s_on e sb sz row) (k_on kb kz row_k) (λ a low away. one a low away e) place (λ a. both_none (said a) (replies_of_step s a out.effects) (nothing a) (silent a))
+        by_lives true e = Starting e sb (last_heard sz (answers_to s out.effects)) (knext kb kz) (last_heard kz (answers_to k out.effects))
+            (s_on e sb sz row) (k_on kb kz row_k) (λ a low away. one a low away e) place
+            (λ a. both_none (said a) (replies_of_step s a out.effects) (nothing a) (silent a))
         by_lives false e = dead_now lives e (firsts_on (λ b. none_first (said b) (got b) (nothing b)))
     phase_other (Talking a sb sz kb kz row row_k t away started lives others) = by_lives (is_thread out.after s) refl
       where
         by_fate : is_thread out.after s ≡ true → Becomes s k a t.talk t.talk.session (knext kb kz) t.waiting (new a) [] out ⊎ Leaves s t.talk out → Phase2
-        by_fate e (inl b) = settle a sb (last_heard sz (answers_to s out.effects)) (knext kb kz) (last_heard kz (answers_to k out.effects)) (s_on e sb sz row) (k_on kb kz row_k) (tells_so a sb sz kb kz t b) away started
+        by_fate e (inl b) = settle a sb (last_heard sz (answers_to s out.effects)) (knext kb kz) (last_heard kz (answers_to k out.effects))
+            (s_on e sb sz row) (k_on kb kz row_k) (tells_so a sb sz kb kz t b) away started
             (λ b apart. both_none (said b) (replies_of_step s b out.effects) (others b apart) (silent b))
         by_fate e (inr l) =
-            let recv = sym (place_is s k a st sb sz kb kz (got a) (said a) t) ∙ placed_recv t.talk.session.place (subst (λ c. is_placed c t.talk.session.place ≡ true) l.place t.stands.placed) in
-            Ending sb (last_heard sz (answers_to s out.effects)) (s_on e sb sz row) (λ names. ap (λ xs. (session_next sb names (last_heard sz xs)).0) l.told ∙ returned sb names recv) l.client (firsts_on (all_first a sb sz kb kz t others))
+            let recv = sym (place_is s k a st sb sz kb kz (got a) (said a) t)
+            ∙ placed_recv t.talk.session.place (subst (λ c. is_placed c t.talk.session.place ≡ true) l.place t.stands.placed) in
+            Ending sb (last_heard sz (answers_to s out.effects)) (s_on e sb sz row)
+            (λ names. ap (λ xs. (session_next sb names (last_heard sz xs)).0) l.told ∙ returned sb names recv) l.client
+            (firsts_on (all_first a sb sz kb kz t others))
 
         by_lives : (d : Bool) → is_thread out.after s ≡ d → Phase2
         by_lives true e = by_fate e (goes a sb sz kb kz row_k t away lives (λ start. absurd (started start)) e)
-        by_lives false e = dead_now (alive_seen st s (block_of (Some a) t.talk.client) (ap (λ (v : Sight). v.waits) t.stands.client)) e (firsts_on (all_first a sb sz kb kz t others))
+        by_lives false e = dead_now (alive_seen st s (block_of (Some a) t.talk.client) (ap (λ (v : Sight). v.waits) t.stands.client)) e
+            (firsts_on (all_first a sb sz kb kz t others))
 
 -- ---- a call of the session
 
@@ -383,7 +426,8 @@ module _ (body : SessionBody) (names : Names) where
     late_mute c its (RepliesNothing none) = none b
     late_mute c its (RepliesTo text is) = ap (reply_to b) is ∙ ap (λ d. cond d (text ∷ []) []) (ap (λ n. eqb n b) its ∙ apart)
 
-    late_own : (x : Answer) (p : SessionPlace) → body.place ≡ p → is_late p ≡ true → (is_late p ≡ true → body.agent ≡ a) → reply_to b (session_by body names x p).0 ≡ []
+    late_own : (x : Answer) (p : SessionPlace) → body.place ≡ p → is_late p ≡ true → (is_late p ≡ true → body.agent ≡ a)
+        → reply_to b (session_by body names x p).0 ≡ []
     late_own x p here late its = late_mute (session_by body names x p).0 (its late) (late_by body names (ap is_late here ∙ late) x p late).calls
 
     -- it replies to its agent alone
@@ -397,11 +441,14 @@ module _ (body : SessionBody) (names : Names) where
     own_mutes x at.End here its = late_own x at.End here refl its
 
 -- turned away, it returns
-away_returns : (sb : SessionBody) (names later : Names) (x : Answer) (why : LwpErr) → sb.place ≡ at.Start → (session_next (session_next sb names x).1 later (answer.Refused why)).0 ≡ call.Return
+away_returns : (sb : SessionBody) (names later : Names) (x : Answer) (why : LwpErr) → sb.place ≡ at.Start
+    → (session_next (session_next sb names x).1 later (answer.Refused why)).0 ≡ call.Return
 unfolding session_next
-away_returns sb names later x why start = ap (λ (p : SessionPlace). (session_by (session_by sb names x p).1 later (answer.Refused why) (session_by sb names x p).1.place).0) start
+away_returns sb names later x why start =
+    ap (λ (p : SessionPlace). (session_by (session_by sb names x p).1 later (answer.Refused why) (session_by sb names x p).1.place).0) start
 
-module _ (s k : ℕ) (es : EventState) (was : Lawful es.state None) (turn : choice es.state ≡ Some s) (S S2 : SessionBody → Answer → Type 0) (K K2 : StoreBody → Answer → Type 0) (got said : ℕ → Texts) (sb0 : SessionBody) (sz0 : Answer) (names : Names)
+module _ (s k : ℕ) (es : EventState) (was : Lawful es.state None) (turn : choice es.state ≡ Some s) (S S2 : SessionBody → Answer → Type 0)
+    (K K2 : StoreBody → Answer → Type 0) (got said : ℕ → Texts) (sb0 : SessionBody) (sz0 : Answer) (names : Names)
     (same : (b : SessionBody) (z : Answer) → S b z → (b ≡ sb0) × (z ≡ sz0)) where
   abbrev own : Call
   own = (session_next sb0 names sz0).0
@@ -414,21 +461,25 @@ module _ (s k : ℕ) (es : EventState) (was : Lawful es.state None) (turn : choi
 
   module _ (s_on : is_thread made_out.after s ≡ true → S2 (session_next sb0 names sz0).1 (last_heard sz0 (answers_to s made_out.effects)))
       (k_on : (b : StoreBody) (z : Answer) → K b z → K2 b (last_heard z (answers_to k made_out.effects)))
-      (short : (b : ℕ) → list_all is_short (got b) ≡ true) (only : es.pending ≡ None → sends_well s k own ≡ true) (low : eqb null_id es.state.births ≡ false) where
+      (short : (b : ℕ) → list_all is_short (got b) ≡ true) (only : es.pending ≡ None → sends_well s k own ≡ true)
+      (low : eqb null_id es.state.births ≡ false) where
     abbrev PhaseOwn : Type 0
     PhaseOwn = Phase s k made_out.after S2 K2 (λ b. got b ++ new_texts b) (λ b. said b ++ replies_of_step s b made_out.effects)
 
     lives_now : is_thread es.state s ≡ true
     lives_now = let run = chosen es.state was.nine s turn in ap is_some run.known
 
-    own_dead : is_thread made_out.after s ≡ false → ((b : ℕ) → AreFirst (said b ++ replies_of_step s b made_out.effects) (line_answers (got b ++ new_texts b))) → PhaseOwn
+    own_dead : is_thread made_out.after s ≡ false
+        → ((b : ℕ) → AreFirst (said b ++ replies_of_step s b made_out.effects) (line_answers (got b ++ new_texts b))) → PhaseOwn
     own_dead off firsts = dead_now s k es.state was S S2 K K2 got said new_texts made_out (λ n. event_fades n es own) lives_now off firsts
 
     unreplied : (b : ℕ) → reply_to b own ≡ [] → replies_of_step s b made_out.effects ≡ []
     unreplied b none = mute_event s b es s own turn (mute_unreplied s b own none)
 
-    module _ (a : ℕ) (sb : SessionBody) (sz : Answer) (kb : StoreBody) (kz : Answer) (row : S sb sz) (row_k : K kb kz) (t : TellsAt s k a es.state sb sz kb kz (got a) (said a)) (away : eqb null_id a ≡ false)
-        (firsts : (b : ℕ) → AreFirst (said b) (line_answers (got b))) (others : (b : ℕ) → eqb a b ≡ false → said b ≡ []) (mutes : (b : ℕ) → eqb a b ≡ false → reply_to b own ≡ [])
+    module _ (a : ℕ) (sb : SessionBody) (sz : Answer) (kb : StoreBody) (kz : Answer) (row : S sb sz) (row_k : K kb kz)
+        (t : TellsAt s k a es.state sb sz kb kz (got a) (said a)) (away : eqb null_id a ≡ false)
+        (firsts : (b : ℕ) → AreFirst (said b) (line_answers (got b))) (others : (b : ℕ) → eqb a b ≡ false → said b ≡ [])
+        (mutes : (b : ℕ) → eqb a b ≡ false → reply_to b own ≡ [])
         (given : sb0.place ≡ at.Start → es.state.births ≡ a) where
       hearing : IsHearing t.talk.client
       hearing = session_hears s k a es.state was t.talk t.waiting t.stands turn
@@ -440,24 +491,31 @@ module _ (s k : ℕ) (es : EventState) (was : Lawful es.state None) (turn : choi
       answer_is = sym (subst (λ c. HeardAs c sz) hearing.is t.heard) ∙ (same sb sz row).1
 
       Comes : SessionBody → Answer → Type 0
-      Comes b z = (es.pending ≡ None → sends_well s k (session_next b names z).0 ≡ true) → (b.place ≡ at.Start → (n : ℕ) → answers_to s (step es.state (session_next b names z).0).effects ≡ answer.Thread n ∷ [] → n ≡ a)
+      Comes b z = (es.pending ≡ None → sends_well s k (session_next b names z).0 ≡ true)
+          → (b.place ≡ at.Start → (n : ℕ) → answers_to s (step es.state (session_next b names z).0).effects ≡ answer.Thread n ∷ [] → n ≡ a)
           → SessionComes s k a t.talk t.waiting (session_next b names z).1 (machine_of (event_step es (session_next b names z).0))
 
       given_agent : sb0.place ≡ at.Start → (n : ℕ) → answers_to s (step es.state own).effects ≡ answer.Thread n ∷ [] → n ≡ a
       unfolding session_next
-      given_agent start n told = agent_given s es.state turn sb0.event n (ap (λ p. answers_to s (step es.state (session_by sb0 names sz0 p).0).effects) (sym start) ∙ told) ∙ given start
+      given_agent start n told =
+          agent_given s es.state turn sb0.event n (ap (λ p. answers_to s (step es.state (session_by sb0 names sz0 p).0).effects) (sym start) ∙ told)
+          ∙ given start
 
       comes : SessionComes s k a t.talk t.waiting (session_next sb0 names sz0).1 made_out
       unfolding Comes
       comes = subst (Comes sb0) answer_is (subst (λ b. Comes b hearing.answer) session_is
-          (λ only given. pods_sessions_calls_are_events s k a es was t.talk t.waiting t.stands turn hearing.answer hearing.is names (session_short s a t.talk t.inv hearing.answer hearing.is names (lines_short s k a es.state sb sz kb kz (got a) (said a) t (short a))) only given))
+          (λ only given. pods_sessions_calls_are_events s k a es was t.talk t.waiting t.stands turn hearing.answer hearing.is names
+          (session_short s a t.talk t.inv hearing.answer hearing.is names (lines_short s k a es.state sb sz kb kz (got a) (said a) t (short a)))
+          only given))
           only given_agent
 
-      firsts_then : replies_of_step s a made_out.effects ≡ [] → (b : ℕ) → AreFirst (said b ++ replies_of_step s b made_out.effects) (line_answers (got b ++ new_texts b))
+      firsts_then : replies_of_step s a made_out.effects ≡ [] → (b : ℕ)
+          → AreFirst (said b ++ replies_of_step s b made_out.effects) (line_answers (got b ++ new_texts b))
       firsts_then none b = by_test (eqb a b) refl
         where
           by_test : (d : Bool) → eqb a b ≡ d → AreFirst (said b ++ replies_of_step s b made_out.effects) (line_answers (got b ++ new_texts b))
-          by_test true e = still_first (said b) (got b) (new_texts b) (replies_of_step s b made_out.effects) (ap (λ n. replies_of_step s n made_out.effects) (sym (eqb-true a b e)) ∙ none) (firsts b)
+          by_test true e = still_first (said b) (got b) (new_texts b) (replies_of_step s b made_out.effects)
+              (ap (λ n. replies_of_step s n made_out.effects) (sym (eqb-true a b e)) ∙ none) (firsts b)
           by_test false e = still_first (said b) (got b) (new_texts b) (replies_of_step s b made_out.effects) (unreplied b (mutes b e)) (firsts b)
 
       own_by : SessionComes s k a t.talk t.waiting (session_next sb0 names sz0).1 made_out → PhaseOwn
@@ -465,14 +523,25 @@ module _ (s k : ℕ) (es : EventState) (was : Lawful es.state None) (turn : choi
       own_by (Dies gone none) = own_dead (gone_thread made_out.after s gone) (firsts_then none)
       own_by (IsTurnedAway v none) =
           let start = ap (λ (b : SessionBody). b.place) (sym session_is) ∙ v.place in
-          Ending (session_next sb0 names sz0).1 (last_heard sz0 (answers_to s made_out.effects)) (s_on (alive_seen made_out.after s block.Not (ap (λ (w : Sight). w.waits) v.client)))
-          (λ later. ap (λ xs. (session_next (session_next sb0 names sz0).1 later (last_heard sz0 xs)).0) v.told ∙ away_returns sb0 names later sz0 v.why start) v.client (firsts_then none)
+          Ending (session_next sb0 names sz0).1 (last_heard sz0 (answers_to s made_out.effects))
+          (s_on (alive_seen made_out.after s block.Not (ap (λ (w : Sight). w.waits) v.client)))
+          (λ later. ap (λ xs. (session_next (session_next sb0 names sz0).1 later (last_heard sz0 xs)).0) v.told ∙ away_returns sb0 names later sz0 v.why start)
+          v.client (firsts_then none)
       own_by (GoesOn b) =
-          let told = tells_on s k a es.state sb sz kb kz (got a) (said a) t (session_next sb0 names sz0).1 t.talk.store (new_texts a) (replies_of_step s a made_out.effects) made_out b in
-          let told_so = subst (λ z. TellsAt s k a made_out.after (session_next sb0 names sz0).1 (last_heard z (answers_to s made_out.effects)) kb (last_heard kz (answers_to k made_out.effects)) (got a ++ new_texts a) (said a ++ replies_of_step s a made_out.effects)) (same sb sz row).1
-          (subst (λ body. TellsAt s k a made_out.after (session_next sb0 names sz0).1 (last_heard sz (answers_to s made_out.effects)) body (last_heard kz (answers_to k made_out.effects)) (got a ++ new_texts a) (said a ++ replies_of_step s a made_out.effects)) t.store told) in
-          settle s k es.state was S S2 K K2 got said new_texts made_out (λ n. event_fades n es own) a (session_next sb0 names sz0).1 (last_heard sz0 (answers_to s made_out.effects)) kb (last_heard kz (answers_to k made_out.effects))
-          (s_on (alive_seen made_out.after s (block_of (Some a) (after_events s a t.talk b.events).client) (ap (λ (w : Sight). w.waits) b.stands.client))) (k_on kb kz row_k) told_so away
+          let told = tells_on s k a es.state sb sz kb kz (got a) (said a) t (session_next sb0 names sz0).1 t.talk.store (new_texts a)
+          (replies_of_step s a made_out.effects) made_out b in
+          let told_so = subst
+          (λ z. TellsAt s k a made_out.after (session_next sb0 names sz0).1 (last_heard z (answers_to s made_out.effects)) kb
+          (last_heard kz (answers_to k made_out.effects)) (got a ++ new_texts a) (said a ++ replies_of_step s a made_out.effects))
+          (same sb sz row).1
+          (subst
+          (λ body. TellsAt s k a made_out.after (session_next sb0 names sz0).1 (last_heard sz (answers_to s made_out.effects)) body
+          (last_heard kz (answers_to k made_out.effects)) (got a ++ new_texts a) (said a ++ replies_of_step s a made_out.effects))
+          t.store told) in
+          settle s k es.state was S S2 K K2 got said new_texts made_out (λ n. event_fades n es own) a (session_next sb0 names sz0).1
+          (last_heard sz0 (answers_to s made_out.effects)) kb (last_heard kz (answers_to k made_out.effects))
+          (s_on (alive_seen made_out.after s (block_of (Some a) (after_events s a t.talk b.events).client) (ap (λ (w : Sight). w.waits) b.stands.client)))
+          (k_on kb kz row_k) told_so away
           (λ start. differ (sym (started_next sb0 names sz0 sb0.place refl) ∙ ap is_started start))
           (λ n apart. both_none (said n) (replies_of_step s n made_out.effects) (others n apart) (unreplied n (mutes n apart)))
 
@@ -485,10 +554,13 @@ module _ (s k : ℕ) (es : EventState) (was : Lawful es.state None) (turn : choi
     unfolding session_next
     own_start start b = ap (λ p. reply_to b (session_by sb0 names sz0 p).0) start
 
-    own_late : (a : ℕ) (sb : SessionBody) (sz : Answer) (kb : StoreBody) (kz : Answer) (t : TellsAt s k a es.state sb sz kb kz (got a) (said a)) → sb ≡ sb0 → (sb.place ≡ at.Start → ⊥) → (b : ℕ) → eqb a b ≡ false → reply_to b own ≡ []
+    own_late : (a : ℕ) (sb : SessionBody) (sz : Answer) (kb : StoreBody) (kz : Answer) (t : TellsAt s k a es.state sb sz kb kz (got a) (said a))
+        → sb ≡ sb0 → (sb.place ≡ at.Start → ⊥) → (b : ℕ) → eqb a b ≡ false → reply_to b own ≡ []
     unfolding session_next
     own_late a sb sz kb kz t is started b apart = own_mutes sb0 names a b apart sz0 sb0.place refl
-        (λ late. sym (ap (λ (b : SessionBody). b.agent) is) ∙ knows_late a sb.agent sb.place t.talk.client (ap (λ (b : SessionBody). is_late b.place) is ∙ late) (known s k a es.state sb sz kb kz (got a) (said a) t started))
+        (λ late. sym (ap (λ (b : SessionBody). b.agent) is)
+        ∙ knows_late a sb.agent sb.place t.talk.client (ap (λ (b : SessionBody). is_late b.place) is ∙ late)
+        (known s k a es.state sb sz kb kz (got a) (said a) t started))
 
     pub phase_own : Phase s k es.state S K got said → PhaseOwn
     unfolding session_next
@@ -508,22 +580,28 @@ module _ (s k : ℕ) (es : EventState) (was : Lawful es.state None) (turn : choi
         next = late_by sb0 names late0 sz0 sb0.place late0
 
         firsts2 : (b : ℕ) → AreFirst (said b ++ replies_of_step s b made_out.effects) (line_answers (got b ++ new_texts b))
-        firsts2 b = still_first (said b) (got b) (new_texts b) (replies_of_step s b made_out.effects) (late_unheard s b es turn a gone own (subst (λ n. LateCall n own) agent0 next.calls)) (firsts b)
+        firsts2 b = still_first (said b) (got b) (new_texts b) (replies_of_step s b made_out.effects)
+            (late_unheard s b es turn a gone own (subst (λ n. LateCall n own) agent0 next.calls)) (firsts b)
 
         by_lives : (d : Bool) → is_thread made_out.after s ≡ d → PhaseOwn
-        by_lives true e = Lost e a (session_next sb0 names sz0).1 (last_heard sz0 (answers_to s made_out.effects)) (s_on e) (next.agent_is ∙ agent0) next.late (gone_stays a es.state made_out.after (event_fades a es own) gone) firsts2
+        by_lives true e = Lost e a (session_next sb0 names sz0).1 (last_heard sz0 (answers_to s made_out.effects)) (s_on e)
+            (next.agent_is ∙ agent0) next.late (gone_stays a es.state made_out.after (event_fades a es own) gone) firsts2
         by_lives false e = own_dead e firsts2
     phase_own (Ending sb sz row returns seen firsts) =
         let both = same sb sz row in
         let is : own ≡ call.Return = (λ i. (session_next (sym both.0 i) names (sym both.1 i)).0) ∙ returns names in
-        own_dead (gone_thread made_out.after s (subst (λ c. IsGone (event_step es c).after.state s) (sym is) (returns_end s es was turn (ap (λ (v : Sight). v.marks) seen) lives_now)))
+        own_dead (gone_thread made_out.after s
+        (subst (λ c. IsGone (event_step es c).after.state s) (sym is) (returns_end s es was turn (ap (λ (v : Sight). v.marks) seen) lives_now)))
         (λ b. still_first (said b) (got b) (new_texts b) (replies_of_step s b made_out.effects) (unreplied b (ap (reply_to b) is)) (firsts b))
     phase_own (Starting lives sb sz kb kz row row_k tells place nothing) =
         let start = ap (λ (b : SessionBody). b.place) (sym (same sb sz row).0) ∙ place in
-        own_talk es.state.births sb sz kb kz row row_k (tells es.state.births (omega arith) low) low (λ b. none_first (said b) (got b) (nothing b)) (λ b apart. nothing b) (λ b apart. own_start start b) (λ start. refl)
+        own_talk es.state.births sb sz kb kz row row_k (tells es.state.births (omega arith) low) low
+        (λ b. none_first (said b) (got b) (nothing b)) (λ b apart. nothing b) (λ b apart. own_start start b) (λ start. refl)
     phase_own (Talking a sb sz kb kz row row_k t away started lives others) =
         let is = (same sb sz row).0 in
-        own_talk a sb sz kb kz row row_k t away (all_first s k es.state was S S2 K K2 got said new_texts made_out (λ n. event_fades n es own) a sb sz kb kz t others) others (own_late a sb sz kb kz t is started) (λ start. absurd (started (ap (λ (b : SessionBody). b.place) is ∙ start)))
+        own_talk a sb sz kb kz row row_k t away
+        (all_first s k es.state was S S2 K K2 got said new_texts made_out (λ n. event_fades n es own) a sb sz kb kz t others) others
+        (own_late a sb sz kb kz t is started) (λ start. absurd (started (ap (λ (b : SessionBody). b.place) is ∙ start)))
 
 -- who is there has a row
 pub record HasRow (S : SessionBody → Answer → Type 0) : Type 0 where
@@ -531,7 +609,8 @@ pub record HasRow (S : SessionBody → Answer → Type 0) : Type 0 where
   pub answer : Answer
   pub row : S body answer
 
-pub phase_row : (s k : ℕ) (st : State) (S : SessionBody → Answer → Type 0) (K : StoreBody → Answer → Type 0) (got said : ℕ → Texts) → Phase s k st S K got said → is_thread st s ≡ true → HasRow S
+pub phase_row : (s k : ℕ) (st : State) (S : SessionBody → Answer → Type 0) (K : StoreBody → Answer → Type 0) (got said : ℕ → Texts)
+    → Phase s k st S K got said → is_thread st s ≡ true → HasRow S
 phase_row s k st S K got said (Starting l sb sz kb kz row row_k tells place nothing) lives = record { body = sb; answer = sz; row = row }
 phase_row s k st S K got said (Talking a sb sz kb kz row row_k t away started l others) lives = record { body = sb; answer = sz; row = row }
 phase_row s k st S K got said (Ending sb sz row returns seen firsts) lives = record { body = sb; answer = sz; row = row }
@@ -539,7 +618,8 @@ phase_row s k st S K got said (Lost l a sb sz row its late gone firsts) lives = 
 phase_row s k st S K got said (Over below off firsts) lives = differ (sym lives ∙ off)
 
 -- in each of them what was said is a first part of the answers
-pub phase_first : (s k : ℕ) (st : State) (S : SessionBody → Answer → Type 0) (K : StoreBody → Answer → Type 0) (got said : ℕ → Texts) → Phase s k st S K got said → (b : ℕ) → AreFirst (said b) (line_answers (got b))
+pub phase_first : (s k : ℕ) (st : State) (S : SessionBody → Answer → Type 0) (K : StoreBody → Answer → Type 0) (got said : ℕ → Texts)
+    → Phase s k st S K got said → (b : ℕ) → AreFirst (said b) (line_answers (got b))
 phase_first s k st S K got said (Starting l sb sz kb kz row row_k tells place nothing) b = none_first (said b) (got b) (nothing b)
 phase_first s k st S K got said (Talking a sb sz kb kz row row_k t away started l others) b = by_test (eqb a b) refl
   where

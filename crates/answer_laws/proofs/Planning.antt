@@ -4,7 +4,8 @@ use Rattle.event_gate.specs.Shelves.{first_left}
 use Rattle.lwp_types.specs.declared.call.Line.{Line}
 use Rattle.pod_events.specs.Events.{is_takeable}
 use Rattle.pod_runner.proofs.Plays.{play-call, play-take, play-zero}
-use Rattle.pod_runner.specs.Eager.{Plan, Planned, after_advance, after_offer, after_offer_by, after_take, boundary, has_choice, one_call, plan_over, plan_whole, pod_of, to_the_end}
+use Rattle.pod_runner.specs.Eager.{Plan, Planned, after_advance, after_offer, after_offer_by, after_take, boundary}
+use Rattle.pod_runner.specs.Eager.{has_choice, one_call, plan_over, plan_whole, pod_of, to_the_end}
 use Rattle.pod_runner.specs.Over.{events}
 use Rattle.pod_runner.specs.Play.{LastBy, play}
 use Rattle.pod_runner.specs.Session.{call_step, take_step}
@@ -24,7 +25,8 @@ module _ {B : Type 0} (planned : Planned B) where
 
   kept_line : (e : ℕ) (line : Line) (plan : Plan B) → Kept plan → Kept (after_take planned e line plan)
   kept_line e line plan h = record {
-    is = ap (take_step planned.setting (record { turn = plan.calls; event = e; line = line })) h.is ∙ sym (play-take planned.setting (record { turn = plan.calls; event = e; line = line }) plan.takes plan.calls refl);
+    is = ap (take_step planned.setting (record { turn = plan.calls; event = e; line = line })) h.is
+        ∙ sym (play-take planned.setting (record { turn = plan.calls; event = e; line = line }) plan.takes plan.calls refl);
     last = subst (λ xs. LastBy xs plan.calls) (sym (reverse-append plan.takes (record { turn = plan.calls; event = e; line = line } ∷ []))) (omega arith);
   }
 
@@ -62,10 +64,12 @@ module _ {B : Type 0} (planned : Planned B) where
   kept_end zero plan h = h
   kept_end (suc n) plan h = by_over (plan_over planned plan) (kept_end n (after_advance planned plan) (kept_advanced plan h))
     where
-      by_over : (o : Option Halt) → Kept (to_the_end planned n (after_advance planned plan)) → Kept (elim o as (λ _. Plan B) [ None ↦ to_the_end planned n (after_advance planned plan) | Some halt ↦ plan ])
+      by_over : (o : Option Halt) → Kept (to_the_end planned n (after_advance planned plan))
+          → Kept (elim o as (λ _. Plan B) [ None ↦ to_the_end planned n (after_advance planned plan) | Some halt ↦ plan ])
       by_over None rest = rest
       by_over (Some halt) rest = h
 
 pub plans_are_sessions : PlansAreSessions
 unfolding plan_whole takes_of calls_of
-plans_are_sessions script turns client = ap (λ session. replies_in (event_of script client) session.steps) (kept_end (planned_of script turns) _ _ (record { is = sym (play-zero (planned_of script turns).setting); last = tt })).is
+plans_are_sessions script turns client = ap (λ session. replies_in (event_of script client) session.steps)
+    (kept_end (planned_of script turns) _ _ (record { is = sym (play-zero (planned_of script turns).setting); last = tt })).is

@@ -5,7 +5,8 @@ use Rattle.answer_laws.proofs.OwnSteps.{Calls, Calls.Asks, Calls.Plainly, Replyi
 use Rattle.answer_laws.proofs.TalkLaws.{Closing.Alone, Closing.Done, Inv, Inv.Ends, Inv.Goes, Inv.Waits, inv_first, inv_session, is_received, phase_free}
 use Rattle.answer_laws.specs.Lengths.{is_short}
 use Rattle.answer_laws.specs.Stands.{is_short_reply, is_short_to}
-use Rattle.answer_laws.specs.Talks.{Mail.Received, Stand, Stand.AwaitsLetter, Stand.AwaitsReply, Stand.Hears, Stand.IsOver, Talk, deed_of, session_calls, session_turn}
+use Rattle.answer_laws.specs.Talks.{Mail.Received, Stand, Stand.AwaitsLetter, Stand.AwaitsReply, Stand.Hears}
+use Rattle.answer_laws.specs.Talks.{Stand.IsOver, Talk, deed_of, session_calls, session_turn}
 use Rattle.line_server.specs.Sessions.{session_by, session_next}
 use Rattle.line_server.specs.Stores.{store_by, store_next, store_turn_after_letter}
 use Rattle.line_server.specs.Tables.{line_answers, replies, served_text}
@@ -23,7 +24,8 @@ last_of [] x all = (and_parts (is_short x) true all).0
 last_of (y ∷ ys) x all = last_of ys x (and_parts (is_short y) (list_all is_short (ys ++ x ∷ [])) all).1
 
 short_last : (done : Texts) (text : List ℕ) → list_all is_short (done ++ text ∷ []) ≡ true → is_short (served_text text (table_after [] done)).reply ≡ true
-short_last done text all = last_of (replies [] done) (served_text text (table_after [] done)).reply (ap (list_all is_short) (sym (replies_push done text [])) ∙ replies_short (done ++ text ∷ []) [] all refl)
+short_last done text all = last_of (replies [] done) (served_text text (table_after [] done)).reply
+    (ap (list_all is_short) (sym (replies_push done text [])) ∙ replies_short (done ++ text ∷ []) [] all refl)
 
 abbrev heard_of : Stand → Answer
 heard_of (Hears x) = x
@@ -36,7 +38,8 @@ right_or true c e = refl
 right_or false c e = e
 
 -- the store's reply to a letter of the session
-pub store_short : (s : ℕ) (talk : Talk) → Inv s talk → talk.agent_lives ≡ true → list_all is_short talk.lines ≡ true → (x : Answer) → talk.keeper ≡ Hears x → (names : Names) (sent : List ℕ) → talk.mail ≡ Received sent
+pub store_short : (s : ℕ) (talk : Talk) → Inv s talk → talk.agent_lives ≡ true → list_all is_short talk.lines ≡ true → (x : Answer)
+    → talk.keeper ≡ Hears x → (names : Names) (sent : List ℕ) → talk.mail ≡ Received sent
     → is_short_to s (store_next talk.store names x).0 ≡ true
 unfolding store_next
 store_short s talk (Goes phase stand) lives all x hears names sent mail = differ (sym (ap is_received mail) ∙ phase_free phase)
@@ -49,7 +52,8 @@ store_short s talk (Waits done text known lines q m p c place keeper) lives all 
     ∙ right_or (not (eqb s s)) (is_short (served_text text (table_after [] done)).reply) (short_last done text (ap (list_all is_short) (sym lines) ∙ all))
 
 -- the session's reply to its client
-pub session_short : (s a : ℕ) (talk : Talk) → Inv s talk → (x : Answer) → talk.client ≡ Hears x → (names : Names) → list_all is_short talk.lines ≡ true → talk.agent_lives ≡ true → is_short_reply (session_next talk.session names x).0 ≡ true
+pub session_short : (s a : ℕ) (talk : Talk) → Inv s talk → (x : Answer) → talk.client ≡ Hears x → (names : Names)
+    → list_all is_short talk.lines ≡ true → talk.agent_lives ≡ true → is_short_reply (session_next talk.session names x).0 ≡ true
 unfolding session_next
 session_short s a talk inv x hears names all lives = by_kind (session_calls_by talk.session names x talk.session.place)
   where
@@ -62,14 +66,20 @@ session_short s a talk inv x hears names all lives = by_kind (session_calls_by t
         ∙ by_lives r talk.agent_lives
       where
         by_lives : Replying (session_next talk.session names x).0 → (b : Bool)
-            → (cond b (record talk { session = (session_by talk.session names x talk.session.place).1; told = talk.told ++ r.text ∷ []; client = Hears zero_answer }) (record talk { session = (session_by talk.session names x talk.session.place).1; client = Hears nonexist })).lines ≡ talk.lines
+            → (cond b
+            (record talk { session = (session_by talk.session names x talk.session.place).1; told = talk.told ++ r.text ∷ []; client = Hears zero_answer })
+            (record talk { session = (session_by talk.session names x talk.session.place).1; client = Hears nonexist })).lines
+            ≡ talk.lines
         by_lives r true = refl
         by_lives r false = refl
 
     told_is : (r : Replying (session_next talk.session names x).0) → after.told ≡ talk.told ++ r.text ∷ []
     told_is r = ap (λ c. (session_turn a names talk c).told) hears
         ∙ ap (λ c. (session_calls a (record talk { session = (session_by talk.session names x talk.session.place).1 }) (deed_of c)).told) r.is
-        ∙ ap (λ b. (cond b (record talk { session = (session_by talk.session names x talk.session.place).1; told = talk.told ++ r.text ∷ []; client = Hears zero_answer }) (record talk { session = (session_by talk.session names x talk.session.place).1; client = Hears nonexist })).told) lives
+        ∙ ap (λ b. (cond b
+        (record talk { session = (session_by talk.session names x talk.session.place).1; told = talk.told ++ r.text ∷ []; client = Hears zero_answer })
+        (record talk { session = (session_by talk.session names x talk.session.place).1; client = Hears nonexist })).told)
+        lives
 
     by_reply : Replying (session_next talk.session names x).0 → is_short_reply (session_next talk.session names x).0 ≡ true
     by_reply r =
@@ -82,6 +92,7 @@ session_short s a talk inv x hears names all lives = by_kind (session_calls_by t
     by_kind (Asks e place is) = ap is_short_reply is
     by_kind (Plainly plain) = by_short plain.short
       where
-        by_short : (is_short_reply (session_next talk.session names x).0 ≡ true) ⊎ Replying (session_next talk.session names x).0 → is_short_reply (session_next talk.session names x).0 ≡ true
+        by_short : (is_short_reply (session_next talk.session names x).0 ≡ true) ⊎ Replying (session_next talk.session names x).0
+            → is_short_reply (session_next talk.session names x).0 ≡ true
         by_short (inl short) = short
         by_short (inr r) = by_reply r

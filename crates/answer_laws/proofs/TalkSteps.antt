@@ -3,8 +3,10 @@ use Rattle.answer_laws.proofs.AgentSights.{destroyed_agents_are_gone, others_lea
 use Rattle.answer_laws.proofs.Others.{others_leave_it}
 use Rattle.answer_laws.specs.Agents.{agent_sight, no_agent, spares_agent}
 use Rattle.answer_laws.specs.Sights.{IsLeft, IsSent, IsWoken, Spares, answers_to, attends, going_on, is_attentive, sight, waits_for, open_letters}
-use Rattle.answer_laws.specs.Stands.{AgentIs, AgentIs.Gone, AgentIs.Made, AgentIs.Unmade, AgentLetters, Becomes, IsHeard, IsUnwritten, Leaves, OthersCallsAreEvents, Stands, block_of, is_placed, is_posted, is_reading, knows, mail_letters, owes}
-use Rattle.answer_laws.specs.Talks.{Event, Event.AgentEnds, Event.OtherLetter, Mail, Mail.Nothing, Mail.Received, Mail.Sent, Stand, Stand.AwaitsLetter, Stand.AwaitsReply, Stand.Hears, Stand.IsOver, Talk, after_events, after_line_refusal, talk_on}
+use Rattle.answer_laws.specs.Stands.{AgentIs, AgentIs.Gone, AgentIs.Made, AgentIs.Unmade, AgentLetters, Becomes, IsHeard, IsUnwritten, Leaves}
+use Rattle.answer_laws.specs.Stands.{OthersCallsAreEvents, Stands, block_of, is_placed, is_posted, is_reading, knows, mail_letters, owes}
+use Rattle.answer_laws.specs.Talks.{Event, Event.AgentEnds, Event.OtherLetter, Mail, Mail.Nothing, Mail.Received, Mail.Sent, Stand, Stand.AwaitsLetter}
+use Rattle.answer_laws.specs.Talks.{Stand.AwaitsReply, Stand.Hears, Stand.IsOver, Talk, after_events, after_line_refusal, talk_on}
 use Rattle.line_server.specs.declared.session.SessionPlace.{SessionPlace}
 use Rattle.line_server.specs.declared.session.SessionPlace.TheVariants as at
 use Rattle.lwp_types.specs.Choice.{choice}
@@ -12,7 +14,8 @@ use Rattle.lwp_types.specs.CountLaws.{count-append, one}
 use Rattle.lwp_types.specs.Counts.{has_its_block, is_block_of, timers_of}
 use Rattle.lwp_types.specs.Lawful.{Lawful}
 use Rattle.lwp_types.specs.Messages.{is_to, next_letter}
-use Rattle.lwp_types.specs.State.{Outcome, State, ThreadRow, agent_numbers, agent_of, all_below, is_agent, is_agent_row, is_id, is_number, is_thread, numbers, passes, thread_of}
+use Rattle.lwp_types.specs.State.{Outcome, State, ThreadRow, agent_numbers, agent_of, all_below, is_agent}
+use Rattle.lwp_types.specs.State.{is_agent_row, is_id, is_number, is_thread, numbers, passes, thread_of}
 use Rattle.lwp_types.specs.Step.{step}
 use Rattle.lwp_types.specs.Unblock.{is_timer_of, nonexist}
 use Rattle.lwp_types.specs.declared.call.Answer.{Answer}
@@ -26,7 +29,8 @@ use Rattle.pod_laws.proofs.Fading.{step_fades}
 use Rattle.pod_laws.proofs.Holding.{no_thread}
 use Rattle.pod_laws.proofs.TimerMoves.{no_timer_comes_unasked}
 use Rattle.pod_laws.specs.Timers.{ticks_of, timers_of_call, timers_by}
-use Rattle.std.proofs.Common.{Bool, List, None, Option, Some, [], ap, append-nil, arith, cond, count_by, eqb, false, inl, inr, not, refl, subst, sym, true, ℕ, ◌&&◌, ◌++◌, ◌||◌, ◌<◌, ◌∙◌, ◌∷◌, ◌≡◌, ◌≢◌, ◌≤◌, ◌⊎◌}
+use Rattle.std.proofs.Common.{Bool, List, None, Option, Some, [], ap, append-nil, arith, cond, count_by, eqb, false, inl}
+use Rattle.std.proofs.Common.{inr, not, refl, subst, sym, true, ℕ, ◌&&◌, ◌++◌, ◌||◌, ◌<◌, ◌∙◌, ◌∷◌, ◌≡◌, ◌≢◌, ◌≤◌, ◌⊎◌}
 use Rattle.std.proofs.lemmas.Bool.{and_from, and_parts, cases_eq, eq-eqb, eqb-true, leb-false, leb-true, ltb-true, ne_eqb}
 use Rattle.std.specs.List.{find}
 use Rattle.std.specs.Prelude.{is_none, is_some, nat_le, nat_lt, option_map}
@@ -123,13 +127,17 @@ pub record ClientTo (s k a : ℕ) (talk : Talk) (waiting : List (List ℕ)) (out
   pub agent : AgentIs s a out.after (record talk { client = client; agent_lives = lives }) waiting
   pub heard : IsHeard talk.client client (answers_to s out.effects)
 
-pub agent_as : {s a : ℕ} {st : State} {one two : Talk} {waiting : List (List ℕ)} → two.session ≡ one.session → two.client ≡ one.client → two.agent_lives ≡ one.agent_lives → AgentIs s a st one waiting → AgentIs s a st two waiting
+pub agent_as : {s a : ℕ} {st : State} {one two : Talk} {waiting : List (List ℕ)} → two.session ≡ one.session → two.client ≡ one.client
+    → two.agent_lives ≡ one.agent_lives → AgentIs s a st one waiting → AgentIs s a st two waiting
 agent_as {s} {a} {st} {one} {two} {waiting} e f g (Unmade low place lives none) = Unmade low (ap (λ x. x.place) e ∙ place) (g ∙ lives) none
-agent_as {s} {a} {st} {one} {two} {waiting} e f g (Made row there owns lives known letters) = Made row there owns (g ∙ lives) ((λ i. knows a (e i).agent (e i).place (f i)) ∙ known)
+agent_as {s} {a} {st} {one} {two} {waiting} e f g (Made row there owns lives known letters) =
+    Made row there owns (g ∙ lives) ((λ i. knows a (e i).agent (e i).place (f i)) ∙ known)
     (subst (λ b. AgentLetters s a b waiting (agent_sight st a).letters) (λ i. owes (sym e i).place (sym f i)) letters)
 agent_as {s} {a} {st} {one} {two} {waiting} e f g (Gone off low lives known) = Gone off low (g ∙ lives) ((λ i. knows a (e i).agent (e i).place (f i)) ∙ known)
 
-pub becomes : (s k a : ℕ) (talk : Talk) (waiting : List (List ℕ)) (out : Outcome) → timers_of out.after.timers s ≡ 0 → (eqb s k ≡ false → timers_of out.after.timers k ≡ 0) → KeeperTo s k a talk out → ClientTo s k a talk waiting out → Becomes s k a talk talk.session talk.store waiting [] [] out
+pub becomes : (s k a : ℕ) (talk : Talk) (waiting : List (List ℕ)) (out : Outcome) → timers_of out.after.timers s ≡ 0
+    → (eqb s k ≡ false → timers_of out.after.timers k ≡ 0) → KeeperTo s k a talk out → ClientTo s k a talk waiting out
+    → Becomes s k a talk talk.session talk.store waiting [] [] out
 becomes s k a talk waiting out timers timers_k one two = record {
   events = one.events ++ two.events;
   waits = waiting;
@@ -165,11 +173,13 @@ heard_one before x answers one = subst (IsHeard before (Hears x)) (sym one) (λ 
 
 -- ---- a letter for the store
 
-pub other_is : (s a x : ℕ) (text : List ℕ) (room : ℕ) (talk : Talk) → talk.keeper ≡ AwaitsLetter → x ≢ s → after_events s a talk (OtherLetter x text room ∷ []) ≡ record talk { keeper = Hears (answer.Letter x text room) }
+pub other_is : (s a x : ℕ) (text : List ℕ) (room : ℕ) (talk : Talk) → talk.keeper ≡ AwaitsLetter → x ≢ s
+    → after_events s a talk (OtherLetter x text room ∷ []) ≡ record talk { keeper = Hears (answer.Letter x text room) }
 other_is s a x text room talk waits other = rw (waits, ne_eqb x s other) refl
 
 -- the store is left, if there is one
-pub keeper_left : (s k a : ℕ) (st : State) (talk : Talk) (waiting : List (List ℕ)) (out : Outcome) → Stands s k a st talk waiting → (eqb s k ≡ false → IsLeft k st out) → KeeperTo s k a talk out
+pub keeper_left : (s k a : ℕ) (st : State) (talk : Talk) (waiting : List (List ℕ)) (out : Outcome) → Stands s k a st talk waiting
+    → (eqb s k ≡ false → IsLeft k st out) → KeeperTo s k a talk out
 keeper_left s k a st talk waiting out was left = record {
   events = [];
   keeper = talk.keeper;
@@ -185,7 +195,8 @@ pub none_left : (s k : ℕ) (st : State) (out : Outcome) → eqb s k ≡ true �
 none_left s k st out same s_k = differ (sym same ∙ s_k)
 
 -- or handed a letter of x
-pub keeper_handed : (s k a : ℕ) (st : State) (talk : Talk) (waiting : List (List ℕ)) (out : Outcome) → Stands s k a st talk waiting → eqb s k ≡ false → (x : ℕ) (text : List ℕ) (room : ℕ) → x ≢ s → talk.keeper ≡ AwaitsLetter
+pub keeper_handed : (s k a : ℕ) (st : State) (talk : Talk) (waiting : List (List ℕ)) (out : Outcome) → Stands s k a st talk waiting
+    → eqb s k ≡ false → (x : ℕ) (text : List ℕ) (room : ℕ) → x ≢ s → talk.keeper ≡ AwaitsLetter
     → sight out.after k ≡ going_on (sight st k) → answers_to k out.effects ≡ answer.Letter x text room ∷ [] → KeeperTo s k a talk out
 keeper_handed s k a st talk waiting out was s_k x text room other waits goes told = record {
   events = OtherLetter x text room ∷ [];
@@ -210,7 +221,8 @@ knows_on a b at.Bye x h = h
 knows_on a b at.End x h = h
 
 -- nothing of them changes
-pub client_left : (s k a : ℕ) (st : State) (talk : Talk) (waiting : List (List ℕ)) (out : Outcome) → Stands s k a st talk waiting → IsLeft s st out → AgentIs s a out.after talk waiting → ClientTo s k a talk waiting out
+pub client_left : (s k a : ℕ) (st : State) (talk : Talk) (waiting : List (List ℕ)) (out : Outcome) → Stands s k a st talk waiting
+    → IsLeft s st out → AgentIs s a out.after talk waiting → ClientTo s k a talk waiting out
 client_left s k a st talk waiting out was left agent = record {
   events = [];
   client = talk.client;
@@ -249,7 +261,8 @@ unborn_thread n u (row ∷ rows) below high =
     let parts = and_parts (nat_lt row.number n) (all_below n (numbers rows)) below in
     by_test (is_number u row) refl parts.0 (unborn_thread n u rows parts.1 high)
   where
-    by_test : (b : Bool) → is_number u row ≡ b → nat_lt row.number n ≡ true → is_some (find (is_number u) rows) ≡ false → is_some (cond b (Some row) (find (is_number u) rows)) ≡ false
+    by_test : (b : Bool) → is_number u row ≡ b → nat_lt row.number n ≡ true → is_some (find (is_number u) rows) ≡ false
+        → is_some (cond b (Some row) (find (is_number u) rows)) ≡ false
     by_test true is less rest = absurd (omega (arith, high, eqb-true row.number u is, ltb-true row.number n less))
     by_test false is less rest = rest
 
@@ -259,7 +272,8 @@ unborn_agent n u (row ∷ rows) below high =
     let parts = and_parts (nat_lt row.number n) (all_below n (agent_numbers rows)) below in
     by_test (is_agent_row u row) refl parts.0 (unborn_agent n u rows parts.1 high)
   where
-    by_test : (b : Bool) → is_agent_row u row ≡ b → nat_lt row.number n ≡ true → is_some (find (is_agent_row u) rows) ≡ false → is_some (cond b (Some row) (find (is_agent_row u) rows)) ≡ false
+    by_test : (b : Bool) → is_agent_row u row ≡ b → nat_lt row.number n ≡ true → is_some (find (is_agent_row u) rows) ≡ false
+        → is_some (cond b (Some row) (find (is_agent_row u) rows)) ≡ false
     by_test true is less rest = absurd (omega (arith, high, eqb-true row.number u is, ltb-true row.number n less))
     by_test false is less rest = rest
 
@@ -272,7 +286,8 @@ either_of true y e = absurd (cc)
 either_of false y e = (refl, e)
 
 pub unborn_absent : (st : State) → Lawful st None → (n : ℕ) → st.births ≤ n → is_id st n ≡ false
-unborn_absent st was n high = neither (is_thread st n) (is_agent st n) (unborn_thread st.births n st.threads was.nine.numbers.1.0 high) (unborn_agent st.births n st.agents was.nine.numbers.1.1 high)
+unborn_absent st was n high = neither (is_thread st n) (is_agent st n) (unborn_thread st.births n st.threads was.nine.numbers.1.0 high)
+    (unborn_agent st.births n st.agents was.nine.numbers.1.1 high)
 
 -- ---- the session and the agent that it waits for
 
@@ -284,7 +299,8 @@ pub record IsMade (s a : ℕ) (st : State) (talk : Talk) (waiting : List (List �
   pub known : knows a talk.session.agent talk.session.place talk.client ≡ true
   pub letters : AgentLetters s a (owes talk.session.place talk.client) waiting (agent_sight st a).letters
 
-pub awaited_made : (s k a : ℕ) (st : State) → Lawful st None → (talk : Talk) (waiting : List (List ℕ)) → Stands s k a st talk waiting → talk.client ≡ AwaitsLetter → IsMade s a st talk waiting
+pub awaited_made : (s k a : ℕ) (st : State) → Lawful st None → (talk : Talk) (waiting : List (List ℕ)) → Stands s k a st talk waiting
+    → talk.client ≡ AwaitsLetter → IsMade s a st talk waiting
 awaited_made s k a st was talk waiting h waits = by_agent h.agent
   where
     there : is_id st a ≡ true
@@ -300,7 +316,8 @@ unsome {X} {x} {y} e = cc e
 
 -- ---- a call of another
 
-module _ (s k a : ℕ) (st : State) (was : Lawful st None) (talk : Talk) (waiting : List (List ℕ)) (h : Stands s k a st talk waiting) (t : ℕ) (turn : choice st ≡ Some t)
+module _ (s k a : ℕ) (st : State) (was : Lawful st None) (talk : Talk) (waiting : List (List ℕ)) (h : Stands s k a st talk waiting) (t : ℕ)
+    (turn : choice st ≡ Some t)
     (t_s : eqb t s ≡ false) (t_k : eqb t k ≡ false) (c : Call) (low : talk.session.place ≡ at.Start → (step st c).after.births ≤ a) where
   abbrev out : Outcome
   out = step st c
@@ -309,7 +326,14 @@ module _ (s k a : ℕ) (st : State) (was : Lawful st None) (talk : Talk) (waitin
   lawful = Lawful-step st was c
 
   timers_after : (u : ℕ) → eqb t u ≡ false → timers_of st.timers u ≡ 0 → timers_of out.after.timers u ≡ 0
-  timers_after u other none = omega (arith, none, (no_timer_comes_unasked st (is_timer_of u)).called c, count-append (is_timer_of u) st.timers (timers_of_call st (choice st) c), ap (λ o. count_by (is_timer_of u) (timers_of_call st o c)) turn, by_ticks (ticks_of c))
+  timers_after u other none = omega (
+    arith,
+    none,
+    (no_timer_comes_unasked st (is_timer_of u)).called c,
+    count-append (is_timer_of u) st.timers (timers_of_call st (choice st) c),
+    ap (λ o. count_by (is_timer_of u) (timers_of_call st o c)) turn,
+    by_ticks (ticks_of c),
+  )
     where
       by_ticks : (o : Option ℕ) → count_by (is_timer_of u) (timers_by st t o) ≡ 0
       by_ticks None = refl
@@ -320,10 +344,12 @@ module _ (s k a : ℕ) (st : State) (was : Lawful st None) (talk : Talk) (waitin
 
   module _ (spared : Spares st s c) (spared_k : eqb s k ≡ false → Spares st k c) where
     s_fate : IsLeft s st out ⊎ IsWoken s (IsSent t s c) st out
-    s_fate = others_leave_it st was t s turn t_s (attends_of s (Some a) talk.client (ap (λ x. x.waits) h.client)) (ap (λ x. count_by (is_to t) x.letters) h.client ∙ mail_off s k t (apart_of t k t_k) talk.mail) c spared
+    s_fate = others_leave_it st was t s turn t_s (attends_of s (Some a) talk.client (ap (λ x. x.waits) h.client))
+        (ap (λ x. count_by (is_to t) x.letters) h.client ∙ mail_off s k t (apart_of t k t_k) talk.mail) c spared
 
     k_fate : eqb s k ≡ false → IsLeft k st out ⊎ IsWoken k (IsSent t k c) st out
-    k_fate s_k = others_leave_it st was t k turn t_k (attends_of k None talk.keeper (ap (λ x. x.waits) (h.keeper s_k))) (ap (λ x. count_by (is_to t) x.letters) (h.keeper s_k)) c (spared_k s_k)
+    k_fate s_k = others_leave_it st was t k turn t_k (attends_of k None talk.keeper (ap (λ x. x.waits) (h.keeper s_k)))
+        (ap (λ x. count_by (is_to t) x.letters) (h.keeper s_k)) c (spared_k s_k)
 
     keeper_to : KeeperTo s k a talk out
     keeper_to = by_store (eqb s k) refl
@@ -332,8 +358,10 @@ module _ (s k a : ℕ) (st : State) (was : Lawful st None) (talk : Talk) (waitin
         by_fate s_k (inl left) = keeper_left s k a st talk waiting out h (λ apart. left)
         by_fate s_k (inr woken) = by_right (awaits None woken.from talk.keeper (unsome (sym (ap (λ x. x.waits) (h.keeper s_k)) ∙ woken.waited))) woken.right
           where
-            by_right : (talk.keeper ≡ AwaitsLetter) × (woken.from ≡ None) → IsSent t k c woken.from woken.heard ⊎ ((woken.heard ≡ nonexist) × (is_some woken.from ≡ true)) → KeeperTo s k a talk out
-            by_right w (inl sent) = keeper_handed s k a st talk waiting out h s_k t sent.text sent.room (apart_of t s t_s) w.0 woken.goes_on (woken.told ∙ ap (λ x. x ∷ []) sent.letter)
+            by_right : (talk.keeper ≡ AwaitsLetter) × (woken.from ≡ None)
+                → IsSent t k c woken.from woken.heard ⊎ ((woken.heard ≡ nonexist) × (is_some woken.from ≡ true)) → KeeperTo s k a talk out
+            by_right w (inl sent) = keeper_handed s k a st talk waiting out h s_k t sent.text sent.room (apart_of t s t_s) w.0 woken.goes_on
+                (woken.told ∙ ap (λ x. x ∷ []) sent.letter)
             by_right w (inr none) = absurd (let bad : false ≡ true = sym (ap is_some w.1) ∙ none.1 in cc)
 
         by_store : (b : Bool) → eqb s k ≡ b → KeeperTo s k a talk out
@@ -345,7 +373,8 @@ module _ (s k a : ℕ) (st : State) (was : Lawful st None) (talk : Talk) (waitin
     away_after off below none = neither (is_thread out.after a) (is_agent out.after a) ((step_fades a st c).threads below off) (ap (λ x. is_some x.row) none)
 
     gone_after : is_id st a ≡ false → a < st.births → is_id out.after a ≡ false
-    gone_after off below = let parts = either_of (is_thread st a) (is_agent st a) off in neither (is_thread out.after a) (is_agent out.after a) ((step_fades a st c).threads below parts.0) ((step_fades a st c).agents below parts.1)
+    gone_after off below = let parts = either_of (is_thread st a) (is_agent st a) off in
+        neither (is_thread out.after a) (is_agent out.after a) ((step_fades a st c).threads below parts.0) ((step_fades a st c).agents below parts.1)
 
     below_after : a < st.births → a < out.after.births
     below_after below = omega (arith, below, (step_fades a st c).births)
@@ -355,12 +384,15 @@ module _ (s k a : ℕ) (st : State) (was : Lawful st None) (talk : Talk) (waitin
     made_below lives = by_age (nat_le st.births a) refl
       where
         by_age : (b : Bool) → nat_le st.births a ≡ b → a < st.births
-        by_age true e = absurd (let bad : true ≡ false = sym lives ∙ (either_of (is_thread st a) (is_agent st a) (unborn_absent st was a (leb-true st.births a e))).1 in cc)
+        by_age true e =
+            absurd (let bad : true ≡ false = sym lives ∙ (either_of (is_thread st a) (is_agent st a) (unborn_absent st was a (leb-true st.births a e))).1 in cc)
         by_age false e = leb-false st.births a e
 
-    module _ (fate : (row : AgentRow) → agent_of st.agents a ≡ Some row → row.owner ≡ s → (agent_sight out.after a ≡ agent_sight st a) ⊎ (agent_sight out.after a ≡ no_agent)) where
+    module _ (fate : (row : AgentRow) → agent_of st.agents a ≡ Some row → row.owner ≡ s
+        → (agent_sight out.after a ≡ agent_sight st a) ⊎ (agent_sight out.after a ≡ no_agent)) where
       kept_made : IsMade s a st talk waiting → agent_sight out.after a ≡ agent_sight st a → AgentIs s a out.after talk waiting
-      kept_made m kept = Made m.row (ap (λ x. x.row) kept ∙ m.there) m.owns m.lives m.known (subst (λ x. AgentLetters s a (owes talk.session.place talk.client) waiting x.letters) (sym kept) m.letters)
+      kept_made m kept = Made m.row (ap (λ x. x.row) kept ∙ m.there) m.owns m.lives m.known
+          (subst (λ x. AgentLetters s a (owes talk.session.place talk.client) waiting x.letters) (sym kept) m.letters)
 
       ended_off : IsMade s a st talk waiting → agent_sight out.after a ≡ no_agent → is_id out.after a ≡ false
       ended_off m ended = away_after (no_thread st None was.nine a m.row m.there) (made_below (ap is_some m.there)) ended
@@ -372,7 +404,9 @@ module _ (s k a : ℕ) (st : State) (was : Lawful st None) (talk : Talk) (waitin
           ended : (m : IsMade s a st talk waiting) → agent_sight out.after a ≡ no_agent → ClientTo s k a talk waiting out
           ended m e =
               let off = ended_off m e in
-              let never : talk.client ≡ AwaitsLetter → ⊥ = λ waits. differ (sym (awaited_there out.after lawful s a (ap (λ x. x.waits) (left.same ∙ h.client) ∙ ap (λ c. Some (block_of (Some a) c)) waits)) ∙ off) in
+              let never : talk.client ≡ AwaitsLetter
+              → ⊥ = λ waits. differ
+              (sym (awaited_there out.after lawful s a (ap (λ x. x.waits) (left.same ∙ h.client) ∙ ap (λ c. Some (block_of (Some a) c)) waits)) ∙ off) in
               record {
                 events = AgentEnds ∷ [];
                 client = talk.client;
@@ -385,20 +419,24 @@ module _ (s k a : ℕ) (st : State) (was : Lawful st None) (talk : Talk) (waitin
                 heard = unheard talk.client (answers_to s out.effects) left.quiet;
               }
 
-          by_fate : (m : IsMade s a st talk waiting) → (agent_sight out.after a ≡ agent_sight st a) ⊎ (agent_sight out.after a ≡ no_agent) → ClientTo s k a talk waiting out
+          by_fate : (m : IsMade s a st talk waiting) → (agent_sight out.after a ≡ agent_sight st a) ⊎ (agent_sight out.after a ≡ no_agent)
+              → ClientTo s k a talk waiting out
           by_fate m (inl kept) = client_left s k a st talk waiting out h left (kept_made m kept)
           by_fate m (inr none) = ended m none
 
           by_agent : AgentIs s a st talk waiting → ClientTo s k a talk waiting out
           by_agent (Unmade below place lives none) = client_left s k a st talk waiting out h left (Unmade (low place) place lives none)
-          by_agent (Made row there owns lives known letters) = by_fate (record { row = row; there = there; owns = owns; lives = lives; known = known; letters = letters }) (fate row there owns)
+          by_agent (Made row there owns lives known letters) =
+              by_fate (record { row = row; there = there; owns = owns; lives = lives; known = known; letters = letters }) (fate row there owns)
           by_agent (Gone off below lives known) = client_left s k a st talk waiting out h left (Gone (gone_after off below) (below_after below) lives known)
 
       -- or it is woken
       woken_to : IsWoken s (IsSent t s c) st out → ClientTo s k a talk waiting out ⊎ Leaves s talk out
       woken_to woken = by_right (awaits (Some a) woken.from talk.client (unsome (sym (ap (λ x. x.waits) h.client) ∙ woken.waited))) woken.right
         where
-          by_right : (talk.client ≡ AwaitsLetter) × (woken.from ≡ Some a) → IsSent t s c woken.from woken.heard ⊎ ((woken.heard ≡ nonexist) × (is_some woken.from ≡ true)) → ClientTo s k a talk waiting out ⊎ Leaves s talk out
+          by_right : (talk.client ≡ AwaitsLetter) × (woken.from ≡ Some a)
+              → IsSent t s c woken.from woken.heard ⊎ ((woken.heard ≡ nonexist) × (is_some woken.from ≡ true))
+              → ClientTo s k a talk waiting out ⊎ Leaves s talk out
           by_right w (inl sent) =
               let m = awaited_made s k a st was talk waiting h w.0 in
               let named : eqb a t ≡ true = subst (λ o. waits_for t o ≡ true) w.1 sent.named in
@@ -412,9 +450,11 @@ module _ (s k a : ℕ) (st : State) (was : Lawful st None) (talk : Talk) (waitin
               mail : is_posted AwaitsLetter talk.mail ≡ true
               mail = subst (λ c. is_posted c talk.mail ≡ true) w.0 h.posted
 
-              by_fate : (agent_sight out.after a ≡ agent_sight st a) ⊎ (agent_sight out.after a ≡ no_agent) → ClientTo s k a talk waiting out ⊎ Leaves s talk out
+              by_fate : (agent_sight out.after a ≡ agent_sight st a) ⊎ (agent_sight out.after a ≡ no_agent)
+                  → ClientTo s k a talk waiting out ⊎ Leaves s talk out
               by_fate (inl kept) = inr (record {
-                client = woken.goes_on ∙ ap going_on h.client ∙ ap (λ x. record { waits = Some block.Not; marks = mark.Frame ∷ []; letters = mail_letters s k x }) (no_mail talk.mail mail);
+                client = woken.goes_on ∙ ap going_on h.client
+                    ∙ ap (λ x. record { waits = Some block.Not; marks = mark.Frame ∷ []; letters = mail_letters s k x }) (no_mail talk.mail mail);
                 untimed = timers_after s t_s h.untimed;
                 place = w.0;
                 told = woken.told ∙ ap (λ x. x ∷ []) none.0;
@@ -427,7 +467,8 @@ module _ (s k a : ℕ) (st : State) (was : Lawful st None) (talk : Talk) (waitin
                 seen = woken.goes_on ∙ ap going_on h.client;
                 posted = posted_on nonexist talk.mail mail;
                 placed = refl;
-                agent = Gone (ended_off m ended) (below_after (made_below (ap is_some m.there))) refl (knows_on a talk.session.agent talk.session.place nonexist (subst (λ c. knows a talk.session.agent talk.session.place c ≡ true) w.0 m.known));
+                agent = Gone (ended_off m ended) (below_after (made_below (ap is_some m.there))) refl (knows_on a talk.session.agent
+                    talk.session.place nonexist (subst (λ c. knows a talk.session.agent talk.session.place c ≡ true) w.0 m.known));
                 heard = heard_one talk.client nonexist (answers_to s out.effects) (woken.told ∙ ap (λ x. x ∷ []) none.0);
               })
 
@@ -451,7 +492,8 @@ others_calls_are_events s k a st was talk waiting h t turn t_s t_k c spared low 
     by_end : Ends c → Becomes s k a talk talk.session talk.store waiting [] [] (step st c) ⊎ Leaves s talk (step st c)
     by_end (Spared fine free) = both s k a st was talk waiting h t turn t_s t_k c low (fine st s) (λ s_k. fine st k)
         (λ row there owns. inl (others_leave_agents st was t a row turn there (ap (eqb t) owns ∙ t_s) c (free a row.owner)))
-    by_end (Destroys v e) = both s k a st was talk waiting h t turn t_s t_k c low (subst (Spares st s) (sym e) (off.0, written)) (λ s_k. subst (Spares st k) (sym e) (off.1, ap (λ x. count_by (is_to v) x.letters) (h.keeper s_k))) fate
+    by_end (Destroys v e) = both s k a st was talk waiting h t turn t_s t_k c low (subst (Spares st s) (sym e) (off.0, written))
+        (λ s_k. subst (Spares st k) (sym e) (off.1, ap (λ x. count_by (is_to v) x.letters) (h.keeper s_k))) fate
       where
         off : (eqb v s ≡ false) × (eqb v k ≡ false)
         off = parts_of (eqb v s) (eqb v k) (subst (λ c. spares_agent s k c ≡ true) e spared)
@@ -459,9 +501,11 @@ others_calls_are_events s k a st was talk waiting h t turn t_s t_k c spared low 
         written : open_letters st s v ≡ 0
         written = ap (λ x. count_by (is_to v) x.letters) h.client ∙ mail_off s k v (apart_of v k off.1) talk.mail
 
-        fate : (row : AgentRow) → agent_of st.agents a ≡ Some row → row.owner ≡ s → (agent_sight (step st c).after a ≡ agent_sight st a) ⊎ (agent_sight (step st c).after a ≡ no_agent)
+        fate : (row : AgentRow) → agent_of st.agents a ≡ Some row → row.owner ≡ s
+            → (agent_sight (step st c).after a ≡ agent_sight st a) ⊎ (agent_sight (step st c).after a ≡ no_agent)
         fate row there owns = elim (cases_eq v a) [
-          | inl same ↦ inr (subst (λ c. agent_sight (step st c).after a ≡ no_agent) (sym (e ∙ ap call.Destroy same)) (destroyed_agents_are_gone st t a row turn there))
+          | inl same
+              ↦ inr (subst (λ c. agent_sight (step st c).after a ≡ no_agent) (sym (e ∙ ap call.Destroy same)) (destroyed_agents_are_gone st t a row turn there))
           | inr other ↦ inl (others_leave_agents st was t a row turn there (ap (eqb t) owns ∙ t_s) c
               (subst (λ c. spares_agent a row.owner c ≡ true) (sym e) (and_from _ _ (ap not (ne_eqb v a other)) (ap not (ap (eqb v) owns ∙ off.0)))))
         ]

@@ -3,10 +3,12 @@ use Rattle.lwp_types.specs.Agents.{after_agent_end, agents_of, deliver, deliver_
 use Rattle.lwp_types.specs.Case.{Case, Check, refusal_case, silent_case, unless, value_case, with_zero}
 use Rattle.lwp_types.specs.Choice.{choice}
 use Rattle.lwp_types.specs.Conditions.{after_wait}
-use Rattle.lwp_types.specs.Death.{answer_joiners, bury, death, destroy, end_agents, refuse_receivers, refuse_sender, refuse_senders, release_all, return_from, run_all_exits, withdraw}
+use Rattle.lwp_types.specs.Death.{answer_joiners, bury, death, destroy, end_agents, refuse_receivers, refuse_sender}
+use Rattle.lwp_types.specs.Death.{refuse_senders, release_all, return_from, run_all_exits, withdraw}
 use Rattle.lwp_types.specs.Exceptions.{caught_marks, exits_of, first_frames, frames, handler_of, later_frames, with_match}
 use Rattle.lwp_types.specs.Exits.{catch_case, exit_case, leave_frame, excnotify_case_by, run_exit, unwind}
-use Rattle.lwp_types.specs.Messages.{after_reply, as_answer, as_received, next_letter, post, receive_by, receivers_of, senders_to, takes_from, with_holding, without_letter}
+use Rattle.lwp_types.specs.Messages.{after_reply, as_answer, as_received, next_letter, post, receive_by, receivers_of}
+use Rattle.lwp_types.specs.Messages.{senders_to, takes_from, with_holding, without_letter}
 use Rattle.lwp_types.specs.MonitorRelease.{grant, last_lock, next_owner, release, without_lock}
 use Rattle.lwp_types.specs.Monitors.{after_exit, after_request, depth_in, enter_case, is_owned_by_other, with_depth}
 use Rattle.lwp_types.specs.State.{Outcome, State, ThreadRow, and_then, for_each, in_order, is_agent, marks_in, passes, still, thread_of, with_marks_of}
@@ -57,11 +59,13 @@ named_append n [] ys one two = two
 named_append n (x ∷ xs) ys one two = (one.0, named_append n xs ys one.1 two)
 
 module _ (n : ℕ) where
-  named_then : (first : Outcome) (more : State → Outcome) → AllNamed n first.effects → AllNamed n (more first.after).effects → AllNamed n (and_then first more).effects
+  named_then : (first : Outcome) (more : State → Outcome) → AllNamed n first.effects → AllNamed n (more first.after).effects
+      → AllNamed n (and_then first more).effects
   unfolding and_then
   named_then first more one two = named_append n first.effects (more first.after).effects one two
 
-  named_each : {A : Type 0} (change : A → State → Outcome) → ((x : A) (s : State) → AllNamed n (change x s).effects) → (xs : List A) (s : State) → AllNamed n (for_each change xs s).effects
+  named_each : {A : Type 0} (change : A → State → Outcome) → ((x : A) (s : State) → AllNamed n (change x s).effects)
+      → (xs : List A) (s : State) → AllNamed n (for_each change xs s).effects
   unfolding for_each
   named_each change named [] s = tt
   named_each change named (x ∷ xs) s = named_then (change x s) (for_each change xs) (named x s) (named_each change named xs (change x s).after)
@@ -85,23 +89,29 @@ module _ (n : ℕ) where
   named_post : (letter : Letter) (s : State) → AllNamed n (post letter s).effects
   named_post letter s = by_test (passes (λ (row : ThreadRow). takes_from letter.from row.block) (thread_of s letter.to))
     where
-      by_test : (b : Bool) → AllNamed n (cond b (unblock (as_answer letter) letter.to (record s { letters = s.letters ++ as_received letter ∷ [] })) (still (record s { letters = s.letters ++ letter ∷ [] }))).effects
+      by_test : (b : Bool)
+          → AllNamed n (cond b (unblock (as_answer letter) letter.to (record s { letters = s.letters ++ as_received letter ∷ [] }))
+          (still (record s { letters = s.letters ++ letter ∷ [] }))).effects
       by_test true = (tt, tt)
       by_test false = tt
 
   named_replied : (u : ℕ) (text : List ℕ) (s : State) → AllNamed n (after_reply u text s).effects
   named_replied u text s = by_agent (is_agent s u)
     where
-      by_agent : (b : Bool) → AllNamed n (cond b (still (record s { letters = without_letter u s.letters; agents = with_holding u false s.agents })) (unblock (answer.Reply text) u (record s { letters = without_letter u s.letters }))).effects
+      by_agent : (b : Bool)
+          → AllNamed n (cond b (still (record s { letters = without_letter u s.letters; agents = with_holding u false s.agents }))
+          (unblock (answer.Reply text) u (record s { letters = without_letter u s.letters }))).effects
       by_agent true = tt
       by_agent false = (tt, tt)
 
   named_waited : (t c : ℕ) (o : Option Lock) (s : State) → AllNamed n (after_wait t c o s).effects
   named_waited t c None s = tt
-  named_waited t c (Some lock) s = named_release lock.mon (after_block (record s { waits = s.waits ++ record { cond = c; tid = t; depth = lock.depth } ∷ [] }) t (block.Waiting c))
+  named_waited t c (Some lock) s =
+      named_release lock.mon (after_block (record s { waits = s.waits ++ record { cond = c; tid = t; depth = lock.depth } ∷ [] }) t (block.Waiting c))
 
   named_end_agent : (a : ℕ) (s : State) → AllNamed n (end_agent a s).effects
-  named_end_agent a s = named_then (for_each (unblock nonexist) (receivers_of s a) s) (λ now. still (after_agent_end a now)) (named_each (unblock nonexist) (λ t s. (tt, tt)) (receivers_of s a) s) tt
+  named_end_agent a s = named_then (for_each (unblock nonexist) (receivers_of s a) s) (λ now. still (after_agent_end a now))
+      (named_each (unblock nonexist) (λ t s. (tt, tt)) (receivers_of s a) s) tt
 
   -- a case, by its checks
   named_unless : (s : State) (checks : List Check) (otherwise : Case) → AllNamed n otherwise.others → AllNamed n (unless s checks otherwise).others
@@ -134,7 +144,9 @@ module _ (n : ℕ) where
   -- ---- deliveries
 
   named_deliver_to : (text : List ℕ) (row : AgentRow) (s : State) → AllNamed n (deliver_to text row s).effects
-  named_deliver_to text row s = named_then (record { after = record s { agents = with_holding row.number true s.agents }; effects = effect.Delivered row.number row.event ∷ [] }) (post (message text row)) (tt, tt) (named_post (message text row) (record s { agents = with_holding row.number true s.agents }))
+  named_deliver_to text row s =
+      named_then (record { after = record s { agents = with_holding row.number true s.agents }; effects = effect.Delivered row.number row.event ∷ [] })
+      (post (message text row)) (tt, tt) (named_post (message text row) (record s { agents = with_holding row.number true s.agents }))
 
   named_time_out : (t : ℕ) (s : State) → AllNamed n (time_out t s).effects
   named_time_out t s = by_sleep (is_asleep_in s t)
@@ -144,7 +156,8 @@ module _ (n : ℕ) where
       by_sleep false = (tt, tt)
 
   named_tick : (s : State) → AllNamed n (tick s).effects
-  named_tick s = named_then (record { after = after_tick s; effects = effect.Ticked (s.now + 1) ∷ [] }) (λ now. for_each time_out (due_threads now) now) (tt, tt) (named_each time_out named_time_out (due_threads (after_tick s)) (after_tick s))
+  named_tick s = named_then (record { after = after_tick s; effects = effect.Ticked (s.now + 1) ∷ [] })
+      (λ now. for_each time_out (due_threads now) now) (tt, tt) (named_each time_out named_time_out (due_threads (after_tick s)) (after_tick s))
 
   pub named_deliver : (s : State) (e : ℕ) (text : List ℕ) → AllNamed n (deliver s e text).effects
   unfolding deliver
@@ -156,7 +169,8 @@ module _ (n : ℕ) where
 
   -- ---- deaths
 
-  named_first : (change : State → Outcome) (changes : List (State → Outcome)) → ((s : State) → AllNamed n (change s).effects) → ((s : State) → AllNamed n (in_order changes s).effects) → (s : State) → AllNamed n (in_order (change ∷ changes) s).effects
+  named_first : (change : State → Outcome) (changes : List (State → Outcome)) → ((s : State) → AllNamed n (change s).effects)
+      → ((s : State) → AllNamed n (in_order changes s).effects) → (s : State) → AllNamed n (in_order (change ∷ changes) s).effects
   unfolding in_order
   named_first change changes one rest s = named_then (change s) (in_order changes) (one s) (rest (change s).after)
 
@@ -236,7 +250,8 @@ received_names s t from mode.Poll None = quiet (λ m. tt) refl
 received_names s t from mode.Poll (Some letter) = quiet (λ m. tt) refl
 received_names s t from mode.Block None = quiet (λ m. tt) refl
 received_names s t from mode.Block (Some letter) = quiet (λ m. tt) refl
-received_names s t from (mode.Until ticks) None = either_case (eqb ticks 0) (refusal_case s error.Timeout) (silent_case (still (after_block_for s t (block.Receiving from) ticks))) (quiet (λ m. tt) refl) (quiet (λ m. tt) refl)
+received_names s t from (mode.Until ticks) None = either_case (eqb ticks 0) (refusal_case s error.Timeout)
+    (silent_case (still (after_block_for s t (block.Receiving from) ticks))) (quiet (λ m. tt) refl) (quiet (λ m. tt) refl)
 received_names s t from (mode.Until ticks) (Some letter) = quiet (λ m. tt) refl
 
 match_names : (s : State) (on_match : Found → Case) (o : Option Found) → ((f : Found) → CaseNames (on_match f)) → CaseNames (with_match s on_match o)
@@ -266,23 +281,27 @@ return_names : (s : State) (t : ℕ) → CaseNames (return_from s t)
 return_names s t = by_frames (nat_le 2 (frames (marks_in s t)))
   where
     by_frames : (b : Bool) → CaseNames (cond b (leave_frame s t) (silent_case (death t s)))
-    by_frames true = quiet (λ m. named_unwind m t (first_frames (frames (marks_in s t) - 1) (marks_in s t)) (later_frames (frames (marks_in s t) - 1) (marks_in s t)) s) refl
+    by_frames true =
+        quiet (λ m. named_unwind m t (first_frames (frames (marks_in s t) - 1) (marks_in s t)) (later_frames (frames (marks_in s t) - 1) (marks_in s t)) s) refl
     by_frames false = quiet (λ m. named_death m t s) refl
 
 -- of every call: the last line is for each that is refused by its checks or else names nobody
 case_names : (s : State) (t : ℕ) → t < s.births → (c : Call) → CaseNames (case_of s t c)
 case_names s t born (call.Create number prio flags) = checked s _ _ (record { others = λ m. tt; own = omega arith })
 case_names s t born (call.Destroy u) = destroy_names s t u
-case_names s t born (call.Sleep ticks) = either_case (eqb ticks 0) (value_case s 0) (silent_case (still (after_block_for s t block.Sleeping ticks))) (quiet (λ m. tt) refl) (quiet (λ m. tt) refl)
+case_names s t born (call.Sleep ticks) =
+    either_case (eqb ticks 0) (value_case s 0) (silent_case (still (after_block_for s t block.Sleeping ticks))) (quiet (λ m. tt) refl) (quiet (λ m. tt) refl)
 case_names s t born call.Me = record { others = λ m. tt; own = born }
 case_names s t born call.GetExit = quiet (λ m. tt) refl
 case_names s t born call.Threads = quiet (λ m. tt) refl
-case_names s t born (call.Send u room text) = checked s _ _ (quiet (λ m. named_post m (record { from = t; to = u; text = text; room = room; received = false }) (after_block s t block.Sending)) refl)
+case_names s t born (call.Send u room text) =
+    checked s _ _ (quiet (λ m. named_post m (record { from = t; to = u; text = text; room = room; received = false }) (after_block s t block.Sending)) refl)
 case_names s t born (call.Recv from how) = checked s _ _ (received_names s t from how (next_letter s.letters t from))
 case_names s t born (call.Reply u text) = checked s _ _ (quiet (λ m. named_replied m u text s) refl)
 case_names s t born call.Senders = quiet (λ m. tt) refl
 case_names s t born call.Receivers = quiet (λ m. tt) refl
-case_names s t born (call.Enter m) = checked s _ _ (either_case (is_owned_by_other s.locks t m) (silent_case (still (after_request s t m))) (enter_case s t m) (quiet (λ m. tt) refl) (quiet (λ m. tt) refl))
+case_names s t born (call.Enter m) = checked s _ _
+    (either_case (is_owned_by_other s.locks t m) (silent_case (still (after_request s t m))) (enter_case s t m) (quiet (λ m. tt) refl) (quiet (λ m. tt) refl))
 case_names s t born (call.MonExit m) = checked s _ _ (quiet (λ n. named_exited n m s) refl)
 case_names s t born (call.MonBreak m) = checked s _ _ (quiet (λ n. named_release n m s) refl)
 case_names s t born call.Monitors = quiet (λ m. tt) refl
@@ -290,7 +309,8 @@ case_names s t born (call.Wait c) = checked s _ _ (quiet (λ m. named_waited m t
 case_names s t born call.Conds = quiet (λ m. tt) refl
 case_names s t born call.Return = return_names s t
 case_names s t born (call.Raise p) = checked s _ _ (match_names s (catch_case s t p) (handler_of s t p) (caught_names s t p))
-case_names s t born (call.ExcNotify p) = checked s _ _ (match_names s (λ f. excnotify_case_by s t p f f.func) (handler_of s t p) (λ f. notified_names s t p f f.func))
+case_names s t born (call.ExcNotify p) =
+    checked s _ _ (match_names s (λ f. excnotify_case_by s t p f f.func) (handler_of s t p) (λ f. notified_names s t p f f.func))
 case_names s t born (call.Bound p) = checked s _ _ (match_names s _ (handler_of s t p) (λ f. quiet (λ m. tt) refl))
 case_names s t born (call.Agent e) = checked s _ _ (record { others = λ m. tt; own = omega arith })
 case_names s t born call.Agents = quiet (λ m. tt) refl
@@ -301,7 +321,8 @@ case_names s t born _ = checked s _ _ (quiet (λ m. tt) refl)
 -- ---- a step
 
 finished_named : (n t : ℕ) (c : Call) (made : Case) → Names n made → AllNamed n (step_outcome t c made).effects
-finished_named n t c made h = (tt, named_append n made.others (own_effects t made.own ++ end_effects made.after) (h.others n) (named_append n (own_effects t made.own) (end_effects made.after) (by_own made.own h.own) (by_end (ends made.after))))
+finished_named n t c made h =
+    (tt, named_append n made.others (own_effects t made.own ++ end_effects made.after) (h.others n) (named_append n (own_effects t made.own) (end_effects made.after) (by_own made.own h.own) (by_end (ends made.after))))
   where
     by_own : (o : Option Answer) → Below n (own_named o) → AllNamed n (own_effects t o)
     by_own None below = tt

@@ -83,7 +83,11 @@ in_whole_sessions B setting server least most s k event place first moves birth 
     begins_s = subst (λ (x : Session B). Begins s (server.serving (session_opening event place)) x.live) after_is begins
 
     born : k < before.live.pod.state.births
-    born = omega (arith, born_below one.live.pod.state was_one k (alive_seen one.live.pod.state k block.Not (ap (λ (v : Sight). v.waits) begins_k.thread)), (gone_fades setting k moves one).births)
+    born = omega (
+      arith,
+      born_below one.live.pod.state was_one k (alive_seen one.live.pod.state k block.Not (ap (λ (v : Sight). v.waits) begins_k.thread)),
+      (gone_fades setting k moves one).births,
+    )
 
     s_k : eqb s k ≡ false
     s_k = ne_eqb s k (λ e. omega (arith, e, low_before, born))
@@ -94,17 +98,30 @@ in_whole_sessions B setting server least most s k event place first moves birth 
         let lives_before = there_before setting k (birth ∷ []) before born lives_after in
         let lives_s = alive_seen after.live.pod.state s block.Not (ap (λ (v : Sight). v.waits) begins_s.thread) in
         let alone = move_alone setting server s k s_k before birth was_before can_end.0
-        (moves_alone setting server s k s_k moves one was_one can_moves (record { body = store_opening; answer = zero_answer; row = begins_k.row; alone = begin_alone s k one.live.pod.state was_one begins_k.thread }) low_before lives_before) low_before lives_after (inr lives_s) in
-        let untold = move_untold setting server s k s_k before birth was_before (moves_untold setting server s k s_k moves one was_one can_moves (moves_untold setting server s k s_k first start was can_first_part (λ a low away. refl))) in
+        (moves_alone setting server s k s_k moves one was_one can_moves
+        (record { body = store_opening; answer = zero_answer; row = begins_k.row; alone = begin_alone s k one.live.pod.state was_one begins_k.thread })
+        low_before lives_before)
+        low_before lives_after (inr lives_s) in
+        let untold = move_untold setting server s k s_k before birth was_before (moves_untold setting server s k s_k moves one was_one
+        can_moves (moves_untold setting server s k s_k first start was can_first_part (λ a low away. refl))) in
         let silent = move_silent setting server s k s_k before birth was_before low_before
-        (moves_silent setting server s k s_k moves one was_one can_moves low_before (moves_silent setting server s k s_k first start was can_first_part (omega (arith, low_before, (gone_fades setting s moves one).births)) (λ a. refl))) in
+        (moves_silent setting server s k s_k moves one was_one can_moves low_before (moves_silent setting server s k s_k first start was
+        can_first_part (omega (arith, low_before, (gone_fades setting s moves one).births)) (λ a. refl))) in
         let stood = Starting lives_s (session_opening event place) zero_answer alone.body alone.answer begins_s.row alone.row
-        (λ a low away. subst (λ xs. TellsAt s k a after.live.pod.state (session_opening event place) zero_answer alone.body alone.answer xs (replies_accepted s a (steps_of after.steps))) (sym (untold a low away))
-        (subst (λ xs. TellsAt s k a after.live.pod.state (session_opening event place) zero_answer alone.body alone.answer [] xs) (sym (silent a)) (meet s k event place a s_k after.live.pod.state was_after begins_s.thread alone.body alone.answer alone.alone low)))
+        (λ a low away. subst
+        (λ xs. TellsAt s k a after.live.pod.state (session_opening event place) zero_answer alone.body alone.answer xs
+        (replies_accepted s a (steps_of after.steps)))
+        (sym (untold a low away))
+        (subst (λ xs. TellsAt s k a after.live.pod.state (session_opening event place) zero_answer alone.body alone.answer [] xs)
+        (sym (silent a)) (meet s k event place a s_k after.live.pod.state was_after begins_s.thread alone.body alone.answer alone.alone low)))
         refl silent in
         let end = after_moves setting later after in
-        phase_first s k end.live.pod.state (S_of setting server s k s_k end.live.rows) (K_of setting server s k s_k end.live.rows) (λ b. texts_delivered b (steps_of end.steps)) (λ b. replies_accepted s b (steps_of end.steps))
-        (gone_stood setting server s k s_k later after was_after can_end.1 stood (alive_seen after.live.pod.state k (block_of None alone.alone.stand) (ap (λ (v : Sight). v.waits) alone.alone.seen)) ends.lives ends.sends short ends.few) a
+        phase_first s k end.live.pod.state (S_of setting server s k s_k end.live.rows) (K_of setting server s k s_k end.live.rows)
+        (λ b. texts_delivered b (steps_of end.steps)) (λ b. replies_accepted s b (steps_of end.steps))
+        (gone_stood setting server s k s_k later after was_after can_end.1 stood
+        (alive_seen after.live.pod.state k (block_of None alone.alone.stand) (ap (λ (v : Sight). v.waits) alone.alone.seen)) ends.lives
+        ends.sends short ends.few)
+        a
 
 -- the two of the line server among the threads of scripts
 unfoldable pub line_server : LineServer body_next

@@ -16,7 +16,8 @@ use Rattle.answer_laws.proofs.Servings.{Grows, gone_grows, moved_fades, moved_la
 use Rattle.answer_laws.specs.Clients.{Step, replies_of_step, replies_accepted, reply_to}
 use Rattle.answer_laws.specs.Events.{machine_of}
 use Rattle.answer_laws.specs.Served.{CanGoOn, after_move, after_moves, step_of, steps_of}
-use Rattle.answer_laws.specs.Written.{ClientsAreWritten, OwnersAloneReply, RepliesAreWritten, is_asking_of, is_reply_of, is_reply_to, owns, replies_are_of, text_lines}
+use Rattle.answer_laws.specs.Written.{ClientsAreWritten, OwnersAloneReply, RepliesAreWritten, is_asking_of}
+use Rattle.answer_laws.specs.Written.{is_reply_of, is_reply_to, owns, replies_are_of, text_lines}
 use Rattle.lwp_types.specs.Names.{names_for_poll}
 use Rattle.pod_laws.proofs.Opening.{Lawful-opening}
 use Rattle.pod_runner.specs.Play.{play}
@@ -24,7 +25,8 @@ use Rattle.pod_runner.specs.Session as Sessions
 use Rattle.pod_runner.specs.Session.{Session, Setting, call_move, move, move_by, move_row, opening_session, row_of, take_move}
 use Rattle.pod_runner.specs.declared.session.Row.{Row}
 use Rattle.pod_runner.specs.declared.session.Took.{Took}
-use Rattle.lwp_serve.specs.Answers.Replies.{Known, agent_event, agents_after, call_in, is_event, known_after_steps, known_after_step, nothing_known, replies_in, reply_line, texts_told, with_agent}
+use Rattle.lwp_serve.specs.Answers.Replies.{Known, agent_event, agents_after, call_in, is_event, known_after_steps, known_after_step}
+use Rattle.lwp_serve.specs.Answers.Replies.{nothing_known, replies_in, reply_line, texts_told, with_agent}
 use Rattle.lwp_serve.specs.Answers.Replies.{agent_born as asked_of}
 use Rattle.script_body.specs.Bodies.{bodies_of}
 use Rattle.script_body.specs.declared.thread_body.ThreadBody.{ThreadBody}
@@ -56,7 +58,8 @@ use Rattle.pod_events.specs.Events.{EventState, is_trapped, rites_event}
 use Rattle.pod_events.specs.Fates.{births_by}
 use Rattle.pod_events.specs.Rites.{after_first_report, as_rites, report_text, reports_after, after_rites}
 use Rattle.pod_events.specs.Step.{event_step}
-use Rattle.pod_events.specs.Traps.{Trapping, after_call as traps_made, after_call_as, after_machine_step, after_trap, after_trap_and_call as traps_called, agent_event_of, but_call, is_catch, is_given, notice, after_refusal, trap_of, trap_refusal}
+use Rattle.pod_events.specs.Traps.{Trapping, after_call as traps_made, after_call_as, after_machine_step, after_trap, after_trap_and_call as traps_called}
+use Rattle.pod_events.specs.Traps.{agent_event_of, but_call, is_catch, is_given, notice, after_refusal, trap_of, trap_refusal}
 use Rattle.pod_laws.proofs.Chosen.{chosen}
 use Rattle.pod_laws.proofs.Elements.{differ}
 use Rattle.pod_laws.proofs.EveryStep.{Lawful-step}
@@ -67,7 +70,8 @@ use Rattle.pod_runner.specs.Calls.{call_after_effect, call_with_answer, call_by_
 use Rattle.pod_runner.specs.Calls.{is_zero as made_zero}
 use Rattle.pod_runner.specs.Session.{thread_in}
 use Rattle.pod_runner.specs.declared.session.Made.{Made}
-use Rattle.std.proofs.Common.{Bool, List, None, Option, Some, [], ap, append-nil, append_assoc, arith, cond, drop, eqb, false, inl, inr, length, not, refl, subst, sym, true, ℕ, ◌&&◌, ◌++◌, ◌<◌, ◌∙◌, ◌∷◌, ◌≡◌, ◌≢◌, ◌≤◌, ◌||◌, ◌⊎◌}
+use Rattle.std.proofs.Common.{Bool, List, None, Option, Some, [], ap, append-nil, append_assoc, arith, cond, drop, eqb, false, inl}
+use Rattle.std.proofs.Common.{inr, length, not, refl, subst, sym, true, ℕ, ◌&&◌, ◌++◌, ◌<◌, ◌∙◌, ◌∷◌, ◌≡◌, ◌≢◌, ◌≤◌, ◌||◌, ◌⊎◌}
 use Rattle.std.proofs.lemmas.Bool.{and_from, and_parts, cases_eq, cases_lt, eq-eqb, eqb-true, ne_eqb, or_parts}
 use Rattle.std.specs.List.{fold, list_all, list_any}
 use Rattle.std.specs.Option.{option_to_list}
@@ -108,7 +112,9 @@ same_call m (e ∷ es) = let rest = same_call (call_after_effect m e) es in let 
     by_effect (effect.Rites a d) = (refl, refl)
 
 -- and is answered as its thread is
-pub heard_call : (m : Made) (es : List Effect) → ((fold call_after_effect m es).zero ≡ last_zero m.zero (answers_to m.tid es)) × ((fold call_after_effect m es).thread ≡ last_thread m.thread (answers_to m.tid es))
+pub heard_call : (m : Made) (es : List Effect)
+    → ((fold call_after_effect m es).zero ≡ last_zero m.zero (answers_to m.tid es))
+    × ((fold call_after_effect m es).thread ≡ last_thread m.thread (answers_to m.tid es))
 heard_call m [] = (refl, refl)
 heard_call m (effect.Answered t a ∷ es) = by_test (eqb t m.tid) (λ n. heard_call n es)
   where
@@ -116,8 +122,12 @@ heard_call m (effect.Answered t a ∷ es) = by_test (eqb t m.tid) (λ n. heard_c
     push None rest = rest
     push (Some a) rest = a ∷ rest
 
-    by_test : (b : Bool) → ((n : Made) → ((fold call_after_effect n es).zero ≡ last_zero n.zero (answers_to n.tid es)) × ((fold call_after_effect n es).thread ≡ last_thread n.thread (answers_to n.tid es)))
-        → ((fold call_after_effect (cond b (call_with_answer m a) m) es).zero ≡ last_zero m.zero (push (cond b (Some a) None) (answers_to m.tid es))) × ((fold call_after_effect (cond b (call_with_answer m a) m) es).thread ≡ last_thread m.thread (push (cond b (Some a) None) (answers_to m.tid es)))
+    by_test : (b : Bool)
+        → ((n : Made)
+        → ((fold call_after_effect n es).zero ≡ last_zero n.zero (answers_to n.tid es))
+        × ((fold call_after_effect n es).thread ≡ last_thread n.thread (answers_to n.tid es)))
+        → ((fold call_after_effect (cond b (call_with_answer m a) m) es).zero ≡ last_zero m.zero (push (cond b (Some a) None) (answers_to m.tid es)))
+        × ((fold call_after_effect (cond b (call_with_answer m a) m) es).thread ≡ last_thread m.thread (push (cond b (Some a) None) (answers_to m.tid es)))
     by_test true rest = rest (call_with_answer m a)
     by_test false rest = rest m
 heard_call m (effect.Called t c ∷ es) = heard_call m es
@@ -190,10 +200,13 @@ callless_but st c = by_choice (choice st)
 callless_said : (after : State) (es : List Effect) (reports : List ℕ) → Callless es → call_of_effects (after_rites after es reports).effects ≡ None
 callless_said after es reports callless = by_armed (is_event_armed after rites_event) reports
   where
-    by_armed : (b : Bool) (rs : List ℕ) → call_of_effects (cond b (after_first_report after es rs) (record { state = after; reports = rs; effects = es })).effects ≡ None
+    by_armed : (b : Bool) (rs : List ℕ)
+        → call_of_effects (cond b (after_first_report after es rs) (record { state = after; reports = rs; effects = es })).effects ≡ None
     by_armed true [] = callless_whole es callless
     by_armed false rs = callless_whole es callless
-    by_armed true (dead ∷ later) = let sent = (deliver after rites_event (report_text dead)).effects in callless_whole (es ++ map (as_rites dead) sent) (callless_then es (map (as_rites dead) sent) callless (callless_rites dead sent (tame_deliver after rites_event (report_text dead))))
+    by_armed true (dead ∷ later) = let sent = (deliver after rites_event (report_text dead)).effects in
+        callless_whole (es ++ map (as_rites dead) sent)
+        (callless_then es (map (as_rites dead) sent) callless (callless_rites dead sent (tame_deliver after rites_event (report_text dead))))
 
 -- ---- threads at rest
 
@@ -211,18 +224,29 @@ abbrev pub IsFree : State → ℕ → Type 0
 IsFree st t = (sight st t).waits ≡ Some block.Not
 
 free_untimed : (st : State) → Lawful st None → (t : ℕ) → IsFree st t → timers_of st.timers t ≡ 0
-free_untimed st was t free = let here = at_of st t block.Not free in omega (arith, was.nine.blocks.4.0 t, count_found_and (is_number t) (λ row. is_timed row.block) st.threads here.row here.known (once_threads st None was.nine t), ap (λ b. one (is_timed b)) here.waits)
+free_untimed st was t free = let here = at_of st t block.Not free in
+    omega (
+      arith,
+      was.nine.blocks.4.0 t,
+      count_found_and (is_number t) (λ row. is_timed row.block) st.threads here.row here.known (once_threads st None was.nine t),
+      ap (λ b. one (is_timed b)) here.waits,
+    )
 
 pub chosen_free : (st : State) → Lawful st None → (t : ℕ) → choice st ≡ Some t → IsFree st t
 chosen_free st was t turn =
     let run = chosen st was.nine t turn in
-    ap (option_map (λ (row : ThreadRow). row.block)) run.known ∙ ap Some (free_is run.row.block (and_parts (not run.row.suspended) (is_not_blocked run.row.block) run.eligible).1)
+    ap (option_map (λ (row : ThreadRow). row.block)) run.known
+    ∙ ap Some (free_is run.row.block (and_parts (not run.row.suspended) (is_not_blocked run.row.block) run.eligible).1)
 
 -- a report tells it nothing
-unreported : (t dead : ℕ) (after : State) → Lawful after None → IsFree after t → answers_to t (map (as_rites dead) (deliver after rites_event (report_text dead)).effects) ≡ []
-unreported t dead after was free = rites_same t dead (deliver after rites_event (report_text dead)).effects ∙ by_fate (deliveries_leave_it after was t (attends_seen after t block.Not free refl) (free_untimed after was t free) rites_event (report_text dead))
+unreported : (t dead : ℕ) (after : State) → Lawful after None → IsFree after t
+    → answers_to t (map (as_rites dead) (deliver after rites_event (report_text dead)).effects) ≡ []
+unreported t dead after was free = rites_same t dead (deliver after rites_event (report_text dead)).effects
+    ∙ by_fate (deliveries_leave_it after was t (attends_seen after t block.Not free refl) (free_untimed after was t free) rites_event (report_text dead))
   where
-    by_fate : IsLeft t after (deliver after rites_event (report_text dead)) ⊎ IsWoken t (IsDelivered (report_text dead)) after (deliver after rites_event (report_text dead)) → answers_to t (deliver after rites_event (report_text dead)).effects ≡ []
+    by_fate : IsLeft t after (deliver after rites_event (report_text dead))
+        ⊎ IsWoken t (IsDelivered (report_text dead)) after (deliver after rites_event (report_text dead))
+        → answers_to t (deliver after rites_event (report_text dead)).effects ≡ []
     by_fate (inl left) = left.quiet
     by_fate (inr woken) = absurd (let bad : Some block.Not ≡ Some (block.Receiving woken.from) = sym free ∙ woken.waited in cc)
 
@@ -271,19 +295,23 @@ module _ (t : ℕ) (c : Call) where
       by_armed false rs = h
       by_armed true (dead ∷ later) = headed_append es (map (as_rites dead) (deliver after rites_event (report_text dead)).effects) h
 
-  said_answers : (after : State) (es : List Effect) (reports : List ℕ) → Lawful after None → IsFree after t → answers_to t (after_rites after es reports).effects ≡ answers_to t es
+  said_answers : (after : State) (es : List Effect) (reports : List ℕ) → Lawful after None → IsFree after t
+      → answers_to t (after_rites after es reports).effects ≡ answers_to t es
   said_answers after es reports was free = by_armed (is_event_armed after rites_event) reports
     where
-      by_armed : (b : Bool) (rs : List ℕ) → answers_to t (cond b (after_first_report after es rs) (record { state = after; reports = rs; effects = es })).effects ≡ answers_to t es
+      by_armed : (b : Bool) (rs : List ℕ)
+          → answers_to t (cond b (after_first_report after es rs) (record { state = after; reports = rs; effects = es })).effects ≡ answers_to t es
       by_armed true [] = refl
       by_armed false rs = refl
-      by_armed true (dead ∷ later) = answers_append t es (map (as_rites dead) (deliver after rites_event (report_text dead)).effects) ∙ ap (λ xs. answers_to t es ++ xs) (unreported t dead after was free) ∙ append-nil (answers_to t es)
+      by_armed true (dead ∷ later) = answers_append t es (map (as_rites dead) (deliver after rites_event (report_text dead)).effects)
+          ∙ ap (λ xs. answers_to t es ++ xs) (unreported t dead after was free) ∙ append-nil (answers_to t es)
 
 -- a report takes no number back
 said_births : (after : State) (es : List Effect) (reports : List ℕ) → after.births ≤ (after_rites after es reports).state.births
 said_births after es reports = by_armed (is_event_armed after rites_event) reports
   where
-    by_armed : (b : Bool) (rs : List ℕ) → after.births ≤ (cond b (after_first_report after es rs) (record { state = after; reports = rs; effects = es })).state.births
+    by_armed : (b : Bool) (rs : List ℕ)
+        → after.births ≤ (cond b (after_first_report after es rs) (record { state = after; reports = rs; effects = es })).state.births
     by_armed true [] = omega arith
     by_armed false rs = omega arith
     by_armed true (dead ∷ later) = (deliver_fades 0 after rites_event (report_text dead)).births
@@ -300,7 +328,8 @@ module _ (st : State) (was : Lawful st None) (t : ℕ) (turn : choice st ≡ Som
   headed_made trapped c = by_trap (trap_of c)
     where
       headed_step : Headed t c (step st c).effects
-      headed_step = ap (λ (out : Outcome). out.effects) (step_is c) ∙ ap (λ zs. effect.Called t c ∷ zs) (sym (ap (λ (out : Outcome). drop 1 out.effects) (step_is c)))
+      headed_step = ap (λ (out : Outcome). out.effects) (step_is c)
+          ∙ ap (λ zs. effect.Called t c ∷ zs) (sym (ap (λ (out : Outcome). drop 1 out.effects) (step_is c)))
 
       by_refusal : (e : ℕ) (o : Option LwpErr) → Headed t c (after_trap st trapped t c e o).effects
       by_refusal e None = refl
@@ -321,7 +350,9 @@ module _ (st : State) (was : Lawful st None) (t : ℕ) (turn : choice st ≡ Som
     there : list_any is_zero (answers_to t out.effects) ≡ true → IsRepliedTo t v st
     free : IsFree out.after t
 
-  replied_made : (v : ℕ) (text : List ℕ) (made : Case) (xs : List Answer) → answers_to t made.others ++ option_to_list made.own ≡ xs → last_zero false xs ≡ list_any is_zero xs → (list_any is_zero xs ≡ true → IsRepliedTo t v st) → IsFree made.after t → Replied v (step_outcome t (call.Reply v text) made)
+  replied_made : (v : ℕ) (text : List ℕ) (made : Case) (xs : List Answer) → answers_to t made.others ++ option_to_list made.own ≡ xs
+      → last_zero false xs ≡ list_any is_zero xs → (list_any is_zero xs ≡ true → IsRepliedTo t v st) → IsFree made.after t
+      → Replied v (step_outcome t (call.Reply v text) made)
   replied_made v text made xs is agrees there free =
       let told_so = told_itself t (call.Reply v text) made ∙ is in
       record {
@@ -344,19 +375,35 @@ module _ (st : State) (was : Lawful st None) (t : ℕ) (turn : choice st ≡ Som
           here = at_of st t block.Not free_now
 
           by_same : (v ≡ t) ⊎ (v ≢ t) → IsFree (unblock (answer.Reply text) v (record st { letters = without_letter v st.letters })).after t
-          by_same (inl same) = ap (option_map (λ (row : ThreadRow). row.block)) (subst (λ n. thread_of (unblock (answer.Reply text) n (record st { letters = without_letter v st.letters })).after t ≡ Some (record here.row { block = block.Not })) (sym same) (blocked_row t block.Not st.threads here.row here.known))
+          by_same (inl same) = ap (option_map (λ (row : ThreadRow). row.block))
+              (subst (λ n. thread_of (unblock (answer.Reply text) n (record st { letters = without_letter v st.letters })).after t
+              ≡ Some (record here.row { block = block.Not })) (sym same) (blocked_row t block.Not st.threads here.row here.known))
           by_same (inr other) = ap (option_map (λ (row : ThreadRow). row.block)) (other_row v t block.Not st.threads other) ∙ free_now
 
       by_kind : IsRepliedTo t v st → (b d : Bool) → eqb v t ≡ d
-          → (case_of st t (call.Reply v text) ≡ with_zero (cond b (still (record st { letters = without_letter v st.letters; agents = with_holding v false st.agents })) (unblock (answer.Reply text) v (record st { letters = without_letter v st.letters }))))
+          → (case_of st t (call.Reply v text)
+          ≡ with_zero (cond b (still (record st { letters = without_letter v st.letters; agents = with_holding v false st.agents }))
+          (unblock (answer.Reply text) v (record st { letters = without_letter v st.letters }))))
           → Replied v (step_outcome t (call.Reply v text) (case_of st t (call.Reply v text)))
-      by_kind there true d e is = subst (λ made. Replied v (step_outcome t (call.Reply v text) made)) (sym is) (replied_made v text (with_zero (still (record st { letters = without_letter v st.letters; agents = with_holding v false st.agents }))) (zero_answer ∷ []) refl refl (λ any. there) free_now)
-      by_kind there false true e is = subst (λ made. Replied v (step_outcome t (call.Reply v text) made)) (sym is) (replied_made v text (with_zero (unblock (answer.Reply text) v (record st { letters = without_letter v st.letters }))) (answer.Reply text ∷ zero_answer ∷ []) (rw e refl) refl (λ any. there) (woken true e))
-      by_kind there false false e is = subst (λ made. Replied v (step_outcome t (call.Reply v text) made)) (sym is) (replied_made v text (with_zero (unblock (answer.Reply text) v (record st { letters = without_letter v st.letters }))) (zero_answer ∷ []) (rw e refl) refl (λ any. there) (woken false e))
+      by_kind there true d e is = subst (λ made. Replied v (step_outcome t (call.Reply v text) made)) (sym is) (replied_made v text
+          (with_zero (still (record st { letters = without_letter v st.letters; agents = with_holding v false st.agents })))
+          (zero_answer ∷ []) refl refl (λ any. there) free_now)
+      by_kind there false true e is = subst (λ made. Replied v (step_outcome t (call.Reply v text) made)) (sym is)
+          (replied_made v text (with_zero (unblock (answer.Reply text) v (record st { letters = without_letter v st.letters })))
+          (answer.Reply text ∷ zero_answer ∷ []) (rw e refl) refl (λ any. there) (woken true e))
+      by_kind there false false e is = subst (λ made. Replied v (step_outcome t (call.Reply v text) made)) (sym is)
+          (replied_made v text (with_zero (unblock (answer.Reply text) v (record st { letters = without_letter v st.letters })))
+          (zero_answer ∷ []) (rw e refl) refl (λ any. there) (woken false e))
 
-      by_checks : Checked st (is_no_id st v ∷ (is_none (received_letter st.letters t v), error.NoWait) ∷ (passes (λ (letter : Letter). nat_lt letter.room (length text)) (received_letter st.letters t v), error.InvalidArg) ∷ []) (with_zero (after_reply v text st)) → Replied v (step_outcome t (call.Reply v text) (case_of st t (call.Reply v text)))
-      by_checks (Struck e is) = subst (λ made. Replied v (step_outcome t (call.Reply v text) made)) (sym is) (replied_made v text (refusal_case st e) (answer.Refused e ∷ []) refl refl (λ any. absurd (cc)) free_now)
-      by_checks (Free passed is) = by_kind (record { there = not_not (is_id st v) passed.0; owned = receivers_own st was t v passed.1.0 }) (is_agent st v) (eqb v t) refl is
+      by_checks : Checked st
+          (is_no_id st v ∷ (is_none (received_letter st.letters t v), error.NoWait)
+          ∷ (passes (λ (letter : Letter). nat_lt letter.room (length text)) (received_letter st.letters t v), error.InvalidArg) ∷ [])
+          (with_zero (after_reply v text st))
+          → Replied v (step_outcome t (call.Reply v text) (case_of st t (call.Reply v text)))
+      by_checks (Struck e is) = subst (λ made. Replied v (step_outcome t (call.Reply v text) made)) (sym is)
+          (replied_made v text (refusal_case st e) (answer.Refused e ∷ []) refl refl (λ any. absurd (cc)) free_now)
+      by_checks (Free passed is) =
+          by_kind (record { there = not_not (is_id st v) passed.0; owned = receivers_own st was t v passed.1.0 }) (is_agent st v) (eqb v t) refl is
 
   -- ---- an agent
 
@@ -371,28 +418,46 @@ module _ (st : State) (was : Lawful st None) (t : ℕ) (turn : choice st ≡ Som
       ask : Call
       ask = call.Agent e
 
-      new_of : (out : Outcome) (xs : List Answer) → answers_to t out.effects ≡ xs → ((b : ℕ) → last_thread None xs ≡ Some b → IsGiven b st out.after) → (b : ℕ) → last_thread None (answers_to t out.effects) ≡ Some b → IsGiven b st out.after
+      new_of : (out : Outcome) (xs : List Answer) → answers_to t out.effects ≡ xs
+          → ((b : ℕ) → last_thread None xs ≡ Some b → IsGiven b st out.after) → (b : ℕ)
+          → last_thread None (answers_to t out.effects) ≡ Some b → IsGiven b st out.after
       new_of out xs is new b given = new b (ap (last_thread None) (sym is) ∙ given)
 
-      by_checks : Checked st (((eqb e 0) || nat_lt 32 e, error.InvalidArg) ∷ is_full 256 st.agents ∷ is_at_limit st.births st ∷ []) (answer_case (after_agent_birth st t e) (answer.Thread st.births))
-          → ((b : ℕ) → last_thread None (answers_to t (step_outcome t (call.Agent e) (case_of st t (call.Agent e))).effects) ≡ Some b → IsGiven b st (step_outcome t (call.Agent e) (case_of st t (call.Agent e))).after) × IsFree (step_outcome t (call.Agent e) (case_of st t (call.Agent e))).after t
+      by_checks : Checked st (((eqb e 0) || nat_lt 32 e, error.InvalidArg) ∷ is_full 256 st.agents ∷ is_at_limit st.births st ∷ [])
+          (answer_case (after_agent_birth st t e) (answer.Thread st.births))
+          → ((b : ℕ) → last_thread None (answers_to t (step_outcome t (call.Agent e) (case_of st t (call.Agent e))).effects) ≡ Some b
+          → IsGiven b st (step_outcome t (call.Agent e) (case_of st t (call.Agent e))).after)
+          × IsFree (step_outcome t (call.Agent e) (case_of st t (call.Agent e))).after t
       by_checks (Struck why is) = (
-        new_of (step_outcome t (call.Agent e) (case_of st t (call.Agent e))) (answer.Refused why ∷ []) (ap (λ made. answers_to t (step_outcome t (call.Agent e) made).effects) is ∙ told_itself t (call.Agent e) (refusal_case st why)) (λ b bad. absurd (cc)),
+        new_of (step_outcome t (call.Agent e) (case_of st t (call.Agent e))) (answer.Refused why ∷ [])
+            (ap (λ made. answers_to t (step_outcome t (call.Agent e) made).effects) is ∙ told_itself t (call.Agent e) (refusal_case st why))
+            (λ b bad. absurd (cc)),
         ap (λ made. (sight (step_outcome t (call.Agent e) made).after t).waits) is ∙ free_now,
       )
       by_checks (Free passed is) = (
-        new_of (step_outcome t (call.Agent e) (case_of st t (call.Agent e))) (answer.Thread st.births ∷ []) (ap (λ made. answers_to t (step_outcome t (call.Agent e) made).effects) is ∙ told_itself t (call.Agent e) (answer_case (after_agent_birth st t e) (answer.Thread st.births))) (λ b same. record { next = sym (unsome same); born = omega (arith, unsome same, ap (λ (made : Case). made.after.births) is) }),
+        new_of (step_outcome t (call.Agent e) (case_of st t (call.Agent e))) (answer.Thread st.births ∷ [])
+            (ap (λ made. answers_to t (step_outcome t (call.Agent e) made).effects) is
+            ∙ told_itself t (call.Agent e) (answer_case (after_agent_birth st t e) (answer.Thread st.births)))
+            (λ b same.
+            record { next = sym (unsome same); born = omega (arith, unsome same, ap (λ (made : Case). made.after.births) is) }),
         ap (λ made. (sight (step_outcome t (call.Agent e) made).after t).waits) is ∙ free_now,
       )
 
-      stepped_so : ((b : ℕ) → last_thread None (answers_to t (step st (call.Agent e)).effects) ≡ Some b → IsGiven b st (step st (call.Agent e)).after) × IsFree (step st (call.Agent e)).after t
-      stepped_so = subst (λ (out : Outcome). ((b : ℕ) → last_thread None (answers_to t out.effects) ≡ Some b → IsGiven b st out.after) × IsFree out.after t) (sym (step_is (call.Agent e))) (by_checks (checked st _ _))
+      stepped_so : ((b : ℕ) → last_thread None (answers_to t (step st (call.Agent e)).effects) ≡ Some b → IsGiven b st (step st (call.Agent e)).after)
+          × IsFree (step st (call.Agent e)).after t
+      stepped_so = subst
+          (λ (out : Outcome). ((b : ℕ) → last_thread None (answers_to t out.effects) ≡ Some b → IsGiven b st out.after) × IsFree out.after t)
+          (sym (step_is (call.Agent e))) (by_checks (checked st _ _))
 
       refused_so : answers_to t (effect.Called t (call.Agent e) ∷ effect.Answered t (answer.Refused error.InUse) ∷ []) ≡ answer.Refused error.InUse ∷ []
       refused_so = rw (eq-eqb t t refl) refl
 
       by_agent : (b : Bool) → Given (cond b (after_refusal st trapped t (call.Agent e) error.InUse) (after_machine_step trapped (step st (call.Agent e))))
-      by_agent true = record { new = λ b given. absurd (let bad : None ≡ Some b = ap (last_thread None) (sym refused_so) ∙ given in cc); lawful = was; free = free_now }
+      by_agent true = record {
+        new = λ b given. absurd (let bad : None ≡ Some b = ap (last_thread None) (sym refused_so) ∙ given in cc);
+        lawful = was;
+        free = free_now;
+      }
       by_agent false = record { new = stepped_so.0; lawful = Lawful-step st was (call.Agent e); free = stepped_so.1 }
 
   -- ---- any call
@@ -412,7 +477,8 @@ module _ (st : State) (was : Lawful st None) (t : ℕ) (turn : choice st ≡ Som
     After c = (after_rites (traps_made st trapped t c).state (traps_made st trapped t c).effects reports).state
 
     abbrev ReplyGoal : ℕ → Call → Type 0
-    ReplyGoal v c = (last_zero false (answers_to t (drop 1 (All c))) ≡ list_any is_zero (answers_to t (drop 1 (All c)))) × (list_any is_zero (answers_to t (drop 1 (All c))) ≡ true → IsRepliedTo t v st)
+    ReplyGoal v c = (last_zero false (answers_to t (drop 1 (All c))) ≡ list_any is_zero (answers_to t (drop 1 (All c))))
+        × (list_any is_zero (answers_to t (drop 1 (All c))) ≡ true → IsRepliedTo t v st)
 
     abbrev AgentGoal : ℕ → Call → Type 0
     AgentGoal b c = last_thread None (answers_to t (drop 1 (All c))) ≡ Some b → IsGiven b st (After c)
@@ -420,7 +486,9 @@ module _ (st : State) (was : Lawful st None) (t : ℕ) (turn : choice st ≡ Som
     reply_goal : (v : ℕ) (text : List ℕ) → ReplyGoal v (call.Reply v text)
     reply_goal v text =
         let r = replied_step v text in
-        let told_so = rest_told (call.Reply v text) ∙ said_answers t (call.Reply v text) (step st (call.Reply v text)).after (step st (call.Reply v text)).effects reports (Lawful-step st was (call.Reply v text)) r.free in (
+        let told_so = rest_told (call.Reply v text)
+        ∙ said_answers t (call.Reply v text) (step st (call.Reply v text)).after (step st (call.Reply v text)).effects reports
+        (Lawful-step st was (call.Reply v text)) r.free in (
           ap (last_zero false) told_so ∙ r.agrees ∙ ap (list_any is_zero) (sym told_so),
           λ any. r.there (ap (list_any is_zero) (sym told_so) ∙ any),
         )
@@ -429,10 +497,13 @@ module _ (st : State) (was : Lawful st None) (t : ℕ) (turn : choice st ≡ Som
     agent_goal e b given =
         let g = given_made trapped e in
         let out = traps_made st trapped t (call.Agent e) in
-        let new = g.new b (ap (last_thread None) (sym (rest_told (call.Agent e) ∙ said_answers t (call.Agent e) out.state out.effects reports g.lawful g.free)) ∙ given) in
+        let new = g.new b (ap (last_thread None) (sym (rest_told (call.Agent e) ∙ said_answers t (call.Agent e) out.state out.effects reports g.lawful g.free))
+        ∙ given) in
         record { next = new.next; born = omega (arith, new.born, said_births out.state out.effects reports) }
 
-  says_made : (trapped : List Bool) (c : Call) (reports : List ℕ) → Says t st c (after_rites (traps_made st trapped t c).state (traps_made st trapped t c).effects reports).state (after_rites (traps_made st trapped t c).state (traps_made st trapped t c).effects reports).effects
+  says_made : (trapped : List Bool) (c : Call) (reports : List ℕ)
+      → Says t st c (after_rites (traps_made st trapped t c).state (traps_made st trapped t c).effects reports).state
+      (after_rites (traps_made st trapped t c).state (traps_made st trapped t c).effects reports).effects
   says_made trapped c reports = record {
     rest = drop 1 (All trapped reports c);
     is = headed_all trapped reports c;
@@ -442,18 +513,24 @@ module _ (st : State) (was : Lawful st None) (t : ℕ) (turn : choice st ≡ Som
     };
   }
 
-trapped_said : (t e : ℕ) (after : State) (es : List Effect) (reports : List ℕ) → (after_rites after (effect.Trapped t e ∷ es) reports).effects ≡ effect.Trapped t e ∷ (after_rites after es reports).effects
+trapped_said : (t e : ℕ) (after : State) (es : List Effect) (reports : List ℕ)
+    → (after_rites after (effect.Trapped t e ∷ es) reports).effects ≡ effect.Trapped t e ∷ (after_rites after es reports).effects
 trapped_said t e after es reports = by_armed (is_event_armed after rites_event) reports
   where
-    by_armed : (b : Bool) (rs : List ℕ) → (cond b (after_first_report after (effect.Trapped t e ∷ es) rs) (record { state = after; reports = rs; effects = effect.Trapped t e ∷ es })).effects ≡ effect.Trapped t e ∷ (cond b (after_first_report after es rs) (record { state = after; reports = rs; effects = es })).effects
+    by_armed : (b : Bool) (rs : List ℕ)
+        → (cond b (after_first_report after (effect.Trapped t e ∷ es) rs) (record { state = after; reports = rs; effects = effect.Trapped t e ∷ es })).effects
+        ≡ effect.Trapped t e ∷ (cond b (after_first_report after es rs) (record { state = after; reports = rs; effects = es })).effects
     by_armed true [] = refl
     by_armed false rs = refl
     by_armed true (dead ∷ later) = refl
 
-trapped_state : (t e : ℕ) (after : State) (es : List Effect) (reports : List ℕ) → (after_rites after es reports).state ≡ (after_rites after (effect.Trapped t e ∷ es) reports).state
+trapped_state : (t e : ℕ) (after : State) (es : List Effect) (reports : List ℕ)
+    → (after_rites after es reports).state ≡ (after_rites after (effect.Trapped t e ∷ es) reports).state
 trapped_state t e after es reports = by_armed (is_event_armed after rites_event) reports
   where
-    by_armed : (b : Bool) (rs : List ℕ) → (cond b (after_first_report after es rs) (record { state = after; reports = rs; effects = es })).state ≡ (cond b (after_first_report after (effect.Trapped t e ∷ es) rs) (record { state = after; reports = rs; effects = effect.Trapped t e ∷ es })).state
+    by_armed : (b : Bool) (rs : List ℕ)
+        → (cond b (after_first_report after es rs) (record { state = after; reports = rs; effects = es })).state
+        ≡ (cond b (after_first_report after (effect.Trapped t e ∷ es) rs) (record { state = after; reports = rs; effects = effect.Trapped t e ∷ es })).state
     by_armed true [] = refl
     by_armed false rs = refl
     by_armed true (dead ∷ later) = refl
@@ -466,20 +543,32 @@ module _ (es : EventState) (was : Lawful es.state None) (t : ℕ) (turn : choice
   FormOf out = Form t es.state c out.after out.effects
 
   form_by : (p : Option ℕ) → FormOf (Done (traps_called es.state es.trapped t c p))
-  form_by None = let out = traps_made es.state es.trapped t c in Plain (says_made es.state was t turn es.trapped c (reports_after es.state out.state es.reports out.effects))
+  form_by None = let out = traps_made es.state es.trapped t c in
+      Plain (says_made es.state was t turn es.trapped c (reports_after es.state out.state es.reports out.effects))
   form_by (Some e) = by_given (passes is_given (notice es.state t e)) (passes is_catch (notice es.state t e))
     where
-      muffled : (d : Call) → FormOf (Done (record { state = (step es.state d).after; trapped = es.trapped; effects = effect.Trapped t e ∷ drop 1 (step es.state d).effects }))
+      muffled : (d : Call)
+          → FormOf (Done (record { state = (step es.state d).after; trapped = es.trapped; effects = effect.Trapped t e ∷ drop 1 (step es.state d).effects }))
       muffled d =
           let fs = effect.Trapped t e ∷ drop 1 (step es.state d).effects in
           let reports = reports_after es.state (step es.state d).after es.reports fs in
-          Muffled (callless_said (step es.state d).after fs reports (λ ys none. callless_but es.state d ys none)) (λ s a. mute_said s a (step es.state d).after fs reports (λ ys none. mute_but s a es.state d ys none))
+          Muffled (callless_said (step es.state d).after fs reports (λ ys none. callless_but es.state d ys none))
+          (λ s a. mute_said s a (step es.state d).after fs reports (λ ys none. mute_but s a es.state d ys none))
 
-      by_given : (b d : Bool) → FormOf (Done (let out = cond b (traps_made es.state es.trapped t c) (cond d (after_machine_step es.trapped (but_call (step es.state (call.ExcNotify e)))) (after_machine_step es.trapped (but_call (step es.state (call.Destroy t))))) in record out { effects = effect.Trapped t e ∷ out.effects }))
+      by_given : (b d : Bool)
+          → FormOf
+          (Done
+          (let out = cond b (traps_made es.state es.trapped t c) (cond d (after_machine_step es.trapped
+          (but_call (step es.state (call.ExcNotify e)))) (after_machine_step es.trapped (but_call (step es.state (call.Destroy t))))) in
+          record out {
+            effects = effect.Trapped t e ∷ out.effects;
+          }))
       by_given true d =
           let out = traps_made es.state es.trapped t c in
           let reports = reports_after es.state out.state es.reports (effect.Trapped t e ∷ out.effects) in
-          Behind e (after_rites out.state out.effects reports).effects (trapped_said t e out.state out.effects reports) (subst (λ (now : State). Says t es.state c now (after_rites out.state out.effects reports).effects) (trapped_state t e out.state out.effects reports) (says_made es.state was t turn es.trapped c reports))
+          Behind e (after_rites out.state out.effects reports).effects (trapped_said t e out.state out.effects reports)
+          (subst (λ (now : State). Says t es.state c now (after_rites out.state out.effects reports).effects)
+          (trapped_state t e out.state out.effects reports) (says_made es.state was t turn es.trapped c reports))
       by_given false true = muffled (call.ExcNotify e)
       by_given false false = muffled (call.Destroy t)
 
@@ -534,7 +623,8 @@ eqb_turned m n = by_same (cases_eq m n)
     by_same (inl same) = eq-eqb m n same ∙ sym (eq-eqb n m (sym same))
     by_same (inr other) = ne_eqb m n other ∙ sym (ne_eqb n m (λ e. other (sym e)))
 
-one_line : (text : List ℕ) (z p q d any : Bool) → p ≡ q → (d ≡ true → any ≡ z) → (not (q && z) || d) ≡ true → cond z (cond (p || false) (text ++ 10 ∷ []) []) [] ≡ text_lines (cond (d && any) (cond q (text ∷ []) []) [])
+one_line : (text : List ℕ) (z p q d any : Bool) → p ≡ q → (d ≡ true → any ≡ z) → (not (q && z) || d) ≡ true
+    → cond z (cond (p || false) (text ++ 10 ∷ []) []) [] ≡ text_lines (cond (d && any) (cond q (text ∷ []) []) [])
 one_line text false p q true true same agrees of = differ (agrees refl)
 one_line text false p q true false same agrees of = refl
 one_line text false p q false any same agrees of = refl
@@ -572,7 +662,8 @@ module _ (s e a : ℕ) (st after : State) (was : Lawful st None) (t : ℕ) where
     z = last_zero false (answers_to t rest)
 
     -- by the call's own words
-    facts_made : (c : Call) → Bears c → Heard t st c after (answers_to t rest) → (m : Made) → m.call ≡ c → m.tid ≡ t → m.zero ≡ last_zero false (answers_to t rest) → m.thread ≡ last_thread None (answers_to t rest)
+    facts_made : (c : Call) → Bears c → Heard t st c after (answers_to t rest) → (m : Made) → m.call ≡ c → m.tid ≡ t
+        → m.zero ≡ last_zero false (answers_to t rest) → m.thread ≡ last_thread None (answers_to t rest)
         → Facts s e a st after (Some m) (replies_of_step s a (effect.Called t c ∷ rest))
     facts_made c bears heard m call_is tid_is zero_is thread_is = by_kind (kind_of c)
       where
@@ -593,18 +684,22 @@ module _ (s e a : ℕ) (st after : State) (was : Lawful st None) (t : ℕ) where
 
         -- what asks for no agent
         not_asking : (o : Option ℕ) → o ≡ None → agent_event c ≡ o → is_asking_of s a (Some m) ≡ true → (a ≡ st.births) × IsOwned s a after
-        not_asking o none is asking = differ (sym asking ∙ asking_is ∙ ap (λ o. (is_some o && passes (λ b. eqb b a) (last_thread None (answers_to t rest))) && eqb t s) (is ∙ none))
+        not_asking o none is asking =
+            differ (sym asking ∙ asking_is ∙ ap (λ o. (is_some o && passes (λ b. eqb b a) (last_thread None (answers_to t rest))) && eqb t s) (is ∙ none))
 
         -- what is no reply to a
         not_reply : is_reply_to a c ≡ false → is_reply_of s a (Some m) ≡ true
         not_reply none = of_is ∙ ap (λ b. not (b && z) || eqb t s) none
 
         never : (o : Option ℕ) → o ≡ None → (b : ℕ) → asked (Some e) (Some m) ≡ Some b → agent_event c ≡ o → b ≡ st.births
-        never o none b given is = absurd (let bad : None ≡ Some b = sym (ap (λ o. cond (is_event (Some e) o) (last_thread None (answers_to t rest)) None) (is ∙ none)) ∙ sym asked_is ∙ given in cc)
+        never o none b given is = absurd (let bad : None
+            ≡ Some b = sym (ap (λ o. cond (is_event (Some e) o) (last_thread None (answers_to t rest)) None) (is ∙ none)) ∙ sym asked_is ∙ given in
+            cc)
 
         by_kind : Kind c → Facts s e a st after (Some m) (replies_of_step s a (effect.Called t c ∷ rest))
         by_kind (IsOther lines replies unsaid asks) = record {
-          written = λ of. told_is (a ∷ []) ∙ none_of z (reply_line (a ∷ []) c) (lines (a ∷ [])) ∙ ap text_lines (sym (no_line a (eqb t s && list_any (is_told s is_zero) rest) c (replies a)));
+          written = λ of. told_is (a ∷ []) ∙ none_of z (reply_line (a ∷ []) c) (lines (a ∷ []))
+              ∙ ap text_lines (sym (no_line a (eqb t s && list_any (is_told s is_zero) rest) c (replies a)));
           unborn = λ low. no_line a (eqb t s && list_any (is_told s is_zero) rest) c (replies a);
           new = λ b given. never None refl b given asks;
           untold = told_is [] ∙ none_of z (reply_line [] c) (lines []);
@@ -613,43 +708,54 @@ module _ (s e a : ℕ) (st after : State) (was : Lawful st None) (t : ℕ) where
           asks = not_asking None refl asks;
         }
         by_kind (IsAgent n is) = record {
-          written = λ of. told_is (a ∷ []) ∙ none_of z (reply_line (a ∷ []) c) (ap (reply_line (a ∷ [])) is) ∙ ap text_lines (sym (no_line a (eqb t s && list_any (is_told s is_zero) rest) c (ap (reply_to a) is)));
+          written = λ of. told_is (a ∷ []) ∙ none_of z (reply_line (a ∷ []) c) (ap (reply_line (a ∷ [])) is)
+              ∙ ap text_lines (sym (no_line a (eqb t s && list_any (is_told s is_zero) rest) c (ap (reply_to a) is)));
           unborn = λ low. no_line a (eqb t s && list_any (is_told s is_zero) rest) c (ap (reply_to a) is);
-          new = λ b given. by_event b (eqb n e) (sym (ap (λ o. cond (is_event (Some e) o) (last_thread None (answers_to t rest)) None) (ap agent_event is)) ∙ sym asked_is ∙ given);
+          new = λ b given. by_event b (eqb n e)
+              (sym (ap (λ o. cond (is_event (Some e) o) (last_thread None (answers_to t rest)) None) (ap agent_event is)) ∙ sym asked_is ∙ given);
           untold = told_is [] ∙ none_of z (reply_line [] c) (ap (reply_line []) is);
           unreplied = λ low. not_reply (ap (is_reply_to a) is);
           of_owner = λ owned. not_reply (ap (is_reply_to a) is);
-          asks = λ asking. by_parts (and_parts (is_some (agent_event c) && passes (λ b. eqb b a) (last_thread None (answers_to t rest))) (eqb t s) (sym asking_is ∙ asking));
+          asks = λ asking.
+              by_parts (and_parts (is_some (agent_event c) && passes (λ b. eqb b a) (last_thread None (answers_to t rest))) (eqb t s) (sym asking_is ∙ asking));
         }
           where
             by_event : (b : ℕ) (d : Bool) → cond d (last_thread None (answers_to t rest)) None ≡ Some b → b ≡ st.births
             by_event b true given = (heard.agent n b is given).next
             by_event b false given = absurd (cc)
 
-            by_thread : (o : Option ℕ) → last_thread None (answers_to t rest) ≡ o → passes (λ b. eqb b a) o ≡ true → eqb t s ≡ true → (a ≡ st.births) × IsOwned s a after
+            by_thread : (o : Option ℕ) → last_thread None (answers_to t rest) ≡ o → passes (λ b. eqb b a) o ≡ true → eqb t s ≡ true
+                → (a ≡ st.births) × IsOwned s a after
             by_thread None none bad caller = differ (sym bad)
             by_thread (Some b) given same caller =
                 let new = heard.agent n b is given in
                 let next : a ≡ st.births = sym (eqb-true b a same) ∙ new.next in
                 (next, bears (ap births_by is) (eqb-true t s caller) next (omega (arith, eqb-true b a same, new.born)))
 
-            by_parts : ((is_some (agent_event c) && passes (λ b. eqb b a) (last_thread None (answers_to t rest))) ≡ true) × (eqb t s ≡ true) → (a ≡ st.births) × IsOwned s a after
-            by_parts both = by_thread (last_thread None (answers_to t rest)) refl (and_parts (is_some (agent_event c)) (passes (λ b. eqb b a) (last_thread None (answers_to t rest))) both.0).1 both.1
+            by_parts : ((is_some (agent_event c) && passes (λ b. eqb b a) (last_thread None (answers_to t rest))) ≡ true) × (eqb t s ≡ true)
+                → (a ≡ st.births) × IsOwned s a after
+            by_parts both = by_thread (last_thread None (answers_to t rest)) refl
+                (and_parts (is_some (agent_event c)) (passes (λ b. eqb b a) (last_thread None (answers_to t rest))) both.0).1 both.1
         by_kind (IsReply v text is) = record {
           written = λ of. told_is (a ∷ []) ∙ ap (λ c. cond z (reply_line (a ∷ []) c) []) is
-              ∙ one_line text z (eqb a v) (eqb v a) (eqb t s) (list_any (is_told s is_zero) rest) (eqb_turned a v) (any_is v text is) (sym (ap (λ c. not (is_reply_to a c && z) || eqb t s) is) ∙ sym of_is ∙ of)
+              ∙ one_line text z (eqb a v) (eqb v a) (eqb t s) (list_any (is_told s is_zero) rest) (eqb_turned a v) (any_is v text is)
+              (sym (ap (λ c. not (is_reply_to a c && z) || eqb t s) is) ∙ sym of_is ∙ of)
               ∙ ap (λ c. text_lines (cond (eqb t s && list_any (is_told s is_zero) rest) (reply_to a c) [])) (sym is);
-          unborn = λ low. ap (λ c. cond (eqb t s && list_any (is_told s is_zero) rest) (reply_to a c) []) is ∙ by_tests low (eqb t s) (list_any (is_told s is_zero) rest) (eqb v a) refl refl refl;
+          unborn = λ low. ap (λ c. cond (eqb t s && list_any (is_told s is_zero) rest) (reply_to a c) []) is
+              ∙ by_tests low (eqb t s) (list_any (is_told s is_zero) rest) (eqb v a) refl refl refl;
           new = λ b given. never None refl b given (ap agent_event is);
           untold = told_is [] ∙ none_of z (reply_line [] c) (ap (reply_line []) is);
-          unreplied = λ low. of_is ∙ ap (λ c. not (is_reply_to a c && z) || eqb t s) is ∙ reply_so z (eqb v a) (eqb t s) (λ accepted same other. unborn_reply low accepted same);
-          of_owner = λ owned. of_is ∙ ap (λ c. not (is_reply_to a c && z) || eqb t s) is ∙ reply_so z (eqb v a) (eqb t s) (λ accepted same other. others_reply owned accepted same other);
+          unreplied = λ low. of_is ∙ ap (λ c. not (is_reply_to a c && z) || eqb t s) is
+              ∙ reply_so z (eqb v a) (eqb t s) (λ accepted same other. unborn_reply low accepted same);
+          of_owner = λ owned. of_is ∙ ap (λ c. not (is_reply_to a c && z) || eqb t s) is
+              ∙ reply_so z (eqb v a) (eqb t s) (λ accepted same other. others_reply owned accepted same other);
           asks = not_asking None refl (ap agent_event is);
         }
           where
             -- whom an accepted reply goes to
             replied_to : z ≡ true → eqb v a ≡ true → IsRepliedTo t a st
-            replied_to accepted same = subst (λ n. IsRepliedTo t n st) (eqb-true v a same) ((heard.reply v text is).1 (sym (heard.reply v text is).0 ∙ accepted))
+            replied_to accepted same =
+                subst (λ n. IsRepliedTo t n st) (eqb-true v a same) ((heard.reply v text is).1 (sym (heard.reply v text is).0 ∙ accepted))
 
             unborn_reply : st.births ≤ a → z ≡ true → eqb v a ≡ true → ⊥
             unborn_reply low accepted same = differ (sym (replied_to accepted same).there ∙ unborn_absent st was a low)
@@ -659,25 +765,30 @@ module _ (s e a : ℕ) (st after : State) (was : Lawful st None) (t : ℕ) where
                 let to = replied_to accepted same in
                 differ (sym (eq-eqb t s (same_owner s t a st to.there (owned_thread s a st owned) owned.no_other to.owned)) ∙ other)
 
-            by_tests : st.births ≤ a → (d any q : Bool) → eqb t s ≡ d → list_any (is_told s is_zero) rest ≡ any → eqb v a ≡ q → cond (d && any) (cond q (text ∷ []) []) [] ≡ []
+            by_tests : st.births ≤ a → (d any q : Bool) → eqb t s ≡ d → list_any (is_told s is_zero) rest ≡ any → eqb v a ≡ q
+                → cond (d && any) (cond q (text ∷ []) []) [] ≡ []
             by_tests low false any q e f g = refl
             by_tests low true false q e f g = refl
             by_tests low true true false e f g = refl
             by_tests low true true true e f g = absurd (unborn_reply low (sym (any_is v text is e) ∙ f) g)
 
-    facts_called : (c : Call) → Bears c → Heard t st c after (answers_to t rest) → Facts s e a st after (call_of_effects (effect.Called t c ∷ rest)) (replies_of_step s a (effect.Called t c ∷ rest))
+    facts_called : (c : Call) → Bears c → Heard t st c after (answers_to t rest)
+        → Facts s e a st after (call_of_effects (effect.Called t c ∷ rest)) (replies_of_step s a (effect.Called t c ∷ rest))
     facts_called c bears heard =
         let m = unanswered_call t c in
         subst (λ o. Facts s e a st after o (replies_of_step s a (effect.Called t c ∷ rest))) (sym (call_stays m rest))
         (facts_made c bears heard (fold call_after_effect m rest) (same_call m rest).0 (same_call m rest).1 (heard_call m rest).0 (heard_call m rest).1)
 
   facts_said : (c : Call) (es : List Effect) → Bears c → Says t st c after es → Facts s e a st after (call_of_effects es) (replies_of_step s a es)
-  facts_said c es bears says = subst (λ es. Facts s e a st after (call_of_effects es) (replies_of_step s a es)) (sym says.is) (facts_called says.rest c bears says.heard)
+  facts_said c es bears says =
+      subst (λ es. Facts s e a st after (call_of_effects es) (replies_of_step s a es)) (sym says.is) (facts_called says.rest c bears says.heard)
 
   pub facts_form : (c : Call) (es : List Effect) → Bears c → Form t st c after es → Facts s e a st after (call_of_effects es) (replies_of_step s a es)
   facts_form c es bears (Plain says) = facts_said c es bears says
-  facts_form c es bears (Behind n fs is says) = subst (λ es. Facts s e a st after (call_of_effects es) (replies_of_step s a es)) (sym is) (facts_said c fs bears says)
-  facts_form c es bears (Muffled none mute) = subst (λ o. Facts s e a st after o (replies_of_step s a es)) (sym none) (subst (Facts s e a st after None) (sym (mute s a)) (no_facts s e a st after))
+  facts_form c es bears (Behind n fs is says) =
+      subst (λ es. Facts s e a st after (call_of_effects es) (replies_of_step s a es)) (sym is) (facts_said c fs bears says)
+  facts_form c es bears (Muffled none mute) =
+      subst (λ o. Facts s e a st after o (replies_of_step s a es)) (sym none) (subst (Facts s e a st after None) (sym (mute s a)) (no_facts s e a st after))
 
 -- ---- over a session
 
@@ -708,49 +819,70 @@ module _ {B : Type 0} (setting : Setting B) (s e a : ℕ) where
   pushed session None = refl
   pushed session (Some took) = refl
 
-  agents_then : (session : Session B) (m : Option Took) → (known (after_move setting session m)).agents ≡ with_agent (known session).agents (asked (Some e) (call_of session m))
-  agents_then session m = ap (λ steps. (known_after_steps (Some e) steps).agents) (pushed session m) ∙ ap (λ (k : Known). k.agents) (fold_push (known_after_step (Some e)) nothing_known session.steps (made_of session m)) ∙ by_call (call_of session m)
+  agents_then : (session : Session B) (m : Option Took)
+      → (known (after_move setting session m)).agents ≡ with_agent (known session).agents (asked (Some e) (call_of session m))
+  agents_then session m = ap (λ steps. (known_after_steps (Some e) steps).agents) (pushed session m)
+      ∙ ap (λ (k : Known). k.agents) (fold_push (known_after_step (Some e)) nothing_known session.steps (made_of session m)) ∙ by_call (call_of session m)
     where
       by_call : (o : Option Made) → agents_after (Some e) (known session).agents o ≡ with_agent (known session).agents (asked (Some e) o)
       by_call None = refl
       by_call (Some made) = refl
 
-  replies_then : (session : Session B) (m : Option Took) → (known (after_move setting session m)).replies ≡ (known session).replies ++ texts_told (known session).agents (call_of session m)
-  replies_then session m = ap (λ steps. (known_after_steps (Some e) steps).replies) (pushed session m) ∙ ap (λ (k : Known). k.replies) (fold_push (known_after_step (Some e)) nothing_known session.steps (made_of session m))
+  replies_then : (session : Session B) (m : Option Took)
+      → (known (after_move setting session m)).replies ≡ (known session).replies ++ texts_told (known session).agents (call_of session m)
+  replies_then session m = ap (λ steps. (known_after_steps (Some e) steps).replies) (pushed session m)
+      ∙ ap (λ (k : Known). k.replies) (fold_push (known_after_step (Some e)) nothing_known session.steps (made_of session m))
 
   said_then : (session : Session B) (m : Option Took) → said (after_move setting session m) ≡ said session ++ replies_of_step s a (made_of session m).effects
-  said_then session m = ap (λ steps. replies_accepted s a (steps_of steps)) (pushed session m) ∙ ap (replies_accepted s a) (map-append step_of session.steps (made_of session m ∷ []))
-      ∙ flat_map-append (λ (step : Step). replies_of_step s a step.effects) (steps_of session.steps) (step_of (made_of session m) ∷ []) ∙ ap (λ xs. said session ++ xs) (append-nil (replies_of_step s a (made_of session m).effects))
+  said_then session m = ap (λ steps. replies_accepted s a (steps_of steps)) (pushed session m)
+      ∙ ap (replies_accepted s a) (map-append step_of session.steps (made_of session m ∷ []))
+      ∙ flat_map-append (λ (step : Step). replies_of_step s a step.effects) (steps_of session.steps) (step_of (made_of session m) ∷ [])
+      ∙ ap (λ xs. said session ++ xs) (append-nil (replies_of_step s a (made_of session m).effects))
 
   -- ---- a move
 
-  move_facts : (session : Session B) (m : Option Took) → Lawful session.live.pod.state None → Facts s e a session.live.pod.state (after_move setting session m).live.pod.state (call_of session m) (replies_of_step s a (made_of session m).effects)
+  move_facts : (session : Session B) (m : Option Took) → Lawful session.live.pod.state None
+      → Facts s e a session.live.pod.state (after_move setting session m).live.pod.state (call_of session m) (replies_of_step s a (made_of session m).effects)
   unfolding move call_move take_move
   move_facts session None was = by_choice (choice session.live.pod.state) refl
     where
       pod : EventState
       pod = session.live.pod
 
-      by_row : (t : ℕ) → choice pod.state ≡ Some t → (o : Option (Row B)) → Facts s e a pod.state (move_row setting.next setting.bodies session.live t o).live.pod.state (call_of_effects (move_row setting.next setting.bodies session.live t o).effects) (replies_of_step s a (move_row setting.next setting.bodies session.live t o).effects)
+      by_row : (t : ℕ) → choice pod.state ≡ Some t → (o : Option (Row B))
+          → Facts s e a pod.state (move_row setting.next setting.bodies session.live t o).live.pod.state
+          (call_of_effects (move_row setting.next setting.bodies session.live t o).effects)
+          (replies_of_step s a (move_row setting.next setting.bodies session.live t o).effects)
       by_row t turn None = no_facts s e a pod.state pod.state
       by_row t turn (Some row) =
           let c = (setting.next row.body (names_for_poll t session.live.names) row.answer).0 in
           facts_form s e a pod.state (event_step pod c).after.state was t c (event_step pod c).effects
           (λ none caller next born. owned_at_birth s t a pod was c turn none caller (omega (arith, next)) born) (form_of pod was t turn c)
 
-      by_choice : (o : Option ℕ) → choice pod.state ≡ o → Facts s e a pod.state (move_by setting.next setting.bodies session.live o).live.pod.state (call_of_effects (move_by setting.next setting.bodies session.live o).effects) (replies_of_step s a (move_by setting.next setting.bodies session.live o).effects)
+      by_choice : (o : Option ℕ) → choice pod.state ≡ o
+          → Facts s e a pod.state (move_by setting.next setting.bodies session.live o).live.pod.state
+          (call_of_effects (move_by setting.next setting.bodies session.live o).effects)
+          (replies_of_step s a (move_by setting.next setting.bodies session.live o).effects)
       by_choice None is = no_facts s e a pod.state pod.state
       by_choice (Some t) is = by_row t is (row_of t session.live.rows)
-  move_facts session (Some took) was = subst (Facts s e a session.live.pod.state (after_move setting session (Some took)).live.pod.state None) (sym ((others_reply_nothing s a session.live.pod).1 took.event took.line.text)) (no_facts s e a session.live.pod.state (after_move setting session (Some took)).live.pod.state)
+  move_facts session (Some took) was =
+      subst (Facts s e a session.live.pod.state (after_move setting session (Some took)).live.pod.state None)
+      (sym ((others_reply_nothing s a session.live.pod).1 took.event took.line.text))
+      (no_facts s e a session.live.pod.state (after_move setting session (Some took)).live.pod.state)
 
   -- the agents so far stay
   agents_stay : (moves : List (Option Took)) (session : Session B) → More (known session).agents (known (after_moves setting moves session)).agents
   agents_stay [] session = record { rest = []; is = sym (append-nil (known session).agents) }
   agents_stay (m ∷ ms) session = by_asked (asked (Some e) (call_of session m)) (agents_then session m) (agents_stay ms (after_move setting session m))
     where
-      by_asked : (o : Option ℕ) → (known (after_move setting session m)).agents ≡ with_agent (known session).agents o → More (known (after_move setting session m)).agents (known (after_moves setting ms (after_move setting session m))).agents → More (known session).agents (known (after_moves setting ms (after_move setting session m))).agents
+      by_asked : (o : Option ℕ) → (known (after_move setting session m)).agents ≡ with_agent (known session).agents o
+          → More (known (after_move setting session m)).agents (known (after_moves setting ms (after_move setting session m))).agents
+          → More (known session).agents (known (after_moves setting ms (after_move setting session m))).agents
       by_asked None is more = record { rest = more.rest; is = more.is ∙ ap (λ xs. xs ++ more.rest) is }
-      by_asked (Some b) is more = record { rest = b ∷ more.rest; is = more.is ∙ ap (λ xs. xs ++ more.rest) is ∙ append_assoc (known session).agents (b ∷ []) more.rest }
+      by_asked (Some b) is more = record {
+        rest = b ∷ more.rest;
+        is = more.is ∙ ap (λ xs. xs ++ more.rest) is ∙ append_assoc (known session).agents (b ∷ []) more.rest;
+      }
 
   first_is : (agents end : List ℕ) (b : ℕ) → agents ≡ b ∷ [] → end ≡ a ∷ [] → More agents end → b ≡ a
   first_is agents end b one last more = let same : b ∷ more.rest ≡ a ∷ [] = sym (more.is ∙ ap (λ xs. xs ++ more.rest) one) ∙ last in cc
@@ -759,15 +891,21 @@ module _ {B : Type 0} (setting : Setting B) (s e a : ℕ) where
   no_second agents end b two last more = let same : a ∷ b ∷ more.rest ≡ a ∷ [] = sym (more.is ∙ ap (λ xs. xs ++ more.rest) two) ∙ last in cc
 
   -- before the agent is made it isn't born
-  unborn_before : (moves : List (Option Took)) (session : Session B) → Lawful session.live.pod.state None → CanGoOn setting moves session → (known session).agents ≡ [] → (known (after_moves setting moves session)).agents ≡ a ∷ [] → session.live.pod.state.births ≤ a
+  unborn_before : (moves : List (Option Took)) (session : Session B) → Lawful session.live.pod.state None → CanGoOn setting moves session
+      → (known session).agents ≡ [] → (known (after_moves setting moves session)).agents ≡ a ∷ [] → session.live.pod.state.births ≤ a
   unborn_before [] session was can none last = absurd (let bad : [] ≡ a ∷ [] = sym none ∙ last in cc)
-  unborn_before (m ∷ ms) session was can none last = by_asked (asked (Some e) (call_of session m)) refl (agents_then session m ∙ ap (λ xs. with_agent xs (asked (Some e) (call_of session m))) none)
+  unborn_before (m ∷ ms) session was can none last =
+      by_asked (asked (Some e) (call_of session m)) refl (agents_then session m ∙ ap (λ xs. with_agent xs (asked (Some e) (call_of session m))) none)
       (λ still. unborn_before ms (after_move setting session m) (moved_lawful setting session m can.0 was) can.1 still last)
     where
-      by_asked : (o : Option ℕ) → asked (Some e) (call_of session m) ≡ o → (known (after_move setting session m)).agents ≡ with_agent [] (asked (Some e) (call_of session m)) → ((known (after_move setting session m)).agents ≡ [] → (after_move setting session m).live.pod.state.births ≤ a) → session.live.pod.state.births ≤ a
+      by_asked : (o : Option ℕ) → asked (Some e) (call_of session m) ≡ o
+          → (known (after_move setting session m)).agents ≡ with_agent [] (asked (Some e) (call_of session m))
+          → ((known (after_move setting session m)).agents ≡ [] → (after_move setting session m).live.pod.state.births ≤ a) → session.live.pod.state.births ≤ a
       by_asked None is agents later = omega (arith, later (agents ∙ ap (with_agent []) is), (moved_fades setting 0 session m).births)
       by_asked (Some b) is agents later =
-          let same = first_is (known (after_move setting session m)).agents (known (after_moves setting ms (after_move setting session m))).agents b (agents ∙ ap (with_agent []) is) last (agents_stay ms (after_move setting session m)) in
+          let same = first_is (known (after_move setting session m)).agents
+          (known (after_moves setting ms (after_move setting session m))).agents b (agents ∙ ap (with_agent []) is) last
+          (agents_stay ms (after_move setting session m)) in
           omega (arith, same, (move_facts session m was).new b is)
 
   -- what was told so far are the replies, from the birth of the agent on
@@ -781,47 +919,68 @@ module _ {B : Type 0} (setting : Setting B) (s e a : ℕ) where
   both_none : {X : Type 0} (xs ys : List X) → xs ≡ [] → ys ≡ [] → xs ++ ys ≡ []
   both_none xs ys one two = λ i. one i ++ two i
 
-  stage_next : (session : Session B) (m : Option Took) → Lawful session.live.pod.state None → ((known session).agents ≡ [] → session.live.pod.state.births ≤ a) → is_reply_of s a (call_of session m) ≡ true
+  stage_next : (session : Session B) (m : Option Took) → Lawful session.live.pod.state None
+      → ((known session).agents ≡ [] → session.live.pod.state.births ≤ a) → is_reply_of s a (call_of session m) ≡ true
       → (end : List ℕ) → end ≡ a ∷ [] → More (known (after_move setting session m)).agents end → Stage session → Stage (after_move setting session m)
-  stage_next session m was low of end last more (Before none unsaid silent) = by_asked (asked (Some e) (call_of session m)) (agents_then session m ∙ ap (λ xs. with_agent xs (asked (Some e) (call_of session m))) none)
+  stage_next session m was low of end last more (Before none unsaid silent) =
+      by_asked (asked (Some e) (call_of session m)) (agents_then session m ∙ ap (λ xs. with_agent xs (asked (Some e) (call_of session m))) none)
     where
-      facts : Facts s e a session.live.pod.state (after_move setting session m).live.pod.state (call_of session m) (replies_of_step s a (made_of session m).effects)
+      facts : Facts s e a session.live.pod.state (after_move setting session m).live.pod.state (call_of session m)
+          (replies_of_step s a (made_of session m).effects)
       facts = move_facts session m was
 
       said_none : said (after_move setting session m) ≡ []
       said_none = said_then session m ∙ both_none (said session) (replies_of_step s a (made_of session m).effects) silent (facts.unborn (low none))
 
       replies_none : (known (after_move setting session m)).replies ≡ []
-      replies_none = replies_then session m ∙ both_none (known session).replies (texts_told (known session).agents (call_of session m)) unsaid (ap (λ xs. texts_told xs (call_of session m)) none ∙ facts.untold)
+      replies_none = replies_then session m
+          ∙ both_none (known session).replies (texts_told (known session).agents (call_of session m)) unsaid
+          (ap (λ xs. texts_told xs (call_of session m)) none ∙ facts.untold)
 
       by_asked : (o : Option ℕ) → (known (after_move setting session m)).agents ≡ with_agent [] o → Stage (after_move setting session m)
       by_asked None agents = Before agents replies_none said_none
-      by_asked (Some b) agents = During (agents ∙ ap (λ n. n ∷ []) (first_is (known (after_move setting session m)).agents end b agents last more)) (replies_none ∙ ap text_lines (sym said_none))
-  stage_next session m was low of end last more (During one told_so) = by_asked (asked (Some e) (call_of session m)) (agents_then session m ∙ ap (λ xs. with_agent xs (asked (Some e) (call_of session m))) one)
+      by_asked (Some b) agents =
+          During (agents ∙ ap (λ n. n ∷ []) (first_is (known (after_move setting session m)).agents end b agents last more))
+          (replies_none ∙ ap text_lines (sym said_none))
+  stage_next session m was low of end last more (During one told_so) =
+      by_asked (asked (Some e) (call_of session m)) (agents_then session m ∙ ap (λ xs. with_agent xs (asked (Some e) (call_of session m))) one)
     where
-      facts : Facts s e a session.live.pod.state (after_move setting session m).live.pod.state (call_of session m) (replies_of_step s a (made_of session m).effects)
+      facts : Facts s e a session.live.pod.state (after_move setting session m).live.pod.state (call_of session m)
+          (replies_of_step s a (made_of session m).effects)
       facts = move_facts session m was
 
       replies_so : (known (after_move setting session m)).replies ≡ text_lines (said (after_move setting session m))
-      replies_so = replies_then session m ∙ (λ i. told_so i ++ (ap (λ xs. texts_told xs (call_of session m)) one ∙ facts.written of) i) ∙ spelled_append (said session) (replies_of_step s a (made_of session m).effects) ∙ ap text_lines (sym (said_then session m))
+      replies_so = replies_then session m ∙ (λ i. told_so i ++ (ap (λ xs. texts_told xs (call_of session m)) one ∙ facts.written of) i)
+          ∙ spelled_append (said session) (replies_of_step s a (made_of session m).effects) ∙ ap text_lines (sym (said_then session m))
 
       by_asked : (o : Option ℕ) → (known (after_move setting session m)).agents ≡ with_agent (a ∷ []) o → Stage (after_move setting session m)
       by_asked None agents = During agents replies_so
       by_asked (Some b) agents = absurd (no_second (known (after_move setting session m)).agents end b agents last more)
 
   -- of the steps in the end, those so far pass, and the next one
-  passes_next : (session : Session B) (m : Option Took) (end : List Sessions.Made) → Grows setting (after_move setting session m).steps end → replies_are_of s a end ≡ true → is_reply_of s a (call_of session m) ≡ true
+  passes_next : (session : Session B) (m : Option Took) (end : List Sessions.Made) → Grows setting (after_move setting session m).steps end
+      → replies_are_of s a end ≡ true → is_reply_of s a (call_of session m) ≡ true
   passes_next session m end grows all =
-      let is : end ≡ session.steps ++ (made_of session m ∷ grows.rest) = grows.is ∙ ap (λ xs. xs ++ grows.rest) (pushed session m) ∙ append_assoc session.steps (made_of session m ∷ []) grows.rest in
-      let parts = and_parts (replies_are_of s a session.steps) (replies_are_of s a (made_of session m ∷ grows.rest)) (sym (list_all-append (λ (step : Sessions.Made). is_reply_of s a (call_in step.take step.effects)) session.steps (made_of session m ∷ grows.rest)) ∙ ap (replies_are_of s a) (sym is) ∙ all) in
+      let is : end
+      ≡ session.steps
+      ++ (made_of session m ∷ grows.rest) = grows.is ∙ ap (λ xs. xs ++ grows.rest) (pushed session m)
+      ∙ append_assoc session.steps (made_of session m ∷ []) grows.rest in
+      let parts = and_parts (replies_are_of s a session.steps) (replies_are_of s a (made_of session m ∷ grows.rest))
+      (sym (list_all-append (λ (step : Sessions.Made). is_reply_of s a (call_in step.take step.effects)) session.steps (made_of session m ∷ grows.rest))
+      ∙ ap (replies_are_of s a) (sym is) ∙ all) in
       (and_parts (is_reply_of s a (call_of session m)) (replies_are_of s a grows.rest) parts.1).0
 
-  stages : (moves : List (Option Took)) (session : Session B) → Lawful session.live.pod.state None → CanGoOn setting moves session → Stage session → (known (after_moves setting moves session)).agents ≡ a ∷ [] → replies_are_of s a (after_moves setting moves session).steps ≡ true → Stage (after_moves setting moves session)
+  stages : (moves : List (Option Took)) (session : Session B) → Lawful session.live.pod.state None → CanGoOn setting moves session
+      → Stage session → (known (after_moves setting moves session)).agents ≡ a ∷ []
+      → replies_are_of s a (after_moves setting moves session).steps ≡ true → Stage (after_moves setting moves session)
   stages [] session was can stage last all = stage
   stages (m ∷ ms) session was can stage last all =
       let next = after_move setting session m in
       stages ms next (moved_lawful setting session m can.0 was) can.1
-      (stage_next session m was (λ none. unborn_before (m ∷ ms) session was can none last) (passes_next session m (after_moves setting ms next).steps (gone_grows setting ms next) all) (known (after_moves setting ms next)).agents last (agents_stay ms next) stage) last all
+      (stage_next session m was (λ none. unborn_before (m ∷ ms) session was can none last)
+      (passes_next session m (after_moves setting ms next).steps (gone_grows setting ms next) all)
+      (known (after_moves setting ms next)).agents last (agents_stay ms next) stage)
+      last all
 
   written_of : (session : Session B) → (known session).agents ≡ a ∷ [] → Stage session → (known session).replies ≡ text_lines (said session)
   written_of session last (Before none unsaid silent) = absurd (let bad : [] ≡ a ∷ [] = sym none ∙ last in cc)
@@ -835,19 +994,23 @@ module _ {B : Type 0} (setting : Setting B) (s e a : ℕ) where
     Anothers : a < session.live.pod.state.births → owns s a session.steps ≡ false → Holding session
     Held : IsOwned s a session.live.pod.state → replies_are_of s a session.steps ≡ true → Holding session
 
-  replies_next : (session : Session B) (m : Option Took) → replies_are_of s a session.steps ≡ true → is_reply_of s a (call_of session m) ≡ true → replies_are_of s a (after_move setting session m).steps ≡ true
+  replies_next : (session : Session B) (m : Option Took) → replies_are_of s a session.steps ≡ true
+      → is_reply_of s a (call_of session m) ≡ true → replies_are_of s a (after_move setting session m).steps ≡ true
   replies_next session m so next =
       ap (replies_are_of s a) (pushed session m)
       ∙ list_all-append (λ (step : Sessions.Made). is_reply_of s a (call_in step.take step.effects)) session.steps (made_of session m ∷ [])
-      ∙ and_from (replies_are_of s a session.steps) (replies_are_of s a (made_of session m ∷ [])) so (and_from (is_reply_of s a (call_of session m)) true next refl)
+      ∙ and_from (replies_are_of s a session.steps) (replies_are_of s a (made_of session m ∷ [])) so
+      (and_from (is_reply_of s a (call_of session m)) true next refl)
 
-  owns_push : (steps : List Sessions.Made) (step : Sessions.Made) → owns s a steps ≡ false → is_asking_of s a (call_in step.take step.effects) ≡ false → owns s a (steps ++ step ∷ []) ≡ false
+  owns_push : (steps : List Sessions.Made) (step : Sessions.Made) → owns s a steps ≡ false
+      → is_asking_of s a (call_in step.take step.effects) ≡ false → owns s a (steps ++ step ∷ []) ≡ false
   owns_push [] step none next = rw next refl
   owns_push (x ∷ steps) step none next =
       let parts = or_parts (is_asking_of s a (call_in x.take x.effects)) (owns s a steps) none in
       rw (parts.0) (owns_push steps step parts.1 next)
 
-  owns_next : (session : Session B) (m : Option Took) → owns s a session.steps ≡ false → is_asking_of s a (call_of session m) ≡ false → owns s a (after_move setting session m).steps ≡ false
+  owns_next : (session : Session B) (m : Option Took) → owns s a session.steps ≡ false → is_asking_of s a (call_of session m) ≡ false
+      → owns s a (after_move setting session m).steps ≡ false
   owns_next session m so next = ap (owns s a) (pushed session m) ∙ owns_push session.steps (made_of session m) so next
 
   moved_owned : (session : Session B) (m : Option Took) → IsOwned s a session.live.pod.state → IsOwned s a (after_move setting session m).live.pod.state
@@ -886,9 +1049,11 @@ module _ {B : Type 0} (setting : Setting B) (s e a : ℕ) where
       by_asking true asking = Held ((move_facts session m was).asks asking).1 of_next
       by_asking false silent = by_births (owns_next session m none silent) (cases_lt a next.live.pod.state.births)
 
-  holdings : (moves : List (Option Took)) (session : Session B) → Lawful session.live.pod.state None → CanGoOn setting moves session → Holding session → Holding (after_moves setting moves session)
+  holdings : (moves : List (Option Took)) (session : Session B) → Lawful session.live.pod.state None → CanGoOn setting moves session
+      → Holding session → Holding (after_moves setting moves session)
   holdings [] session was can holding = holding
-  holdings (m ∷ ms) session was can holding = holdings ms (after_move setting session m) (moved_lawful setting session m can.0 was) can.1 (holding_next session m was holding)
+  holdings (m ∷ ms) session was can holding =
+      holdings ms (after_move setting session m) (moved_lawful setting session m can.0 was) can.1 (holding_next session m was holding)
 
   held_replies : (session : Session B) → owns s a session.steps ≡ true → Holding session → replies_are_of s a session.steps ≡ true
   held_replies session its (Unborn low none of) = of
@@ -904,7 +1069,8 @@ owners_alone_reply B setting least most takes n defined s a its =
     ∙ held_replies setting s 0 a (after_moves setting r.moves start) (ap (owns s a) (sym is) ∙ its)
     (holdings setting s 0 a r.moves start (Lawful-opening setting.params least most) r.can (opened (cases_lt a start.live.pod.state.births)))
   where
-    opened : (a < (opening_session setting).live.pod.state.births) ⊎ ((opening_session setting).live.pod.state.births ≤ a) → Holding setting s 0 a (opening_session setting)
+    opened : (a < (opening_session setting).live.pod.state.births) ⊎ ((opening_session setting).live.pod.state.births ≤ a)
+        → Holding setting s 0 a (opening_session setting)
     opened (inl high) = Anothers high refl
     opened (inr low) = Unborn low refl refl
 
@@ -914,14 +1080,20 @@ replies_are_written B setting least most takes n defined s e a agents of =
     let r = sessions_are_reached B setting takes n defined in
     let start = opening_session setting in
     let is : (play setting takes n).steps ≡ (after_moves setting r.moves start).steps = ap (λ (x : Session B). x.steps) r.is in
-    let last : (known_after_steps (Some e) (after_moves setting r.moves start).steps).agents ≡ a ∷ [] = ap (λ steps. (known_after_steps (Some e) steps).agents) (sym is) ∙ agents in
+    let last : (known_after_steps (Some e) (after_moves setting r.moves start).steps).agents
+    ≡ a ∷ [] = ap (λ steps. (known_after_steps (Some e) steps).agents) (sym is) ∙ agents in
     ap (λ steps. (known_after_steps (Some e) steps).replies) is
-    ∙ written_of setting s e a (after_moves setting r.moves start) last (stages setting s e a r.moves start (Lawful-opening setting.params least most) r.can (Before refl refl refl) last (ap (replies_are_of s a) (sym is) ∙ of))
+    ∙ written_of setting s e a (after_moves setting r.moves start) last (stages setting s e a r.moves start
+    (Lawful-opening setting.params least most) r.can (Before refl refl refl) last (ap (replies_are_of s a) (sym is) ∙ of))
     ∙ ap (λ steps. text_lines (replies_accepted s a (steps_of steps))) (sym is)
 
 pub clients_are_written : ClientsAreWritten
-clients_are_written script least most takes n defined s k in_s in_k event place apart early begins_s body_s begins_k body_k serves lines client e a event_is agents of = record {
-  texts = replies_accepted s a (steps_of (session_at script takes n).steps);
-  first = from_null_names (bodies_of script) (params_of script) (length script.names.threads) (length script.names.mons) (length script.names.conds) least most takes n defined s k in_s in_k event place apart early begins_s body_s begins_k body_k serves lines a;
-  written = ap (λ o. replies_in o (session_at script takes n).steps) event_is ∙ replies_are_written ThreadBody (setting_of script) least most takes n defined s e a agents of;
-}
+clients_are_written script least most takes n defined s k in_s in_k event place apart early begins_s body_s begins_k body_k serves lines
+    client e a event_is agents of =
+    record {
+      texts = replies_accepted s a (steps_of (session_at script takes n).steps);
+      first = from_null_names (bodies_of script) (params_of script) (length script.names.threads) (length script.names.mons)
+          (length script.names.conds) least most takes n defined s k in_s in_k event place apart early begins_s body_s begins_k body_k serves lines a;
+      written = ap (λ o. replies_in o (session_at script takes n).steps) event_is
+          ∙ replies_are_written ThreadBody (setting_of script) least most takes n defined s e a agents of;
+    }

@@ -1,5 +1,6 @@
 -- Two talks, worked out by hand. The session is thread 2, its agent 3, and another thread that sends to the store is 4.
-use Rattle.answer_laws.specs.Talks.{Event, Event.Line, Event.OtherLetter, Event.OwnLetter, Event.SessionDies, Event.SessionTurn, Event.StoreTurn, after_events, opening_talk}
+use Rattle.answer_laws.specs.Talks.{Event, Event.Line, Event.OtherLetter, Event.OwnLetter, Event.SessionDies}
+use Rattle.answer_laws.specs.Talks.{Event.SessionTurn, Event.StoreTurn, after_events, opening_talk}
 use Rattle.lwp_types.specs.Names.{null_names}
 use Rattle.std.specs.Prelude.{List, None, [], codes, ℕ, ◌++◌, ◌∷◌, ◌≡◌}
 

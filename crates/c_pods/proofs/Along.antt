@@ -45,7 +45,8 @@ pub goes_on : (lines rest : List ℕ) (i n : ℕ) (here : Place) → i < length 
     → follow (drop i lines) (drop i rest) n here
     ≡ follow (drop (i + 1) lines) (drop (i + 1) rest) (width_after (slice_index_or lines i 0) n) (place_after (slice_index_or lines i 0) n here)
 goes_on lines rest i n here lt e = subst (λ k. follow (drop i lines) (drop i rest) n here
-    ≡ follow (drop k lines) (drop k rest) (width_after (slice_index_or lines i 0) n) (place_after (slice_index_or lines i 0) n here)) (one_more i) (goes lines rest i n here lt e)
+    ≡ follow (drop k lines) (drop k rest) (width_after (slice_index_or lines i 0) n) (place_after (slice_index_or lines i 0) n here))
+    (one_more i) (goes lines rest i n here lt e)
 
 pub is_within : (rest : List ℕ) (i b : ℕ) → has_byte rest i b ≡ true → i < length rest
 is_within [] zero b e = absurd (subst T (sym e) tt)

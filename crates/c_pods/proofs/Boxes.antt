@@ -14,7 +14,8 @@ use contract.Running.{Running, tables_of}
 use prog.Model.{Model}
 use prog.Wired.{Wired}
 use types.Logic.{Logic, sem}
-use types.Kit.{‵, raw, ◌⊛◌, some, later, ◌$◌, ◌∵◌, !, qed, done, keep, move, drop, show, use0, use1, split, join, split3, fjoin, feq_i, pick, await, rewrite, updating, now}
+use types.Kit.{‵, raw, ◌⊛◌, some, later, ◌$◌, ◌∵◌, !, qed, done, keep, move, drop, show, use0}
+use types.Kit.{use1, split, join, split3, fjoin, feq_i, pick, await, rewrite, updating, now}
 use denote.Exit.{no}
 use denote.RattleType.{RattleType}
 use denote.RawPtr.{Ptr, RawPtr, ptr_val}
@@ -131,7 +132,8 @@ module _ {M : Type 1} (𝓤 : Ura M) (𝓛 : Logic 𝓤) (𝓜 : Model 𝓤 𝓛
   pub taking : (d : Boxed.Denot) (w : Val) → ent 𝓤 (sem 𝓛 (Boxed.own_val d (w ∷ []))) (Taken.pre (to_take d w))
   taking d w = qed 𝓛 (‵ (Boxed.own_val d (w ∷ [])) ∷ []) ∵
       nothing ! $ move ! (1 ∷ 0 ∷ []) $ fjoin ! $
-      nothing ! $ use0 𝓛 (‵ (flft [] full_share)) (𝓛.lfts.lft-nil full_share) $ join ! $ use0 𝓛 (‵ (flft [] full_share)) (𝓛.lfts.lft-nil full_share) $ join ! $ join ! $
+      nothing ! $ use0 𝓛 (‵ (flft [] full_share)) (𝓛.lfts.lft-nil full_share) $ join ! $ use0 𝓛 (‵ (flft [] full_share))
+      (𝓛.lfts.lft-nil full_share) $ join ! $ join ! $
       nothing ! $ use0 𝓛 (raw (fact 𝓤 ([] ⊑ Z.lives))) (fact_i 𝓤 ([] ⊑ Z.lives) (emp 𝓤) (heap_laws.the_within [])) $ join ! $
       use0 𝓛 (raw (fact 𝓤 ([] ⊑ R.lives))) (fact_i 𝓤 ([] ⊑ R.lives) (emp 𝓤) (pod_laws.the_within [])) $ join ! $
       move ! (1 ∷ 0 ∷ []) $ join ! $ done !
@@ -140,7 +142,8 @@ module _ {M : Type 1} (𝓤 : Ura M) (𝓛 : Logic 𝓤) (𝓜 : Model 𝓤 𝓛
       → ent 𝓤 (sep 𝓤 (sem 𝓛 (box_owns (ghosts.dealloc_token a) R p x)) (sem 𝓛 (Z.own_val a (h ∷ [])))) (Made.pre (to_make a h p x))
   making a h p x = qed 𝓛 (‵ (box_owns (ghosts.dealloc_token a) R p x) ∷ ‵ (Z.own_val a (h ∷ [])) ∷ []) ∵
       nothing ! $ feq_i ! (List Val) (ptr_val p ∷ []) (ptr_val p ∷ []) refl $ fjoin ! $ move ! (2 ∷ 0 ∷ []) $ fjoin ! $
-      nothing ! $ use0 𝓛 (‵ (flft [] full_share)) (𝓛.lfts.lft-nil full_share) $ join ! $ use0 𝓛 (‵ (flft [] full_share)) (𝓛.lfts.lft-nil full_share) $ join ! $ join ! $
+      nothing ! $ use0 𝓛 (‵ (flft [] full_share)) (𝓛.lfts.lft-nil full_share) $ join ! $ use0 𝓛 (‵ (flft [] full_share))
+      (𝓛.lfts.lft-nil full_share) $ join ! $ join ! $
       move ! (1 ∷ []) $ use0 𝓛 (raw (fact 𝓤 ([] ⊑ Z.lives))) (fact_i 𝓤 ([] ⊑ Z.lives) (emp 𝓤) (heap_laws.the_within [])) $ join ! $
       use0 𝓛 (raw (fact 𝓤 ([] ⊑ R.lives))) (fact_i 𝓤 ([] ⊑ R.lives) (emp 𝓤) (pod_laws.the_within [])) $ join ! $
       move ! (1 ∷ 0 ∷ []) $ join ! $ done !
@@ -170,7 +173,8 @@ module _ {M : Type 1} (𝓤 : Ura M) (𝓛 : Logic 𝓤) (𝓜 : Model 𝓤 𝓛
       (nothing_dropped : Wired 𝓡.env no_drop_code) where
     -- both calls are met
     pub takes : Wired 𝓡.env takes_symbol.code → Wired 𝓡.env pod_drop.code
-        → Triple 𝓤 (𝓡.run (𝓡.env (takes_symbol.name (bounded (a_type ∷ a_type ∷ []) (Pod, (Heap, tt)) (dcons dict (dcons drops_heap (dcons drops_pod dnil))))))) Taken
+        → Triple 𝓤
+        (𝓡.run (𝓡.env (takes_symbol.name (bounded (a_type ∷ a_type ∷ []) (Pod, (Heap, tt)) (dcons dict (dcons drops_heap (dcons drops_pod dnil))))))) Taken
     unfolding tables_of no_drop_code
     takes wired dropped = takes_met.met 𝓤 𝓛 𝓜 𝓡 wired Pod Heap pod_passed heap_passed ghosts dict drops_heap drops_pod
         (heap_met.passed 𝓡.env allocates frees grows shrinks M 𝓤 𝓛 𝓜 𝓡)

@@ -17,7 +17,8 @@ same_prio : (ws : List Waiting) → AllByRecursion (λ (w : Waiting). w.prio ≡
 same_prio [] = tt
 same_prio (w ∷ ws) = (refl, same_prio ws)
 
-pub best-line : (c : ℕ) (ws : List Waiting) → best_by (λ (w : WaitRec). w.prio) (filter (is_on c) (map wait_in ws)) ≡ option_map wait_in (best_by (λ (w : Waiting). w.prio) (filter (is_for c) ws))
+pub best-line : (c : ℕ) (ws : List Waiting)
+    → best_by (λ (w : WaitRec). w.prio) (filter (is_on c) (map wait_in ws)) ≡ option_map wait_in (best_by (λ (w : Waiting). w.prio) (filter (is_for c) ws))
 best-line c ws =
     ap (best_by (λ (w : WaitRec). w.prio)) (waits-line c ws)
     ∙ best-map wait_in (λ (w : Waiting). w.prio) (λ (w : WaitRec). w.prio) (filter (is_for c) ws) (same_prio (filter (is_for c) ws))
@@ -26,7 +27,8 @@ pub find-line : (p : WaitRec → Bool) (ws : List Waiting) → find p (map wait_
 find-line p [] = refl
 find-line p (w ∷ ws) = by_test (find-line p ws) (p (wait_in w))
   where
-    by_test : find p (map wait_in ws) ≡ option_map wait_in (find (λ w. p (wait_in w)) ws) → (b : Bool) → cond b (Some (wait_in w)) (find p (map wait_in ws)) ≡ option_map wait_in (cond b (Some w) (find (λ w. p (wait_in w)) ws))
+    by_test : find p (map wait_in ws) ≡ option_map wait_in (find (λ w. p (wait_in w)) ws) → (b : Bool)
+        → cond b (Some (wait_in w)) (find p (map wait_in ws)) ≡ option_map wait_in (cond b (Some w) (find (λ w. p (wait_in w)) ws))
     by_test rest true = refl
     by_test rest false = rest
 
@@ -45,5 +47,6 @@ tids : (ws : List Waiting) → map (λ (w : Waiting). w.tid) ws ≡ map (λ (w :
 tids [] = refl
 tids (w ∷ ws) = ap (λ ts. w.tid ∷ ts) (tids ws)
 
-pub tids-line : (c : ℕ) (ws : List Waiting) → map (λ (w : Waiting). w.tid) (filter (is_for c) ws) ≡ map (λ (w : WaitRec). w.tid) (filter (is_on c) (map wait_in ws))
+pub tids-line : (c : ℕ) (ws : List Waiting)
+    → map (λ (w : Waiting). w.tid) (filter (is_for c) ws) ≡ map (λ (w : WaitRec). w.tid) (filter (is_on c) (map wait_in ws))
 tids-line c ws = tids (filter (is_for c) ws) ∙ ap (map (λ (w : WaitRec). w.tid)) (sym (waits-line c ws))

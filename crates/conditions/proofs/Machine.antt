@@ -2,7 +2,9 @@
 use Rattle.lwp_types.proofs.Ranks.{All-filter, best-map, map-filter}
 use Rattle.conditions.specs.ConditionTable as table
 use Rattle.conditions.specs.ConditionTable.{ConditionTable, is_on, is_wait_of, machine_row}
-use Rattle.conditions.specs.Machine.{AllAreWoken, AreRanked, FirstIsWoken, ForgettingAgrees, HasWaitsAgrees, IsWaitedOnce, NextAgrees, NoneIsWoken, RanksLast, RequeuesAgree, WaitOfAgrees, WaitedAgrees, WaitersAgree, WaitingAgrees, WaitsAgree, WakingAgrees, first_and, with_conditions, woken_by}
+use Rattle.conditions.specs.Machine.{AllAreWoken, AreRanked, FirstIsWoken, ForgettingAgrees, HasWaitsAgrees, IsWaitedOnce, NextAgrees}
+use Rattle.conditions.specs.Machine.{NoneIsWoken, RanksLast, RequeuesAgree, WaitOfAgrees, WaitedAgrees, WaitersAgree, WaitingAgrees}
+use Rattle.conditions.specs.Machine.{WaitsAgree, WakingAgrees, first_and, with_conditions, woken_by}
 use Rattle.conditions.specs.declared.waits.WaitRec.{WaitRec}
 use Rattle.lwp_types.specs.Choice.{best_by}
 use Rattle.lwp_types.specs.CountLaws.{count-cons, count-filter-le, one}
@@ -12,7 +14,8 @@ use Rattle.lwp_types.specs.State.{priority_in}
 use Rattle.lwp_types.specs.Conditions as machine
 use Rattle.lwp_types.specs.declared.rows.CondRow.{CondRow}
 use Rattle.lwp_types.specs.declared.rows.WaitRow.{WaitRow}
-use Rattle.std.proofs.Common.{Bool, List, None, Option, Some, [], ap, arith, cond, count_by, eqb, false, inl, inr, length, map, not, refl, sym, true, ℕ, ◌&&◌, ◌+◌, ◌∙◌, ◌∷◌, ◌≡◌, ◌≢◌, ◌≤◌, ◌||◌}
+use Rattle.std.proofs.Common.{Bool, List, None, Option, Some, [], ap, arith, cond, count_by, eqb, false, inl, inr}
+use Rattle.std.proofs.Common.{length, map, not, refl, sym, true, ℕ, ◌&&◌, ◌+◌, ◌∙◌, ◌∷◌, ◌≡◌, ◌≢◌, ◌≤◌, ◌||◌}
 use Rattle.std.proofs.lemmas.Bool.{cases_eq, eq-eqb, ne_eqb}
 use Rattle.std.proofs.lemmas.List.{map-append}
 use Rattle.std.specs.List.{filter, find, list_any}
@@ -28,7 +31,9 @@ waited_agrees t s c = any-row t.waits c
 pub has_waits_agrees : HasWaitsAgrees
 has_waits_agrees t s m = by_rows t.conditions
   where
-    by_rows : (rows : List CondRow) → list_any (λ row. locks.is_of_monitor m row && locks.is_waited_in (map machine_row t.waits) row.number) rows ≡ list_any (λ row. locks.is_of_monitor m row && table.is_waited_in t.waits row.number) rows
+    by_rows : (rows : List CondRow)
+        → list_any (λ row. locks.is_of_monitor m row && locks.is_waited_in (map machine_row t.waits) row.number) rows
+        ≡ list_any (λ row. locks.is_of_monitor m row && table.is_waited_in t.waits row.number) rows
     by_rows [] = refl
     by_rows (row ∷ rows) = rw (any-row t.waits row.number) (ap (λ b. (locks.is_of_monitor m row && table.is_waited_in t.waits row.number) || b) (by_rows rows))
 
@@ -71,7 +76,8 @@ filter-filter : {A : Type 0} (p q : A → Bool) (xs : List A) → filter p (filt
 filter-filter p q [] = refl
 filter-filter p q (x ∷ xs) = by_tests (q x) (p x) (filter-filter p q xs)
   where
-    by_tests : (b c : Bool) → filter p (filter q xs) ≡ filter (λ x. q x && p x) xs → filter p (cond b (x ∷ filter q xs) (filter q xs)) ≡ cond (b && p x) (x ∷ filter (λ x. q x && p x) xs) (filter (λ x. q x && p x) xs)
+    by_tests : (b c : Bool) → filter p (filter q xs) ≡ filter (λ x. q x && p x) xs
+        → filter p (cond b (x ∷ filter q xs) (filter q xs)) ≡ cond (b && p x) (x ∷ filter (λ x. q x && p x) xs) (filter (λ x. q x && p x) xs)
     by_tests true c rest = ap (λ ys. cond (p x) (x ∷ ys) ys) rest
     by_tests false c rest = rest
 
@@ -110,11 +116,13 @@ requeues_agree t s u p = ap (λ ws. record (with_conditions t s) { waits = ws })
 -- broadcasts
 
 -- the waits on c of all threads but u, where u has none on c
-others-on : (c u : ℕ) (ws : List WaitRec) → count_by (λ w. is_on c w && is_wait_of u w) ws ≡ 0 → filter (is_on c) (table.without_wait u ws) ≡ filter (is_on c) ws
+others-on : (c u : ℕ) (ws : List WaitRec) → count_by (λ w. is_on c w && is_wait_of u w) ws ≡ 0
+    → filter (is_on c) (table.without_wait u ws) ≡ filter (is_on c) ws
 others-on c u [] none = refl
 others-on c u (w ∷ ws) none = by_tests (is_on c w) (is_wait_of u w) refl refl (others-on c u ws)
   where
-    by_tests : (b d : Bool) → is_on c w ≡ b → is_wait_of u w ≡ d → (count_by (λ w. is_on c w && is_wait_of u w) ws ≡ 0 → filter (is_on c) (table.without_wait u ws) ≡ filter (is_on c) ws)
+    by_tests : (b d : Bool) → is_on c w ≡ b → is_wait_of u w ≡ d
+        → (count_by (λ w. is_on c w && is_wait_of u w) ws ≡ 0 → filter (is_on c) (table.without_wait u ws) ≡ filter (is_on c) ws)
         → filter (is_on c) (cond (not d) (w ∷ table.without_wait u ws) (table.without_wait u ws)) ≡ cond b (w ∷ filter (is_on c) ws) (filter (is_on c) ws)
     by_tests true true e f rest = absurd (omega (arith, none, count-cons (λ w. is_on c w && is_wait_of u w) w ws, both))
       where
@@ -132,12 +140,15 @@ first-on : (c : ℕ) (w : WaitRec) (ws : List WaitRec) → ((u : ℕ) → count_
 first-on c w [] once found = absurd (cc)
 first-on c w (v ∷ ws) once found = by_test (is_on c v) refl found (first-on c w ws)
   where
-    counted : (u : ℕ) → count_by (λ w. is_on c w && is_wait_of u w) (v ∷ ws) ≡ one (is_on c v && is_wait_of u v) + count_by (λ w. is_on c w && is_wait_of u w) ws
+    counted : (u : ℕ)
+        → count_by (λ w. is_on c w && is_wait_of u w) (v ∷ ws) ≡ one (is_on c v && is_wait_of u v) + count_by (λ w. is_on c w && is_wait_of u w) ws
     counted u = count-cons (λ w. is_on c w && is_wait_of u w) v ws
 
     by_test : (b : Bool) → is_on c v ≡ b → cond b (Some v) (find (is_on c) ws) ≡ Some w
-        → (((u : ℕ) → count_by (λ w. is_on c w && is_wait_of u w) ws ≤ 1) → find (is_on c) ws ≡ Some w → filter (is_on c) ws ≡ w ∷ filter (is_on c) (table.without_wait w.tid ws))
-        → cond b (v ∷ filter (is_on c) ws) (filter (is_on c) ws) ≡ w ∷ filter (is_on c) (cond (not (is_wait_of w.tid v)) (v ∷ table.without_wait w.tid ws) (table.without_wait w.tid ws))
+        → (((u : ℕ) → count_by (λ w. is_on c w && is_wait_of u w) ws ≤ 1) → find (is_on c) ws ≡ Some w
+        → filter (is_on c) ws ≡ w ∷ filter (is_on c) (table.without_wait w.tid ws))
+        → cond b (v ∷ filter (is_on c) ws) (filter (is_on c) ws)
+        ≡ w ∷ filter (is_on c) (cond (not (is_wait_of w.tid v)) (v ∷ table.without_wait w.tid ws) (table.without_wait w.tid ws))
     by_test true e is rest =
         let same : v ≡ w = cc in
         rw (← same) (rw (eq-eqb v.tid v.tid refl) (ap (λ vs. v ∷ vs) (sym (others-on c v.tid ws none))))
@@ -149,7 +160,8 @@ first-on c w (v ∷ ws) once found = by_test (is_on c v) refl found (first-on c 
         none = omega (arith, once v.tid, counted v.tid, its)
     by_test false e is rest = rest (λ u. omega (arith, once u, counted u)) is ∙ ap (λ vs. w ∷ vs) (by_other (is_wait_of w.tid v))
       where
-        by_other : (d : Bool) → filter (is_on c) (table.without_wait w.tid ws) ≡ filter (is_on c) (cond (not d) (v ∷ table.without_wait w.tid ws) (table.without_wait w.tid ws))
+        by_other : (d : Bool)
+            → filter (is_on c) (table.without_wait w.tid ws) ≡ filter (is_on c) (cond (not d) (v ∷ table.without_wait w.tid ws) (table.without_wait w.tid ws))
         by_other true = refl
         by_other false = rw e refl
 
@@ -160,7 +172,8 @@ none-on : (c : ℕ) (ws : List WaitRec) → find (is_on c) ws ≡ None → filte
 none-on c [] none = refl
 none-on c (w ∷ ws) none = by_test (is_on c w) none (none-on c ws)
   where
-    by_test : (b : Bool) → cond b (Some w) (find (is_on c) ws) ≡ None → (find (is_on c) ws ≡ None → filter (is_on c) ws ≡ []) → cond b (w ∷ filter (is_on c) ws) (filter (is_on c) ws) ≡ []
+    by_test : (b : Bool) → cond b (Some w) (find (is_on c) ws) ≡ None → (find (is_on c) ws ≡ None → filter (is_on c) ws ≡ [])
+        → cond b (w ∷ filter (is_on c) ws) (filter (is_on c) ws) ≡ []
     by_test true is rest = absurd (cc)
     by_test false is rest = rest is
 
@@ -183,14 +196,16 @@ all_are_woken t c (suc n) once few = by_first (table.first_wait t c) refl (λ af
         → ((after : ConditionTable) → IsWaitedOnce after c → length (table.waits_on after c) ≤ n → woken_by n after c ≡ table.waits_on after c)
         → first_and o (woken_by n (table.after_wake t o) c) ≡ table.waits_on t c
     by_first None first rest = sym (none_is_woken t c first)
-    by_first (Some w) first rest = ap (λ ws. w ∷ ws) (rest (table.after_wake t (Some w)) (once_woken t c once (Some w)) fewer) ∙ sym (first_is_woken t c once w first)
+    by_first (Some w) first rest = ap (λ ws. w ∷ ws) (rest (table.after_wake t (Some w)) (once_woken t c once (Some w)) fewer)
+        ∙ sym (first_is_woken t c once w first)
       where
         fewer : length (table.waits_on (table.after_wake t (Some w)) c) ≤ n
         fewer = omega (arith, few, ap length (first_is_woken t c once w first))
 
 -- ranks
 
-ranked-requeued : (before after : ℕ → ℕ) (u p : ℕ) → after u ≡ p → ((v : ℕ) → v ≢ u → after v ≡ before v) → (ws : List WaitRec) → AreRanked before ws → AreRanked after (table.with_priority u p ws)
+ranked-requeued : (before after : ℕ → ℕ) (u p : ℕ) → after u ≡ p → ((v : ℕ) → v ≢ u → after v ≡ before v) → (ws : List WaitRec)
+    → AreRanked before ws → AreRanked after (table.with_priority u p ws)
 ranked-requeued before after u p its others [] all = tt
 ranked-requeued before after u p its others (w ∷ ws) all = (here, ranked-requeued before after u p its others ws all.1)
   where
@@ -210,7 +225,8 @@ module _ (priority : ℕ → ℕ) (t : ConditionTable) (ranked : AreRanked prior
 pub ranked_same : (before after : ℕ → ℕ) (t : ConditionTable) → AreRanked before t.waits → ((v : ℕ) → after v ≡ before v) → AreRanked after t.waits
 ranked_same before after t ranked same = All-weaker _ _ (λ w e. e ∙ sym (same w.tid)) t.waits ranked
 
-pub ranked_requeued : (before after : ℕ → ℕ) (t : ConditionTable) (u p : ℕ) → AreRanked before t.waits → after u ≡ p → ((v : ℕ) → v ≢ u → after v ≡ before v) → AreRanked after (table.after_requeue t u p).waits
+pub ranked_requeued : (before after : ℕ → ℕ) (t : ConditionTable) (u p : ℕ) → AreRanked before t.waits → after u ≡ p
+    → ((v : ℕ) → v ≢ u → after v ≡ before v) → AreRanked after (table.after_requeue t u p).waits
 ranked_requeued before after t u p ranked its others = ranked-requeued before after u p its others t.waits ranked
 
 pub ranks_last : RanksLast

@@ -5,7 +5,8 @@ use Rattle.lwp_types.specs.Monitors.{is_of_monitor, without_conditions_of}
 use Rattle.lwp_types.specs.OnlyLaws.{filter_none, remove_only}
 use Rattle.lwp_types.specs.Conditions.{is_condition, without_condition}
 use Rattle.lwp_types.specs.declared.rows.CondRow.{CondRow}
-use Rattle.std.proofs.Common.{Bool, List, Some, [], ap, arith, cond, count_by, false, get_or, inl, inr, length, not, refl, suc, true, zero, ℕ, ◌++◌, ◌<◌, ◌∷◌, ◌≡◌, ◌≤◌}
+use Rattle.std.proofs.Common.{Bool, List, Some, [], ap, arith, cond, count_by, false, get_or, inl, inr}
+use Rattle.std.proofs.Common.{length, not, refl, suc, true, zero, ℕ, ◌++◌, ◌<◌, ◌∷◌, ◌≡◌, ◌≤◌}
 use Rattle.std.proofs.lemmas.Bool.{cases_eq, eq-eqb, ne_eqb}
 use Rattle.std.specs.List.{AllByRecursion, filter, find, remove}
 use Rattle.std.specs.List.Sorted.{IsNonDecreasingBy}
@@ -32,16 +33,19 @@ never_falls rows rising i j d le within = elim (cases_eq i j) [
 
 above_none : (n c : ℕ) (rows : List CondRow) → AllByRecursion (λ row. n < row.number) rows → c ≤ n → count_by (is_condition c) rows ≡ 0
 above_none n c [] all low = refl
-above_none n c (row ∷ rows) all low = omega (arith, count-cons (is_condition c) row rows, ap one (ne_eqb row.number c (λ e. absurd (omega (arith, e, all.0, low)))), above_none n c rows all.1 low)
+above_none n c (row ∷ rows) all low = omega
+    (arith, count-cons (is_condition c) row rows, ap one (ne_eqb row.number c (λ e. absurd (omega (arith, e, all.0, low)))), above_none n c rows all.1 low)
 
 at_most_once : (rows : List CondRow) (c : ℕ) → AreRising rows → count_by (is_condition c) rows ≤ 1
 at_most_once [] c rising = omega arith
 at_most_once (row ∷ rows) c rising = elim (cases_eq row.number c) [
-  | inl same ↦ omega (arith, count-cons (is_condition c) row rows, ap one (eq-eqb row.number c same), above_none row.number c rows rising.0 (omega (arith, same)))
+  | inl same
+      ↦ omega (arith, count-cons (is_condition c) row rows, ap one (eq-eqb row.number c same), above_none row.number c rows rising.0 (omega (arith, same)))
   | inr other ↦ omega (arith, count-cons (is_condition c) row rows, ap one (ne_eqb row.number c other), at_most_once rows c rising.1)
 ]
 
-pub found_at : (rows : List CondRow) (c i : ℕ) (d : CondRow) → AreRising rows → i < length rows → (get_or rows i d).number ≡ c → find (is_condition c) rows ≡ Some (get_or rows i d)
+pub found_at : (rows : List CondRow) (c i : ℕ) (d : CondRow) → AreRising rows → i < length rows → (get_or rows i d).number ≡ c
+    → find (is_condition c) rows ≡ Some (get_or rows i d)
 found_at [] c i d rising within here = absurd (omega arith)
 found_at (row ∷ rows) c zero d rising within here = rw (eq-eqb row.number c here) refl
 found_at (row ∷ rows) c (suc i) d rising within here =
@@ -49,7 +53,8 @@ found_at (row ∷ rows) c (suc i) d rising within here =
     rw (ne_eqb row.number c (λ same. absurd (omega (arith, less, here, same)))) (found_at rows c i d rising.1 (omega arith) here)
 
 pub without_found : (rows : List CondRow) (c i : ℕ) → AreRising rows → IsAt c rows i → remove rows i ≡ without_condition c rows
-without_found rows c i rising here = remove_only (is_condition c) rows i no_row (at_most_once rows c rising) here.within (eq-eqb (get_or rows i no_row).number c (here.here no_row))
+without_found rows c i rising here =
+    remove_only (is_condition c) rows i no_row (at_most_once rows c rising) here.within (eq-eqb (get_or rows i no_row).number c (here.here no_row))
 
 pub without_none : (rows : List CondRow) (c : ℕ) → count_by (is_condition c) rows ≡ 0 → without_condition c rows ≡ rows
 without_none rows c none = filter_none (is_condition c) rows none
@@ -94,7 +99,8 @@ AreRising-push : (rows : List CondRow) (new : CondRow) → AreRising rows → Al
 AreRising-push [] new rising born = (tt, tt)
 AreRising-push (row ∷ rows) new rising born = (All-push (λ later. row.number < later.number) rows new rising.0 born.0, AreRising-push rows new rising.1 born.1)
 
-pub IsKept-created : (mon : ℕ) (rows : List CondRow) (births after : ℕ) → IsKept rows births → births < after → IsKept (rows ++ record { number = births; mon = mon } ∷ []) after
+pub IsKept-created : (mon : ℕ) (rows : List CondRow) (births after : ℕ) → IsKept rows births → births < after
+    → IsKept (rows ++ record { number = births; mon = mon } ∷ []) after
 IsKept-created mon rows births after was later = record {
   rising = AreRising-push rows (record { number = births; mon = mon }) was.rising was.born;
   born = All-push (λ row. row.number < after) rows (record { number = births; mon = mon }) (All-later births after rows was.born (omega (arith, later))) later;

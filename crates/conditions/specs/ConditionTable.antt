@@ -6,7 +6,8 @@ use Rattle.lwp_types.specs.Monitors.{is_of_monitor, without_conditions_of}
 use Rattle.lwp_types.specs.declared.rows.CondRow.{CondRow}
 use Rattle.lwp_types.specs.declared.rows.WaitRow.{WaitRow}
 use Rattle.std.specs.List.{filter, find, list_any}
-use Rattle.std.specs.Prelude.{Bool, List, None, Option, Some, [], if◌then◌else◌, is_some, length, map, max, nat_le, not, option_map, ℕ, ◌&&◌, ◌++◌, ◌+◌, ◌==◌, ◌||◌, ◌∷◌}
+use Rattle.std.specs.Prelude.{Bool, List, None, Option, Some, [], if◌then◌else◌, is_some, length, map}
+use Rattle.std.specs.Prelude.{max, nat_le, not, option_map, ℕ, ◌&&◌, ◌++◌, ◌+◌, ◌==◌, ◌||◌, ◌∷◌}
 
 -- all that there is of conditions
 pub record ConditionTable : Type 0 where

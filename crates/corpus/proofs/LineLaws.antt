@@ -30,7 +30,8 @@ line_end-some b bs = elim (eqb b 10) as (λ v. 1 ≤ cond v 1 (suc (line_end bs)
 ]
 
 -- a byte before a text that goes on
-goes_on : (b : ℕ) → (bs : List ℕ) → lines bs ≡ take (line_end bs) bs ∷ lines (drop (line_end bs) bs) → onto_first b (lines bs) ≡ (b ∷ take (line_end bs) bs) ∷ lines (drop (line_end bs) bs)
+goes_on : (b : ℕ) → (bs : List ℕ) → lines bs ≡ take (line_end bs) bs ∷ lines (drop (line_end bs) bs)
+    → onto_first b (lines bs) ≡ (b ∷ take (line_end bs) bs) ∷ lines (drop (line_end bs) bs)
 goes_on b bs is = rw is refl
 
 -- the first of a text's lines, and the others
@@ -39,10 +40,12 @@ lines_split b [] = elim (eqb b 10) as (λ v. cond v ((b ∷ []) ∷ []) ((b ∷ 
   | true ↦ refl
   | false ↦ refl
 ]
-lines_split b (c ∷ cs) = elim (eqb b 10) as (λ v. cond v ((b ∷ []) ∷ lines (c ∷ cs)) (onto_first b (lines (c ∷ cs))) ≡ take (cond v 1 (suc (line_end (c ∷ cs)))) (b ∷ c ∷ cs) ∷ lines (drop (cond v 1 (suc (line_end (c ∷ cs)))) (b ∷ c ∷ cs))) [
-  | true ↦ refl
-  | false ↦ goes_on b (c ∷ cs) (lines_split c cs)
-]
+lines_split b (c ∷ cs) = elim (eqb b 10) as
+    (λ v. cond v ((b ∷ []) ∷ lines (c ∷ cs)) (onto_first b (lines (c ∷ cs)))
+    ≡ take (cond v 1 (suc (line_end (c ∷ cs)))) (b ∷ c ∷ cs) ∷ lines (drop (cond v 1 (suc (line_end (c ∷ cs)))) (b ∷ c ∷ cs))) [
+      | true ↦ refl
+      | false ↦ goes_on b (c ∷ cs) (lines_split c cs)
+    ]
 
 -- the first of a text's lines
 pub first_is : (t : List ℕ) → first_of (lines t) ≡ take (line_end t) t
@@ -81,7 +84,8 @@ drop_next (suc n) [] = refl
 drop_next (suc n) (l ∷ ls) = drop_next n ls
 
 -- where the next lines are the same too, one line more is the same
-pub one_more_same : (n : ℕ) → (found wanted : List (List ℕ)) → (s t : List ℕ) → take n found ≡ take n wanted → drop n found ≡ lines s → drop n wanted ≡ lines t →
+pub one_more_same : (n : ℕ) → (found wanted : List (List ℕ)) → (s t : List ℕ) → take n found ≡ take n wanted → drop n found ≡ lines s
+    → drop n wanted ≡ lines t →
     take (line_end s) s ≡ take (line_end t) t → take (suc n) found ≡ take (suc n) wanted
 one_more_same n found wanted s t same left other line = rw (take_next n found, take_next n wanted, left, other, one_is s, one_is t, same, line) refl
 

@@ -1,7 +1,8 @@
 -- A step in which nobody dies and no monitor is broken leaves each cycle, also where frames go or an agent ends.
 use Rattle.deadlock_laws.proofs.Cycles.{has_next, next_goes, none_at_all, round_lasts}
 use Rattle.deadlock_laws.proofs.Deliveries.{no_agent}
-use Rattle.deadlock_laws.proofs.Frames.{Framed, framed_end, framed_still, framed_then, framed_unless, letter_left, mapped_lists, next_framed, same_lists, same_threads}
+use Rattle.deadlock_laws.proofs.Frames.{Framed, framed_end, framed_still, framed_then, framed_unless, letter_left}
+use Rattle.deadlock_laws.proofs.Frames.{mapped_lists, next_framed, same_lists, same_threads}
 use Rattle.deadlock_laws.proofs.Lasting.{Waiter, blocked_by, calm_case, waiter_row}
 use Rattle.deadlock_laws.proofs.Loosening.{broadcast_framed, monitor_exit_framed, notify_framed, reply_framed}
 use Rattle.deadlock_laws.proofs.Posting.{each_freed, freed}
@@ -17,7 +18,8 @@ use Rattle.lwp_types.specs.Exceptions.{caught_marks, exits_of, first_frames, fra
 use Rattle.lwp_types.specs.Exits.{catch_case, excnotify_case_by, exit_case, leave_frame, run_exit, unwind}
 use Rattle.lwp_types.specs.Lawful.{Lawful, NineParts, is_same_option}
 use Rattle.lwp_types.specs.Messages.{awaits, receivers_of}
-use Rattle.lwp_types.specs.State.{State, ThreadRow, and_then, for_each, is_agent, is_blocked_in, is_number, marks_in, numbers, row_with_marks, row_with_suspension, thread_of, with_marks_of}
+use Rattle.lwp_types.specs.State.{State, ThreadRow, and_then, for_each, is_agent, is_blocked_in, is_number, marks_in}
+use Rattle.lwp_types.specs.State.{numbers, row_with_marks, row_with_suspension, thread_of, with_marks_of}
 use Rattle.lwp_types.specs.Step.{case_of, end_effects, ends, own_effects, step, step_by, step_if}
 use Rattle.lwp_types.specs.Unblock.{nonexist, unblock}
 use Rattle.lwp_types.specs.CountLaws.{any_counted, one}
@@ -39,7 +41,8 @@ use Rattle.pod_laws.proofs.Rowed.{once_threads}
 use Rattle.pod_laws.proofs.Rows.{known_all, number_known}
 use Rattle.pod_laws.specs.Forgotten.{is_died}
 use Rattle.state_text.specs.Waiting.{awaited_by, next_of}
-use Rattle.std.proofs.Common.{Bool, List, None, Option, Some, [], ap, arith, cond, eqb, false, length, not, refl, sym, true, ℕ, ◌&&◌, ◌++◌, ◌-◌, ◌||◌, ◌∙◌, ◌∷◌, ◌≡◌, ◌≢◌, ◌≤◌}
+use Rattle.std.proofs.Common.{Bool, List, None, Option, Some, [], ap, arith, cond, eqb, false, length, not}
+use Rattle.std.proofs.Common.{refl, sym, true, ℕ, ◌&&◌, ◌++◌, ◌-◌, ◌||◌, ◌∙◌, ◌∷◌, ◌≡◌, ◌≢◌, ◌≤◌}
 use Rattle.std.proofs.lemmas.Bool.{and_from, and_parts, eq-eqb, eqb-true, leb-true, or_parts}
 use Rattle.std.proofs.lemmas.List.Folds.{list_any-append}
 use Rattle.std.proofs.lemmas.Option.{none-some}

@@ -12,7 +12,8 @@ use Rattle.pod_laws.proofs.Checks.{Passed, unless_keeps}
 use Rattle.pod_laws.proofs.Elements.{find_filter_same, find_push_some, not_of}
 use Rattle.pod_laws.proofs.Rows.{KeepsNumber, find_rowed, live_rowed, number_known}
 use Rattle.state_text.specs.Waiting.{awaited, awaited_by, named_thread, next_of, owner_of, receiver_of}
-use Rattle.std.proofs.Common.{Bool, List, None, Option, Some, [], ap, arith, cond, false, length, map, not, refl, sym, true, ℕ, ◌+◌, ◌++◌, ◌∙◌, ◌∷◌, ◌||◌, ◌≡◌, ◌≢◌, ◌≤◌}
+use Rattle.std.proofs.Common.{Bool, List, None, Option, Some, [], ap, arith, cond, false, length, map}
+use Rattle.std.proofs.Common.{not, refl, sym, true, ℕ, ◌+◌, ◌++◌, ◌∙◌, ◌∷◌, ◌||◌, ◌≡◌, ◌≢◌, ◌≤◌}
 use Rattle.std.proofs.lemmas.Bool.{eqb-true, ne_eqb}
 use Rattle.std.proofs.lemmas.List.{length-append, length-map}
 use Rattle.std.proofs.lemmas.Option.{none-some}

@@ -1,5 +1,6 @@
 -- The calls that free only those who wait for the caller, or for nobody, leave all others as they are.
-use Rattle.deadlock_laws.proofs.Frames.{Framed, framed_still, framed_then, framed_unless, letter_left, mapped_lists, other_block, owner_deepened, owner_pushed, same_threads}
+use Rattle.deadlock_laws.proofs.Frames.{Framed, framed_still, framed_then, framed_unless, letter_left, mapped_lists}
+use Rattle.deadlock_laws.proofs.Frames.{other_block, owner_deepened, owner_pushed, same_threads}
 use Rattle.deadlock_laws.proofs.Posting.{freed, not_taker, post_framed, taker}
 use Rattle.lwp_types.specs.Choice.{best_by}
 use Rattle.lwp_types.specs.Conditions.{after_wait, after_wake, after_wake_all, broadcast, cond_send, condition_of, notify, wait, waits_on}
@@ -26,7 +27,8 @@ use Rattle.pod_laws.proofs.LockMoves.{other_waiter, requester_enters}
 use Rattle.pod_laws.proofs.MessageCalls.{reply_sends, sender_row}
 use Rattle.pod_laws.proofs.Waking.{last_owner}
 use Rattle.state_text.specs.Waiting.{awaited_by, owner_of, receiver_of}
-use Rattle.std.proofs.Common.{Bool, List, MatchOption, None, Option, Some, [], ap, arith, cond, count_by, eqb, false, not, refl, sym, true, ℕ, ◌&&◌, ◌++◌, ◌-◌, ◌∙◌, ◌∷◌, ◌≡◌, ◌≢◌, ◌≤◌}
+use Rattle.std.proofs.Common.{Bool, List, MatchOption, None, Option, Some, [], ap, arith, cond, count_by, eqb}
+use Rattle.std.proofs.Common.{false, not, refl, sym, true, ℕ, ◌&&◌, ◌++◌, ◌-◌, ◌∙◌, ◌∷◌, ◌≡◌, ◌≢◌, ◌≤◌}
 use Rattle.std.proofs.lemmas.Bool.{and_from, and_parts, eq-eqb, eqb-false, eqb-true, ne_eqb}
 use Rattle.std.proofs.lemmas.Option.{none-some}
 use Rattle.std.specs.List.{find, fold, list_all}

@@ -1,5 +1,6 @@
 -- Every call but those that can free somebody leaves the blocked as they are.
-use Rattle.deadlock_laws.proofs.Frames.{Framed, framed_cond, framed_end, framed_still, framed_unless, letter_received, mapped_lists, other_block, owner_entered, pushed, same_lists, same_threads}
+use Rattle.deadlock_laws.proofs.Frames.{Framed, framed_cond, framed_end, framed_still, framed_unless, letter_received}
+use Rattle.deadlock_laws.proofs.Frames.{mapped_lists, other_block, owner_entered, pushed, same_lists, same_threads}
 use Rattle.deadlock_laws.specs.Deadlocks.{TheBlockedStay}
 use Rattle.deadlock_laws.specs.Freeing.{can_free}
 use Rattle.lwp_types.specs.Case.{answer_case, refusal_case, silent_case, value_case}
@@ -7,7 +8,8 @@ use Rattle.lwp_types.specs.Choice.{choice, is_eligible}
 use Rattle.lwp_types.specs.Exceptions.{handler_of, with_match}
 use Rattle.lwp_types.specs.Messages.{next_letter, receive_by}
 use Rattle.lwp_types.specs.Monitors.{after_request, enter_case, is_owned_by_other}
-use Rattle.lwp_types.specs.State.{State, ThreadRow, is_blocked_in, is_not_blocked, passes, row_with_block, row_with_marks, row_with_priority, row_with_suspension, still, thread_of}
+use Rattle.lwp_types.specs.State.{State, ThreadRow, is_blocked_in, is_not_blocked, passes, row_with_block, row_with_marks}
+use Rattle.lwp_types.specs.State.{row_with_priority, row_with_suspension, still, thread_of}
 use Rattle.lwp_types.specs.Step.{case_of, ends, step, step_by, step_if}
 use Rattle.lwp_types.specs.Threads.{new_thread}
 use Rattle.lwp_types.specs.Unblock.{after_block, after_block_for}

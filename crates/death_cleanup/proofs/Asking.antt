@@ -32,7 +32,8 @@ use Rattle.pod_laws.proofs.Elements.{all_at}
 use Rattle.pod_laws.proofs.LockMoves.{requester_enters, waiter_waits}
 use Rattle.pod_laws.proofs.Waking.{Waiter, Waking, first_waits, waiter, waking_next}
 use Rattle.pod_sched.specs.declared.rows.Known.{Known}
-use Rattle.std.proofs.Common.{Bool, List, None, Option, Some, [], ap, arith, count_by, eqb, false, inl, inr, leb, length, map, not, refl, sym, true, ℕ, ◌&&◌, ◌∙◌, ◌∷◌, ◌≡◌, ◌≤◌, ◌||◌}
+use Rattle.std.proofs.Common.{Bool, List, None, Option, Some, [], ap, arith, count_by, eqb, false, inl, inr}
+use Rattle.std.proofs.Common.{leb, length, map, not, refl, sym, true, ℕ, ◌&&◌, ◌∙◌, ◌∷◌, ◌≡◌, ◌≤◌, ◌||◌}
 use Rattle.std.proofs.lemmas.Bool.{and_parts, cases_eq, eq-eqb, leb-true, ne_eqb}
 use Rattle.std.proofs.lemmas.List.{length-map, map-append}
 use Rattle.std.specs.List.{find}
@@ -40,20 +41,26 @@ use Rattle.std.specs.Prelude as prelude
 use Rattle.std.specs.Prelude.{is_some, option_map, unwrap_or}
 
 -- another block in the registry is another block in the state
-rows-reblocked : (p t : ℕ) (b : Block) (known : List Known) (living : List (ℕ × Kind)) → rows_of p known (map (pair_with_block t b) living) ≡ machine.with_block t b (rows_of p known living)
+rows-reblocked : (p t : ℕ) (b : Block) (known : List Known) (living : List (ℕ × Kind))
+    → rows_of p known (map (pair_with_block t b) living) ≡ machine.with_block t b (rows_of p known living)
 rows-reblocked p t b known [] = refl
 rows-reblocked p t b known (live ∷ living) = by_kind live.0 live.1 (rows-reblocked p t b known living)
   where
     by_kind : (n : ℕ) (k : Kind) → rows_of p known (map (pair_with_block t b) living) ≡ machine.with_block t b (rows_of p known living)
-        → row_onto (known_of p known n) n (prelude.cond (eqb n t) (kind_with_block b k) k) (rows_of p known (map (pair_with_block t b) living)) ≡ machine.with_block t b (row_onto (known_of p known n) n k (rows_of p known living))
+        → row_onto (known_of p known n) n (prelude.cond (eqb n t) (kind_with_block b k) k) (rows_of p known (map (pair_with_block t b) living))
+        ≡ machine.with_block t b (row_onto (known_of p known n) n k (rows_of p known living))
     by_kind n kind.Agent rest = by_test (eqb n t)
       where
-        by_test : (c : Bool) → row_onto (known_of p known n) n (prelude.cond c kind.Agent kind.Agent) (rows_of p known (map (pair_with_block t b) living)) ≡ machine.with_block t b (rows_of p known living)
+        by_test : (c : Bool)
+            → row_onto (known_of p known n) n (prelude.cond c kind.Agent kind.Agent) (rows_of p known (map (pair_with_block t b) living))
+            ≡ machine.with_block t b (rows_of p known living)
         by_test true = rest
         by_test false = rest
     by_kind n (kind.Thread rec) rest = by_test (eqb n t)
       where
-        by_test : (c : Bool) → row_onto (known_of p known n) n (prelude.cond c (kind.Thread (record rec { block = b })) (kind.Thread rec)) (rows_of p known (map (pair_with_block t b) living))
+        by_test : (c : Bool)
+            → row_onto (known_of p known n) n (prelude.cond c (kind.Thread (record rec { block = b })) (kind.Thread rec))
+            (rows_of p known (map (pair_with_block t b) living))
             ≡ record (row_of (known_of p known n) n rec) { block = prelude.cond c b rec.block } ∷ machine.with_block t b (rows_of p known living)
         by_test true = ap (λ rows. row_of (known_of p known n) n (record rec { block = b }) ∷ rows) rest
         by_test false = ap (λ rows. row_of (known_of p known n) n rec ∷ rows) rest
@@ -63,7 +70,9 @@ rows-length t b [] = refl
 rows-length t b (row ∷ rows) = omega (arith, rows-length t b rows)
 
 -- who waits for something else still waits
-still-waits : (t u : ℕ) (b : Block) → not (is_not_blocked b) ≡ true → (rows : List ThreadRow) → passes waits (find (is_number u) (machine.with_block t b rows)) ≡ ((eqb u t && is_some (find (is_number u) rows)) || passes waits (find (is_number u) rows))
+still-waits : (t u : ℕ) (b : Block) → not (is_not_blocked b) ≡ true → (rows : List ThreadRow)
+    → passes waits (find (is_number u) (machine.with_block t b rows))
+    ≡ ((eqb u t && is_some (find (is_number u) rows)) || passes waits (find (is_number u) rows))
 still-waits t u b idle [] = none (eqb u t)
   where
     none : (c : Bool) → false ≡ ((c && false) || false)
@@ -84,7 +93,9 @@ module _ (parts : Parts) (t : ℕ) (b : Block) (idle : not (is_not_blocked b) �
 
   pub blocked-same : (u : ℕ) → passes waits (find (is_number u) (machine.with_block t b (state_of parts).threads)) ≡ machine.is_blocked_in (state_of parts) u
   blocked-same u = still-waits t u b idle (state_of parts).threads ∙ elim (cases_eq u t) [
-    | inl e ↦ or-true (eqb u t && is_some (find (is_number u) (state_of parts).threads)) (machine.is_blocked_in (state_of parts) u) (ap (machine.is_blocked_in (state_of parts)) e ∙ waiting)
+    | inl e
+        ↦ or-true (eqb u t && is_some (find (is_number u) (state_of parts).threads)) (machine.is_blocked_in (state_of parts) u)
+        (ap (machine.is_blocked_in (state_of parts)) e ∙ waiting)
     | inr away ↦ rw (ne_eqb u t away) refl
   ]
     where
@@ -92,10 +103,14 @@ module _ (parts : Parts) (t : ℕ) (b : Block) (idle : not (is_not_blocked b) �
       or-true true c e = sym e
       or-true false c e = refl
 
-priority-same : (t u : ℕ) (b : Block) (rows : List ThreadRow) → unwrap_or (option_map (λ (row : ThreadRow). row.priority) (find (is_number u) (machine.with_block t b rows))) 0 ≡ unwrap_or (option_map (λ (row : ThreadRow). row.priority) (find (is_number u) rows)) 0
+priority-same : (t u : ℕ) (b : Block) (rows : List ThreadRow)
+    → unwrap_or (option_map (λ (row : ThreadRow). row.priority) (find (is_number u) (machine.with_block t b rows))) 0
+    ≡ unwrap_or (option_map (λ (row : ThreadRow). row.priority) (find (is_number u) rows)) 0
 priority-same t u b rows = ap (λ o. unwrap_or (option_map (λ (row : ThreadRow). row.priority) o) 0) (find-row t u b rows) ∙ same (find (is_number u) rows)
   where
-    same : (o : Option ThreadRow) → unwrap_or (option_map (λ (row : ThreadRow). row.priority) (option_map (machine.row_with_block t b) o)) 0 ≡ unwrap_or (option_map (λ (row : ThreadRow). row.priority) o) 0
+    same : (o : Option ThreadRow)
+        → unwrap_or (option_map (λ (row : ThreadRow). row.priority) (option_map (machine.row_with_block t b) o)) 0
+        ≡ unwrap_or (option_map (λ (row : ThreadRow). row.priority) o) 0
     same None = refl
     same (Some row) = refl
 
@@ -122,8 +137,11 @@ entering-is k block.Sleeping = refl
 pub requests_stand : (s : State) (d : Option ℕ) → NineParts s d → Stand (λ (r : Request). r.tid) (λ r. r.mon) is_to_enter goal_of s.threads s.requests
 requests_stand s d was = record { here = λ t k. by_row t k (machine.thread_of s t) refl }
   where
-    by_row : (t k : ℕ) (o : Option ThreadRow) → machine.thread_of s t ≡ o → count_by (λ (r : Request). eqb r.tid t && eqb r.mon k) s.requests ≤ one (passes (λ (row : ThreadRow). is_to_enter row.block && eqb (goal_of row.block) k) (machine.thread_of s t))
-    by_row t k None e = omega (arith, was.blocks.2 t k, count_and-le (is_number t) (λ row. is_entering k row.block) s.threads, count_not_found (is_number t) s.threads e)
+    by_row : (t k : ℕ) (o : Option ThreadRow) → machine.thread_of s t ≡ o
+        → count_by (λ (r : Request). eqb r.tid t && eqb r.mon k) s.requests
+        ≤ one (passes (λ (row : ThreadRow). is_to_enter row.block && eqb (goal_of row.block) k) (machine.thread_of s t))
+    by_row t k None e =
+        omega (arith, was.blocks.2 t k, count_and-le (is_number t) (λ row. is_entering k row.block) s.threads, count_not_found (is_number t) s.threads e)
     by_row t k (Some row) e = rw e (omega (arith, requester_enters s d was t row e k, ap one (entering-is k row.block)))
 
 -- the waits on a condition are of different threads
@@ -131,7 +149,8 @@ waits-once : (s : State) (d : Option ℕ) → NineParts s d → (t c : ℕ) → 
 waits-once s d was t c = by_row (machine.thread_of s t) refl
   where
     by_row : (o : Option ThreadRow) → machine.thread_of s t ≡ o → waits_by s t c ≤ 1
-    by_row None e = omega (arith, was.blocks.3 t c, count_and-le (is_number t) (λ row. is_waiting c row.block) s.threads, count_not_found (is_number t) s.threads e)
+    by_row None e =
+        omega (arith, was.blocks.3 t c, count_and-le (is_number t) (λ row. is_waiting c row.block) s.threads, count_not_found (is_number t) s.threads e)
     by_row (Some x) e = omega (arith, waiter_waits s d was t x e c, one-le (is_waiting c x.block))
 
 pub IsWaitedOnce-lawful : (parts : Parts) → NineParts (state_of parts) parts.dying → (c : ℕ) → IsWaitedOnce parts.conds c
@@ -143,9 +162,16 @@ IsWaitedOnce-lawful parts nine c u = omega (arith, waits-once (state_of parts) p
     swap false true = refl
     swap false false = refl
 
-    counted : (ws : List WaitRec) → count_by (λ w. is_on c w && is_wait_of u w) ws ≡ count_by (λ (w : WaitRow). eqb w.tid u && eqb w.cond c) (map cond.machine_row ws)
+    counted : (ws : List WaitRec)
+        → count_by (λ w. is_on c w && is_wait_of u w) ws ≡ count_by (λ (w : WaitRow). eqb w.tid u && eqb w.cond c) (map cond.machine_row ws)
     counted [] = refl
-    counted (w ∷ ws) = omega (arith, counted ws, swap (eqb w.cond c) (eqb w.tid u), count-cons (λ w. is_on c w && is_wait_of u w) w ws, count-cons (λ (w : WaitRow). eqb w.tid u && eqb w.cond c) (cond.machine_row w) (map cond.machine_row ws))
+    counted (w ∷ ws) = omega (
+      arith,
+      counted ws,
+      swap (eqb w.cond c) (eqb w.tid u),
+      count-cons (λ w. is_on c w && is_wait_of u w) w ws,
+      count-cons (λ (w : WaitRow). eqb w.tid u && eqb w.cond c) (cond.machine_row w) (map cond.machine_row ws),
+    )
 
 -- ---- one is woken
 
@@ -162,7 +188,8 @@ module _ (parts : Parts) (t c m : ℕ) (w : WaitRec) (ws : List WaitRec) (h : Si
   after = waking_next parts.dying t c row (cond.machine_row w) (map cond.machine_row ws) (state_of parts) h.waking
 
   who : Waiter (state_of parts) w.tid c
-  who = waiter (state_of parts) parts.dying h.waking.nine w.tid c (first_waits parts.dying t c row (cond.machine_row w) (map cond.machine_row ws) (state_of parts) h.waking)
+  who = waiter (state_of parts) parts.dying h.waking.nine w.tid c
+      (first_waits parts.dying t c row (cond.machine_row w) (map cond.machine_row ws) (state_of parts) h.waking)
 
   waiting : machine.is_blocked_in (state_of parts) w.tid ≡ true
   waiting = ap (passes waits) who.known ∙ ap (λ b. not (is_not_blocked b)) who.waits
@@ -171,10 +198,17 @@ module _ (parts : Parts) (t c m : ℕ) (w : WaitRec) (ws : List WaitRec) (h : Si
   pub may-ask : MayAsk parts.mons m w
   may-ask = record {
     held = (and_parts (is_owned_by_other parts.mons.locks w.tid m) (is_depth w.depth) fine.1).0;
-    nowhere = none_there (mon.is_request_of w.tid) parts.mons.requests (counted parts.mons.requests ∙ nowhere (λ (r : Request). r.tid) (λ r. r.mon) is_to_enter goal_of (state_of parts).threads (state_of parts).requests stand w.tid who.row who.known out);
+    nowhere = none_there (mon.is_request_of w.tid) parts.mons.requests (counted parts.mons.requests
+        ∙ nowhere (λ (r : Request). r.tid) (λ r. r.mon) is_to_enter goal_of (state_of parts).threads (state_of parts).requests stand w.tid
+        who.row who.known out);
     least = leb-true 1 w.depth deep.0;
     most = leb-true w.depth 65535 deep.1;
-    room = omega (arith, h.step.roomy.requests, length-map parts.mons.requests mon.machine_row, a_place (λ (r : Request). r.tid) (λ r. r.mon) is_to_enter goal_of (state_of parts).threads (state_of parts).requests stand w.tid who.row who.known out);
+    room = omega (
+      arith,
+      h.step.roomy.requests,
+      length-map parts.mons.requests mon.machine_row,
+      a_place (λ (r : Request). r.tid) (λ r. r.mon) is_to_enter goal_of (state_of parts).threads (state_of parts).requests stand w.tid who.row who.known out,
+    );
   }
     where
       stand : Stand (λ (r : Request). r.tid) (λ r. r.mon) is_to_enter goal_of (state_of parts).threads (state_of parts).requests
@@ -184,14 +218,21 @@ module _ (parts : Parts) (t c m : ℕ) (w : WaitRec) (ws : List WaitRec) (h : Si
       out = ap is_to_enter who.waits
 
       fine : (member m parts.mons.monitors ≡ true) × ((is_owned_by_other parts.mons.locks w.tid m && is_depth w.depth) ≡ true)
-      fine = and_parts _ _ (all_at (λ (q : Request). member q.mon parts.mons.monitors && (is_owned_by_other parts.mons.locks q.tid q.mon && is_depth q.depth)) (state_of parts).requests (record { mon = m; tid = w.tid; depth = w.depth }) [] after.nine.locks.2)
+      fine = and_parts _ _ (all_at (λ (q : Request). member q.mon parts.mons.monitors
+          && (is_owned_by_other parts.mons.locks q.tid q.mon && is_depth q.depth)) (state_of parts).requests
+          (record { mon = m; tid = w.tid; depth = w.depth }) [] after.nine.locks.2)
 
       deep : (leb 1 w.depth ≡ true) × (leb w.depth 65535 ≡ true)
       deep = and_parts (leb 1 w.depth) (leb w.depth 65535) (and_parts (is_owned_by_other parts.mons.locks w.tid m) (is_depth w.depth) fine.1).1
 
       counted : (rs : List EntryRequest) → count_by (mon.is_request_of w.tid) rs ≡ count_by (λ (r : Request). eqb r.tid w.tid) (map mon.machine_row rs)
       counted [] = refl
-      counted (r ∷ rs) = omega (arith, counted rs, count-cons (mon.is_request_of w.tid) r rs, count-cons (λ (r : Request). eqb r.tid w.tid) (mon.machine_row r) (map mon.machine_row rs))
+      counted (r ∷ rs) = omega (
+        arith,
+        counted rs,
+        count-cons (mon.is_request_of w.tid) r rs,
+        count-cons (λ (r : Request). eqb r.tid w.tid) (mon.machine_row r) (map mon.machine_row rs),
+      )
 
   threads-are : (state_of (after_signal parts m w)).threads ≡ machine.with_block w.tid (block.Entering m) (state_of parts).threads
   threads-are = rows-reblocked parts.last_prio w.tid (block.Entering m) parts.sched.threads parts.ids.live
@@ -205,22 +246,37 @@ module _ (parts : Parts) (t c m : ℕ) (w : WaitRec) (ws : List WaitRec) (h : Si
   ) refl
 
   same-priority : (u : ℕ) → machine.priority_in (state_of (after_signal parts m w)) u ≡ machine.priority_in (state_of parts) u
-  same-priority u = ap (λ rows. unwrap_or (option_map (λ (row : ThreadRow). row.priority) (find (is_number u) rows)) 0) threads-are ∙ priority-same w.tid u (block.Entering m) (state_of parts).threads
+  same-priority u = ap (λ rows. unwrap_or (option_map (λ (row : ThreadRow). row.priority) (find (is_number u) rows)) 0) threads-are
+      ∙ priority-same w.tid u (block.Entering m) (state_of parts).threads
 
   module _ (ranked : w.prio ≡ machine.priority_in (state_of parts) w.tid) where
     pub InStep-signalled : InStep (after_signal parts m w)
     InStep-signalled = record {
       tied = record {
-        known = λ u. h.step.tied.known u ∙ ap (λ b. b && not (is_same_option parts.dying u)) (sym (ap (λ rows. is_some (find (is_number u) rows)) threads-are ∙ ap is_some (find-row w.tid u (block.Entering m) (state_of parts).threads) ∙ same-some (machine.row_with_block w.tid (block.Entering m)) (find (is_number u) (state_of parts).threads)));
-        waits = λ u. h.step.tied.waits u ∙ sym (ap (λ rows. passes waits (find (is_number u) rows)) threads-are ∙ blocked-same parts w.tid (block.Entering m) refl waiting u);
+        known = λ u. h.step.tied.known u
+            ∙ ap (λ b. b && not (is_same_option parts.dying u)) (sym (ap (λ rows. is_some (find (is_number u) rows)) threads-are
+            ∙ ap is_some (find-row w.tid u (block.Entering m) (state_of parts).threads)
+            ∙ same-some (machine.row_with_block w.tid (block.Entering m)) (find (is_number u) (state_of parts).threads)));
+        waits = λ u. h.step.tied.waits u
+            ∙ sym (ap (λ rows. passes waits (find (is_number u) rows)) threads-are ∙ blocked-same parts w.tid (block.Entering m) refl waiting u);
       };
       ranked = record {
-        requests = mons.ranked_same (machine.priority_in (state_of parts)) (machine.priority_in (state_of (after_signal parts m w))) (mon.after_request parts.mons asks) (mons.ranked_requested (machine.priority_in (state_of parts)) parts.mons h.step.ranked.requests asks ranked) same-priority;
-        waits = conds.ranked_same (machine.priority_in (state_of parts)) (machine.priority_in (state_of (after_signal parts m w))) (cond.after_wake parts.conds (Some w)) (conds.ranked_forgotten (machine.priority_in (state_of parts)) parts.conds h.step.ranked.waits w.tid) same-priority;
+        requests = mons.ranked_same (machine.priority_in (state_of parts)) (machine.priority_in (state_of (after_signal parts m w)))
+            (mon.after_request parts.mons asks)
+            (mons.ranked_requested (machine.priority_in (state_of parts)) parts.mons h.step.ranked.requests asks ranked) same-priority;
+        waits = conds.ranked_same (machine.priority_in (state_of parts)) (machine.priority_in (state_of (after_signal parts m w)))
+            (cond.after_wake parts.conds (Some w))
+            (conds.ranked_forgotten (machine.priority_in (state_of parts)) parts.conds h.step.ranked.waits w.tid) same-priority;
       };
       roomy =
-          let same : length (state_of (after_signal parts m w)).threads ≡ length (state_of parts).threads = ap length threads-are ∙ rows-length w.tid (block.Entering m) (state_of parts).threads in
-          record { letters = omega (arith, same, h.step.roomy.letters); threads = omega (arith, same, h.step.roomy.threads); requests = omega (arith, same, h.step.roomy.requests); waits = omega (arith, same, h.step.roomy.waits) };
+          let same : length (state_of (after_signal parts m w)).threads
+          ≡ length (state_of parts).threads = ap length threads-are ∙ rows-length w.tid (block.Entering m) (state_of parts).threads in
+          record {
+            letters = omega (arith, same, h.step.roomy.letters);
+            threads = omega (arith, same, h.step.roomy.threads);
+            requests = omega (arith, same, h.step.roomy.requests);
+            waits = omega (arith, same, h.step.roomy.waits);
+          };
       monitors = h.step.monitors;
       conditions = h.step.conditions;
       noted = noted-block parts.named w.tid (block.Entering m) refl parts.ids.live h.step.noted;

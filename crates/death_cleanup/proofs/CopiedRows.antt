@@ -20,10 +20,14 @@ module _ (p : ℕ) (known : List Known) (living : List (ℕ × Kind)) (i n : ℕ
   rows-at : rows_of p known (drop i living) ≡ row_onto (known_of p known n) n k rest
   rows-at = ap (rows_of p known) (drop-some living i (n, k) at)
 
-  pub copied-thread : (rec : ThreadRec) → k ≡ kind.Thread rec → (copy : ThreadCopy) → row_in copy ≡ row_of (known_of p known n) n rec → (copies : List ThreadCopy) (all : List ThreadRow)
+  pub copied-thread : (rec : ThreadRec) → k ≡ kind.Thread rec → (copy : ThreadCopy) → row_in copy ≡ row_of (known_of p known n) n rec
+      → (copies : List ThreadCopy) (all : List ThreadRow)
       → map row_in copies ++ rows_of p known (drop i living) ≡ all → map row_in (copies ++ copy ∷ []) ++ rest ≡ all
-  copied-thread rec is copy of copies all so_far = ap (λ rows. rows ++ rest) (map-append row_in copies (copy ∷ [])) ∙ append_assoc (map row_in copies) (row_in copy ∷ []) rest
-      ∙ ap (λ row. map row_in copies ++ row ∷ rest) of ∙ ap (λ rows. map row_in copies ++ rows) (sym (rows-at ∙ ap (λ o. row_onto (known_of p known n) n o rest) is)) ∙ so_far
+  copied-thread rec is copy of copies all so_far = ap (λ rows. rows ++ rest) (map-append row_in copies (copy ∷ []))
+      ∙ append_assoc (map row_in copies) (row_in copy ∷ []) rest
+      ∙ ap (λ row. map row_in copies ++ row ∷ rest) of
+      ∙ ap (λ rows. map row_in copies ++ rows) (sym (rows-at ∙ ap (λ o. row_onto (known_of p known n) n o rest) is)) ∙ so_far
 
-  pub passed-agent : k ≡ kind.Agent → (copies : List ThreadCopy) (all : List ThreadRow) → map row_in copies ++ rows_of p known (drop i living) ≡ all → map row_in copies ++ rest ≡ all
+  pub passed-agent : k ≡ kind.Agent → (copies : List ThreadCopy) (all : List ThreadRow)
+      → map row_in copies ++ rows_of p known (drop i living) ≡ all → map row_in copies ++ rest ≡ all
   passed-agent is copies all so_far = ap (λ rows. map row_in copies ++ rows) (sym (rows-at ∙ ap (λ o. row_onto (known_of p known n) n o rest) is)) ∙ so_far

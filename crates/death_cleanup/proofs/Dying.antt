@@ -22,10 +22,12 @@ use Rattle.std.proofs.Common.{List, None, Some, [], ap, arith, length, length-ap
 use Rattle.std.proofs.lemmas.List.{append-nil, append_assoc}
 
 -- the state and the effects of one outcome and then another
-told_then : (now : State) (before between after : List Effect) (first : Outcome) (more : State → Outcome) → between ≡ before ++ first.effects → (now ≡ (more first.after).after) × (after ≡ between ++ (more first.after).effects)
+told_then : (now : State) (before between after : List Effect) (first : Outcome) (more : State → Outcome)
+    → between ≡ before ++ first.effects → (now ≡ (more first.after).after) × (after ≡ between ++ (more first.after).effects)
     → (now ≡ (and_then first more).after) × (after ≡ before ++ (and_then first more).effects)
 unfolding and_then
-told_then now before between after first more e rest = (rest.0, rest.1 ∙ ap (λ es. es ++ (more first.after).effects) e ∙ append_assoc before first.effects (more first.after).effects)
+told_then now before between after first more e rest =
+    (rest.0, rest.1 ∙ ap (λ es. es ++ (more first.after).effects) e ∙ append_assoc before first.effects (more first.after).effects)
 
 module _ (parts : Parts) (t : ℕ) (lawful : LawfulParts parts) (none : parts.dying ≡ None) (lives : is_thread (state_of parts) t ≡ true) where
   abbrev s0 : State
@@ -59,20 +61,29 @@ module _ (parts : Parts) (t : ℕ) (lawful : LawfulParts parts) (none : parts.dy
   who = living s0 t lives
 
   -- how many effects the steps have
-  pub few : (length (run_all_exits t s1).effects + (length (release_all t s2).effects + (length (end_agents t s3).effects + (length (refuse_senders t s4).effects + (length (refuse_receivers t s5).effects + (length (answer_joiners t s6).effects + 1)))))) ≤ 1279
+  pub few : (length (run_all_exits t s1).effects
+      + (length (release_all t s2).effects
+      + (length (end_agents t s3).effects
+      + (length (refuse_senders t s4).effects + (length (refuse_receivers t s5).effects + (length (answer_joiners t s6).effects + 1))))))
+      ≤ 1279
   unfolding in_order and_then
   few = omega (
     arith,
     death_few s0 nine t who.row who.known,
-    length-append (run_all_exits t s1).effects ((release_all t s2).effects ++ ((end_agents t s3).effects ++ ((refuse_senders t s4).effects ++ ((refuse_receivers t s5).effects ++ ((answer_joiners t s6).effects ++ ((bury t s7).effects ++ [])))))),
-    length-append (release_all t s2).effects ((end_agents t s3).effects ++ ((refuse_senders t s4).effects ++ ((refuse_receivers t s5).effects ++ ((answer_joiners t s6).effects ++ ((bury t s7).effects ++ []))))),
-    length-append (end_agents t s3).effects ((refuse_senders t s4).effects ++ ((refuse_receivers t s5).effects ++ ((answer_joiners t s6).effects ++ ((bury t s7).effects ++ [])))),
+    length-append (run_all_exits t s1).effects ((release_all t s2).effects
+        ++ ((end_agents t s3).effects
+        ++ ((refuse_senders t s4).effects ++ ((refuse_receivers t s5).effects ++ ((answer_joiners t s6).effects ++ ((bury t s7).effects ++ [])))))),
+    length-append (release_all t s2).effects ((end_agents t s3).effects
+        ++ ((refuse_senders t s4).effects ++ ((refuse_receivers t s5).effects ++ ((answer_joiners t s6).effects ++ ((bury t s7).effects ++ []))))),
+    length-append (end_agents t s3).effects
+        ((refuse_senders t s4).effects ++ ((refuse_receivers t s5).effects ++ ((answer_joiners t s6).effects ++ ((bury t s7).effects ++ [])))),
     length-append (refuse_senders t s4).effects ((refuse_receivers t s5).effects ++ ((answer_joiners t s6).effects ++ ((bury t s7).effects ++ []))),
     length-append (refuse_receivers t s5).effects ((answer_joiners t s6).effects ++ ((bury t s7).effects ++ [])),
     length-append (answer_joiners t s6).effects ((bury t s7).effects ++ []),
   )
 
-  module _ (before : List Effect) (room : length before + 1279 ≤ 2048) (p1 : Parts) (after1 : state_of p1 ≡ s1) (dying1 : p1.dying ≡ Some t) (step1 : InStep p1) where
+  module _ (before : List Effect) (room : length before + 1279 ≤ 2048) (p1 : Parts) (after1 : state_of p1 ≡ s1) (dying1 : p1.dying ≡ Some t)
+      (step1 : InStep p1) where
     pub lawful1 : LawfulParts p1
     lawful1 = record { nine = rw (after1, dying1) (nine_withdrawn s0 nine t who.row who.known); step = step1 }
 
@@ -157,7 +168,12 @@ module _ (parts : Parts) (t : ℕ) (lawful : LawfulParts parts) (none : parts.dy
               told6 = came6.effects ∙ ap (λ s. m5 ++ (refuse_receivers t s).effects) after5
 
               pub threads6 : HasLawfulThreads (state_of p6)
-              threads6 = record { lawful = s6; dying = Some t; nine = (wake_all (awaits t) (awaits_alone t) nonexist s5 (Some t) nine5).0.nine; threads = ap (λ (s : State). s.threads) (sym after6) }
+              threads6 = record {
+                lawful = s6;
+                dying = Some t;
+                nine = (wake_all (awaits t) (awaits_alone t) nonexist s5 (Some t) nine5).0.nine;
+                threads = ap (λ (s : State). s.threads) (sym after6);
+              }
 
               size6 : length m6 ≡ length m5 + length (refuse_receivers t s5).effects
               size6 = ap length told6 ∙ length-append m5 (refuse_receivers t s5).effects
@@ -184,18 +200,26 @@ module _ (parts : Parts) (t : ℕ) (lawful : LawfulParts parts) (none : parts.dy
                 pub room7 : length m7 < 2048
                 room7 = omega (arith, few, room, size2, size3, size4, size5, size6, size7)
 
-                module _ (new : Parts) (m8 : List Effect) (after8 : state_of new ≡ (bury t (state_of p7)).after) (told8 : m8 ≡ m7 ++ (bury t (state_of p7)).effects) (step8 : InStep new) (none8 : new.dying ≡ None) where
+                module _ (new : Parts) (m8 : List Effect) (after8 : state_of new ≡ (bury t (state_of p7)).after)
+                    (told8 : m8 ≡ m7 ++ (bury t (state_of p7)).effects) (step8 : InStep new) (none8 : new.dying ≡ None) where
                   told : (state_of new ≡ (death t s0).after) × (m8 ≡ before ++ (death t s0).effects)
                   unfolding in_order
                   told =
-                      let last = told_then (state_of new) m7 m8 m8 (bury t s7) (in_order []) told8 (after8 ∙ ap (λ s. (bury t s).after) after7, sym (append-nil m8)) in
+                      let last = told_then (state_of new) m7 m8 m8 (bury t s7) (in_order []) told8
+                      (after8 ∙ ap (λ s. (bury t s).after) after7, sym (append-nil m8)) in
                       let joined = told_then (state_of new) m6 m7 m8 (answer_joiners t s6) (in_order (bury t ∷ [])) told7 last in
                       let received = told_then (state_of new) m5 m6 m8 (refuse_receivers t s5) (in_order (answer_joiners t ∷ bury t ∷ [])) told6 joined in
-                      let sent = told_then (state_of new) m4 m5 m8 (refuse_senders t s4) (in_order (refuse_receivers t ∷ answer_joiners t ∷ bury t ∷ [])) told5 received in
-                      let ended = told_then (state_of new) m3 m4 m8 (end_agents t s3) (in_order (refuse_senders t ∷ refuse_receivers t ∷ answer_joiners t ∷ bury t ∷ [])) told4 sent in
-                      let released = told_then (state_of new) m2 m3 m8 (release_all t s2) (in_order (end_agents t ∷ refuse_senders t ∷ refuse_receivers t ∷ answer_joiners t ∷ bury t ∷ [])) told3 ended in
-                      let unwound = told_then (state_of new) before m2 m8 (run_all_exits t s1) (in_order (release_all t ∷ end_agents t ∷ refuse_senders t ∷ refuse_receivers t ∷ answer_joiners t ∷ bury t ∷ [])) told2 released in
-                      told_then (state_of new) before before m8 (withdraw t s0) (in_order (run_all_exits t ∷ release_all t ∷ end_agents t ∷ refuse_senders t ∷ refuse_receivers t ∷ answer_joiners t ∷ bury t ∷ [])) (sym (append-nil before)) unwound
+                      let sent = told_then (state_of new) m4 m5 m8 (refuse_senders t s4)
+                      (in_order (refuse_receivers t ∷ answer_joiners t ∷ bury t ∷ [])) told5 received in
+                      let ended = told_then (state_of new) m3 m4 m8 (end_agents t s3)
+                      (in_order (refuse_senders t ∷ refuse_receivers t ∷ answer_joiners t ∷ bury t ∷ [])) told4 sent in
+                      let released = told_then (state_of new) m2 m3 m8 (release_all t s2)
+                      (in_order (end_agents t ∷ refuse_senders t ∷ refuse_receivers t ∷ answer_joiners t ∷ bury t ∷ [])) told3 ended in
+                      let unwound = told_then (state_of new) before m2 m8 (run_all_exits t s1)
+                      (in_order (release_all t ∷ end_agents t ∷ refuse_senders t ∷ refuse_receivers t ∷ answer_joiners t ∷ bury t ∷ [])) told2 released in
+                      told_then (state_of new) before before m8 (withdraw t s0)
+                      (in_order (run_all_exits t ∷ release_all t ∷ end_agents t ∷ refuse_senders t ∷ refuse_receivers t ∷ answer_joiners t ∷ bury t ∷ []))
+                      (sym (append-nil before)) unwound
 
                   pub died : CameTo parts new before m8 (death t (state_of parts))
                   died = record { state = told.0; effects = told.1; step = step8; dying = none8 ∙ sym none }

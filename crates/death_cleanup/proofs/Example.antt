@@ -39,21 +39,31 @@ AreAlike [] (r ∷ rs) = ⊥
 AreAlike (k ∷ ks) [] = ⊥
 AreAlike (k ∷ ks) (r ∷ rs) = ((k.tid ≡ r.number) × (k.blocked ≡ not (is_not_blocked r.block))) × AreAlike ks rs
 
-alike : (ks : List Known) (rs : List ThreadRow) → AreAlike ks rs → (t : ℕ) → (is_some (find (is_of t) ks) ≡ (is_some (find (is_number t) rs) && true)) × (passes (λ (k : Known). k.blocked) (find (is_of t) ks) ≡ passes (λ (r : ThreadRow). not (is_not_blocked r.block)) (find (is_number t) rs))
+alike : (ks : List Known) (rs : List ThreadRow) → AreAlike ks rs → (t : ℕ)
+    → (is_some (find (is_of t) ks) ≡ (is_some (find (is_number t) rs) && true))
+    × (passes (λ (k : Known). k.blocked) (find (is_of t) ks) ≡ passes (λ (r : ThreadRow). not (is_not_blocked r.block)) (find (is_number t) rs))
 alike [] [] h t = (refl, refl)
 alike [] (r ∷ rs) h t = absurd h
 alike (k ∷ ks) [] h t = absurd h
 alike (k ∷ ks) (r ∷ rs) h t = by_test (eqb k.tid t) (eqb r.number t) (ap (λ n. eqb n t) h.0.0) (alike ks rs h.1 t)
   where
-    by_test : (a b : Bool) → a ≡ b → (is_some (find (is_of t) ks) ≡ (is_some (find (is_number t) rs) && true)) × (passes (λ (k : Known). k.blocked) (find (is_of t) ks) ≡ passes (λ (r : ThreadRow). not (is_not_blocked r.block)) (find (is_number t) rs))
-        → (is_some (cond a (Some k) (find (is_of t) ks)) ≡ (is_some (cond b (Some r) (find (is_number t) rs)) && true)) × (passes (λ (k : Known). k.blocked) (cond a (Some k) (find (is_of t) ks)) ≡ passes (λ (r : ThreadRow). not (is_not_blocked r.block)) (cond b (Some r) (find (is_number t) rs)))
+    by_test : (a b : Bool) → a ≡ b
+        → (is_some (find (is_of t) ks) ≡ (is_some (find (is_number t) rs) && true))
+        × (passes (λ (k : Known). k.blocked) (find (is_of t) ks) ≡ passes (λ (r : ThreadRow). not (is_not_blocked r.block)) (find (is_number t) rs))
+        → (is_some (cond a (Some k) (find (is_of t) ks)) ≡ (is_some (cond b (Some r) (find (is_number t) rs)) && true))
+        × (passes (λ (k : Known). k.blocked) (cond a (Some k) (find (is_of t) ks))
+        ≡ passes (λ (r : ThreadRow). not (is_not_blocked r.block)) (cond b (Some r) (find (is_number t) rs)))
     by_test true true e rest = (refl, h.0.1)
     by_test true false e rest = absurd (cc)
     by_test false true e rest = absurd (cc)
     by_test false false e rest = rest
 
-tied : (t : ℕ) → (is_some (find (is_of t) example.parts.sched.threads) ≡ (is_some (find (is_number t) (state_of example.parts).threads) && true)) × (passes (λ (k : Known). k.blocked) (find (is_of t) example.parts.sched.threads) ≡ passes (λ (r : ThreadRow). not (is_not_blocked r.block)) (find (is_number t) (state_of example.parts).threads))
-tied t = alike example.parts.sched.threads (state_of example.parts).threads ((refl, refl), ((refl, refl), ((refl, refl), ((refl, refl), ((refl, refl), ((refl, refl), ((refl, refl), ((refl, refl), tt)))))))) t
+tied : (t : ℕ)
+    → (is_some (find (is_of t) example.parts.sched.threads) ≡ (is_some (find (is_number t) (state_of example.parts).threads) && true))
+    × (passes (λ (k : Known). k.blocked) (find (is_of t) example.parts.sched.threads)
+    ≡ passes (λ (r : ThreadRow). not (is_not_blocked r.block)) (find (is_number t) (state_of example.parts).threads))
+tied t = alike example.parts.sched.threads (state_of example.parts).threads
+    ((refl, refl), ((refl, refl), ((refl, refl), ((refl, refl), ((refl, refl), ((refl, refl), ((refl, refl), ((refl, refl), tt)))))))) t
 
 pub lawful_parts : LawfulParts example.parts
 lawful_parts = record {

@@ -19,14 +19,21 @@ use Rattle.lwp_types.specs.declared.call.Answer.TheVariants as answer
 use Rattle.lwp_types.specs.declared.call.Effect.TheVariants as effect
 use Rattle.lwp_types.specs.declared.call.ExitCall.TheVariants as exit
 use Rattle.pod_laws.proofs.ExitCalls.{run_exit_keeps}
-use Rattle.std.proofs.Common.{Bool, List, None, Option, Some, [], ap, append_assoc, arith, cond, false, length, length-append, sym, true, ℕ, ◌++◌, ◌+◌, ◌-◌, ◌∙◌, ◌∷◌, ◌≤◌}
+use Rattle.std.proofs.Common.{Bool, List, None, Option, Some, [], ap, append_assoc, arith, cond, false}
+use Rattle.std.proofs.Common.{length, length-append, sym, true, ℕ, ◌++◌, ◌+◌, ◌-◌, ◌∙◌, ◌∷◌, ◌≤◌}
 use Rattle.std.proofs.lemmas.List.{append-nil}
 use Rattle.std.specs.Prelude.{nat_le, unwrap_or}
 
 -- a call that tells nothing tells nothing after other effects either
-pub answers_behind : (old new : Parts) (effects : List Effect) (made : Case) (a : Answer) → Answers old new [] [] made a → Answers old new effects effects made a
+pub answers_behind : (old new : Parts) (effects : List Effect) (made : Case) (a : Answer) → Answers old new [] [] made a
+    → Answers old new effects effects made a
 answers_behind old new effects made a quiet = record {
-  came = record { state = quiet.came.state; effects = sym (append-nil effects) ∙ ap (λ es. effects ++ es) quiet.came.effects; step = quiet.came.step; dying = quiet.came.dying };
+  came = record {
+    state = quiet.came.state;
+    effects = sym (append-nil effects) ∙ ap (λ es. effects ++ es) quiet.came.effects;
+    step = quiet.came.step;
+    dying = quiet.came.dying;
+  };
   own = quiet.own;
 }
 
@@ -37,7 +44,8 @@ unfolding unless
 few_unless s [] otherwise few = few
 few_unless s (check ∷ checks) otherwise few = by_test check.0 (few_unless s checks otherwise few)
   where
-    by_test : (b : Bool) → length (unless s checks otherwise).others ≤ 1 → length (cond b (record { after = s; others = []; own = Some (answer.Refused check.1) }) (unless s checks otherwise)).others ≤ 1
+    by_test : (b : Bool) → length (unless s checks otherwise).others ≤ 1
+        → length (cond b (record { after = s; others = []; own = Some (answer.Refused check.1) }) (unless s checks otherwise)).others ≤ 1
     by_test true rest = omega arith
     by_test false rest = rest
 
@@ -58,7 +66,10 @@ few_exited m s = by_test (nat_le (depth_in s.locks m) 1)
 few_replied : (u : ℕ) (text : List ℕ) (s : State) → length (after_reply u text s).effects ≤ 1
 few_replied u text s = by_test (is_agent s u)
   where
-    by_test : (b : Bool) → length (cond b (still (record s { letters = without_letter u s.letters; agents = with_holding u false s.agents })) (unblock (answer.Reply text) u (record s { letters = without_letter u s.letters }))).effects ≤ 1
+    by_test : (b : Bool)
+        → length (cond b (still (record s { letters = without_letter u s.letters; agents = with_holding u false s.agents }))
+        (unblock (answer.Reply text) u (record s { letters = without_letter u s.letters }))).effects
+        ≤ 1
     by_test true = omega arith
     by_test false = omega arith
 
@@ -72,7 +83,8 @@ few_others s t (exit.Resume u) = few_unless s _ _ (omega arith)
 few_others s t (exit.SetExit code) = few_unless s _ _ (omega arith)
 few_others s t (exit.Note text) = omega arith
 
-module _ (old new : Parts) (lawful : LawfulParts old) (t : ℕ) (x : ExitMark) (before after : List Effect) (a : Answer) (made : Answers old new before after (exit_case (state_of old) t x.call) a) where
+module _ (old new : Parts) (lawful : LawfulParts old) (t : ℕ) (x : ExitMark) (before after : List Effect) (a : Answer)
+    (made : Answers old new before after (exit_case (state_of old) t x.call) a) where
   -- its result comes after what it did to others
   pub came_exited : CameTo old new before (after ++ effect.Exited t x.reg x.call a ∷ []) (run_exit t x (state_of old))
   came_exited = record {

@@ -20,7 +20,8 @@ module _ {X : Type 0} (key : X → ℕ) (p : X → Bool) where
   found_first [] k found = absurd (cc)
   found_first (x ∷ xs) k found = by_test (p x) (found_first xs k) found
     where
-      by_test : (c : Bool) → (option_map key (find p xs) ≡ Some k → Front (map key (filter p xs)) k) → option_map key (cond c (Some x) (find p xs)) ≡ Some k → Front (map key (cond c (x ∷ filter p xs) (filter p xs))) k
+      by_test : (c : Bool) → (option_map key (find p xs) ≡ Some k → Front (map key (filter p xs)) k)
+          → option_map key (cond c (Some x) (find p xs)) ≡ Some k → Front (map key (cond c (x ∷ filter p xs) (filter p xs))) k
       by_test true rest here = let same : key x ≡ k = cc in record { rest = map key (filter p xs); is = ap (λ y. y ∷ map key (filter p xs)) same }
       by_test false rest later = rest later
 
@@ -28,7 +29,8 @@ module _ {X : Type 0} (key : X → ℕ) (p : X → Bool) where
   found_none [] none = refl
   found_none (x ∷ xs) none = by_test (p x) (found_none xs) none
     where
-      by_test : (c : Bool) → (option_map key (find p xs) ≡ None → map key (filter p xs) ≡ []) → option_map key (cond c (Some x) (find p xs)) ≡ None → map key (cond c (x ∷ filter p xs) (filter p xs)) ≡ []
+      by_test : (c : Bool) → (option_map key (find p xs) ≡ None → map key (filter p xs) ≡ [])
+          → option_map key (cond c (Some x) (find p xs)) ≡ None → map key (cond c (x ∷ filter p xs) (filter p xs)) ≡ []
       by_test true rest here = absurd (cc)
       by_test false rest later = rest later
 
@@ -46,8 +48,15 @@ module _ (what : Awaited) (t p : ℕ) (known : List Known) where
         where
           by_test : (c : Bool) → (first_waiting what t living ≡ Some u → Front (waiting what t (rows_of p known living)) u)
               → option_map (λ (l : ℕ × Kind). l.0) (cond c (Some (n, kind.Thread rec)) (find (λ (l : ℕ × Kind). waits_for what t l.1) living)) ≡ Some u
-              → Front (map (λ (row : ThreadRow). row.number) (cond c (row_of (known_of p known n) n rec ∷ filter (λ (row : ThreadRow). block_waits what t row.block) (rows_of p known living)) (filter (λ (row : ThreadRow). block_waits what t row.block) (rows_of p known living)))) u
-          by_test true rest here = let same : n ≡ u = cc in record { rest = waiting what t (rows_of p known living); is = ap (λ y. y ∷ waiting what t (rows_of p known living)) same }
+              → Front
+              (map (λ (row : ThreadRow). row.number)
+              (cond c (row_of (known_of p known n) n rec ∷ filter (λ (row : ThreadRow). block_waits what t row.block) (rows_of p known living)) (filter
+              (λ (row : ThreadRow). block_waits what t row.block) (rows_of p known living))))
+              u
+          by_test true rest here = let same : n ≡ u = cc in record {
+            rest = waiting what t (rows_of p known living);
+            is = ap (λ y. y ∷ waiting what t (rows_of p known living)) same;
+          }
           by_test false rest later = rest later
 
   pub waiting_none : (living : List (ℕ × Kind)) → first_waiting what t living ≡ None → waiting what t (rows_of p known living) ≡ []
@@ -62,6 +71,9 @@ module _ (what : Awaited) (t p : ℕ) (known : List Known) where
         where
           by_test : (c : Bool) → (first_waiting what t living ≡ None → waiting what t (rows_of p known living) ≡ [])
               → option_map (λ (l : ℕ × Kind). l.0) (cond c (Some (n, kind.Thread rec)) (find (λ (l : ℕ × Kind). waits_for what t l.1) living)) ≡ None
-              → map (λ (row : ThreadRow). row.number) (cond c (row_of (known_of p known n) n rec ∷ filter (λ (row : ThreadRow). block_waits what t row.block) (rows_of p known living)) (filter (λ (row : ThreadRow). block_waits what t row.block) (rows_of p known living))) ≡ []
+              → map (λ (row : ThreadRow). row.number)
+              (cond c (row_of (known_of p known n) n rec ∷ filter (λ (row : ThreadRow). block_waits what t row.block) (rows_of p known living)) (filter
+              (λ (row : ThreadRow). block_waits what t row.block) (rows_of p known living)))
+              ≡ []
           by_test true rest here = absurd (cc)
           by_test false rest later = rest later

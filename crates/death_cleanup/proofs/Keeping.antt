@@ -44,7 +44,12 @@ module _ (parts : Parts) (step : InStep parts) where
   InStep-mail mail same = record {
     tied = record { known = step.tied.known; waits = step.tied.waits };
     ranked = record { requests = step.ranked.requests; waits = step.ranked.waits };
-    roomy = record { letters = omega (arith, same, step.roomy.letters); threads = step.roomy.threads; requests = step.roomy.requests; waits = step.roomy.waits };
+    roomy = record {
+      letters = omega (arith, same, step.roomy.letters);
+      threads = step.roomy.threads;
+      requests = step.roomy.requests;
+      waits = step.roomy.waits;
+    };
     monitors = step.monitors;
     conditions = step.conditions;
     noted = step.noted;
@@ -62,5 +67,6 @@ module _ (parts : Parts) (step : InStep parts) where
   }
 
   -- a thread goes on
-  pub came_waked : (t : ℕ) (a : Answer) (effects : List Effect) → is_blocked_in (state_of parts) t ≡ true → CameTo parts (after_wake parts t) effects (effects ++ effect.Answered t a ∷ []) (unblock a t (state_of parts))
+  pub came_waked : (t : ℕ) (a : Answer) (effects : List Effect) → is_blocked_in (state_of parts) t ≡ true
+      → CameTo parts (after_wake parts t) effects (effects ++ effect.Answered t a ∷ []) (unblock a t (state_of parts))
   came_waked t a effects waits = record { state = waked-is parts t waits; effects = refl; step = InStep-waked t; dying = refl }

@@ -21,22 +21,26 @@ use Rattle.pod_laws.proofs.Chosen.{Living, living}
 use Rattle.pod_laws.proofs.Elements.{all_found, find_passes}
 use Rattle.pod_laws.proofs.MarkLists.{Fewer, first_based, frames_split, is_based, stack_fewer, stack_from}
 use Rattle.stale_ids.specs.Register.{AreRising, value_of, with_value}
-use Rattle.std.proofs.Common.{Bool, List, None, Option, Some, [], ap, arith, count_by, false, length, refl, sym, true, ℕ, ◌++◌, ◌+◌, ◌<◌, ◌∙◌, ◌∷◌, ◌≡◌, ◌≤◌, ◌||◌}
+use Rattle.std.proofs.Common.{Bool, List, None, Option, Some, [], ap, arith, count_by, false, length}
+use Rattle.std.proofs.Common.{refl, sym, true, ℕ, ◌++◌, ◌+◌, ◌<◌, ◌∙◌, ◌∷◌, ◌≡◌, ◌≤◌, ◌||◌}
 use Rattle.std.proofs.lemmas.Bool.{eqb-true}
 use Rattle.std.specs.Prelude.{is_some, option_map, option_to_list, unwrap_or}
 
 -- what the thread's record in the registry has
-pub marks-here : (parts : Parts) (t : ℕ) (k : Kind) → AreRising parts.ids.live → value_of t parts.ids.live ≡ Some k → marks_in (state_of parts) t ≡ kind_marks (Some k)
+pub marks-here : (parts : Parts) (t : ℕ) (k : Kind) → AreRising parts.ids.live → value_of t parts.ids.live ≡ Some k
+    → marks_in (state_of parts) t ≡ kind_marks (Some k)
 marks-here parts t k rising is = marks-are parts t rising ∙ ap kind_marks is
 
 pub left-here : (parts : Parts) (t depth : ℕ) (k : Kind) → AreRising parts.ids.live → value_of t parts.ids.live ≡ Some k
-    → record parts { ids = record parts.ids { live = with_value t (kind_with_marks (unwound_to depth (kind_marks (Some k))).left k) parts.ids.live } } ≡ after_set_stack parts t (unwound_to depth (marks_in (state_of parts) t)).left
+    → record parts { ids = record parts.ids { live = with_value t (kind_with_marks (unwound_to depth (kind_marks (Some k))).left k) parts.ids.live } }
+    ≡ after_set_stack parts t (unwound_to depth (marks_in (state_of parts) t)).left
 left-here parts t depth k rising is =
     ap (λ ps. record parts { ids = record parts.ids { live = ps } }) (written-marks t (λ ms. (unwound_to depth ms).left) parts.ids.live k rising is)
     ∙ ap (λ ms. after_set_stack parts t (unwound_to depth ms).left) (sym (marks-are parts t rising))
 
 -- with a frame to stay, somebody is there
-pub deep-none : (parts : Parts) (t depth : ℕ) → AreRising parts.ids.live → value_of t parts.ids.live ≡ None → 1 ≤ depth → depth ≤ frames (marks_in (state_of parts) t) → ⊥
+pub deep-none : (parts : Parts) (t depth : ℕ) → AreRising parts.ids.live → value_of t parts.ids.live ≡ None → 1 ≤ depth
+    → depth ≤ frames (marks_in (state_of parts) t) → ⊥
 deep-none parts t depth rising none least most = omega (arith, least, most, ap frames (marks-are parts t rising ∙ ap kind_marks none))
 
 pub deep-lives : (s : State) (t depth : ℕ) → 1 ≤ depth → depth ≤ frames (marks_in s t) → is_thread s t ≡ true
@@ -61,7 +65,8 @@ left_fewer depth ms p = omega (
 )
 
 left_stack : (depth : ℕ) (ms : List Mark) → 1 ≤ depth → has_its_marks ms ≡ true → has_its_marks (unwound_to depth ms).left ≡ true
-left_stack depth ms least e = stack_fewer ms (unwound_to depth ms).left (left_fewer depth ms) (based-append (first_frames depth ms) (below_last_exit (later_frames depth ms)) (first_based depth ms least (stack_from ms e).based)) e
+left_stack depth ms least e = stack_fewer ms (unwound_to depth ms).left (left_fewer depth ms)
+    (based-append (first_frames depth ms) (below_last_exit (later_frames depth ms)) (first_based depth ms least (stack_from ms e).based)) e
 
 module _ (t depth : ℕ) where
   -- the exit procedures of the frames that go
@@ -80,8 +85,17 @@ module _ (t depth : ℕ) where
     abbrev pub Leaving : Parts → List Effect → Type 0
     Leaving parts after = Unwinding t above (stays start) (Fits start) start before parts after
 
-    pub leaving_starts : LawfulParts start → 1 ≤ depth → depth ≤ frames (marks_in (state_of start) t) → HasRoom before (unwind t (stays start) (later_frames depth (marks_in (state_of start) t)) (state_of start)) 1 → Leaving start before
-    leaving_starts lawful least most room = record { lawful = lawful; lives = deep-lives (state_of start) t depth least most; fits = (refl, most); dying = refl; state = refl; effects = refl; room = room }
+    pub leaving_starts : LawfulParts start → 1 ≤ depth → depth ≤ frames (marks_in (state_of start) t)
+        → HasRoom before (unwind t (stays start) (later_frames depth (marks_in (state_of start) t)) (state_of start)) 1 → Leaving start before
+    leaving_starts lawful least most room = record {
+      lawful = lawful;
+      lives = deep-lives (state_of start) t depth least most;
+      fits = (refl, most);
+      dying = refl;
+      state = refl;
+      effects = refl;
+      room = room;
+    }
 
     module _ (parts : Parts) (after : List Effect) (h : Leaving parts after) (least : 1 ≤ depth) where
       abbrev pub stack : List Mark
@@ -102,7 +116,8 @@ module _ (t depth : ℕ) where
           let numbered : who.row.number ≡ t = eqb-true who.row.number t (find_passes (is_number t) (state_of parts).threads who.row who.known) in
           ap (λ o. is_same_option parts.dying t || has_its_marks (unwrap_or (option_map (λ (row : ThreadRow). row.marks) o) [])) who.known
           ∙ ap (λ n. is_same_option parts.dying n || has_its_marks who.row.marks) (sym numbered)
-          ∙ all_found (is_number t) (λ row. is_same_option parts.dying row.number || has_its_marks row.marks) (state_of parts).threads who.row h.lawful.nine.marks who.known
+          ∙ all_found (is_number t) (λ row. is_same_option parts.dying row.number || has_its_marks row.marks) (state_of parts).threads
+          who.row h.lawful.nine.marks who.known
 
       still-stack : (is_same_option parts.dying t || has_its_marks left) ≡ true
       still-stack = by_test (is_same_option parts.dying t) has-stack
@@ -130,10 +145,13 @@ module _ (t depth : ℕ) where
 
           module _ (new : Parts) (now : List Effect) (came : CameTo lighter new after now (run_exit t x (state_of lighter))) (nine : LawfulParts new) where
             pub leaving_fewer : length (marks_in (state_of new) t) < length (marks_in (state_of parts) t)
-            leaving_fewer = omega (arith, shorter, ap length (marks_left t above (stays start) (Fits start) start before parts after h left x first new now came nine fit))
+            leaving_fewer =
+                omega (arith, shorter, ap length (marks_left t above (stays start) (Fits start) start before parts after h left x first new now came nine fit))
 
             pub leaving_on : Leaving new now
             leaving_on = unwinds_on t above (stays start) (Fits start) start before parts after h left x first new now came nine fit
 
-        pub leaving_over : o ≡ None → CameTo start lighter before after (unwind t (stays start) (later_frames depth (marks_in (state_of start) t)) (state_of start))
-        leaving_over is = unwinds_over t above (stays start) (Fits start) start before parts after h left ((rw is at steps.last).0 refl) ((rw is at steps.rest) ∙ h.fits.0)
+        pub leaving_over : o ≡ None
+            → CameTo start lighter before after (unwind t (stays start) (later_frames depth (marks_in (state_of start) t)) (state_of start))
+        leaving_over is = unwinds_over t above (stays start) (Fits start) start before parts after h left ((rw is at steps.last).0 refl)
+            ((rw is at steps.rest) ∙ h.fits.0)

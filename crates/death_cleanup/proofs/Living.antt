@@ -4,7 +4,8 @@ use Rattle.death_cleanup.specs.declared.rows.Kind.{Kind}
 use Rattle.lwp_types.specs.declared.rows.Block.{Block}
 use Rattle.lwp_types.specs.declared.rows.Mark.{Mark}
 use Rattle.stale_ids.specs.Register.{AreRising, numbers, value_of, with_value}
-use Rattle.std.proofs.Common.{List, None, Option, Some, [], ap, arith, cond, drop, eqb, inl, inr, length, map, refl, suc, sym, true, zero, ℕ, ◌+◌, ◌<◌, ◌∙◌, ◌∷◌, ◌≡◌}
+use Rattle.std.proofs.Common.{List, None, Option, Some, [], ap, arith, cond, drop, eqb, inl, inr, length}
+use Rattle.std.proofs.Common.{map, refl, suc, sym, true, zero, ℕ, ◌+◌, ◌<◌, ◌∙◌, ◌∷◌, ◌≡◌}
 use Rattle.std.proofs.lemmas.Bool.{cases_eq, eq-eqb, ne_eqb}
 use Rattle.std.specs.Borrow.{Bor}
 use Rattle.std.specs.List.{AllByRecursion, slice_get}
@@ -55,8 +56,10 @@ written-block t b v living h is = written-changed t (kind_with_block b) v living
 
 -- the marks of who lives there, written back
 module _ (t : ℕ) (f : List Mark → List Mark) (living : List (ℕ × Kind)) where
-  pub written-marks : (k : Kind) → AreRising living → value_of t living ≡ Some k → with_value t (kind_with_marks (f (kind_marks (Some k))) k) living ≡ map (pair_with_stack t (f (stack_of t living))) living
-  written-marks k h is = written-changed t (kind_with_marks (f (kind_marks (Some k)))) k living h is ∙ ap (λ o. map (pair_with_stack t (f (kind_marks o))) living) (sym is)
+  pub written-marks : (k : Kind) → AreRising living → value_of t living ≡ Some k
+      → with_value t (kind_with_marks (f (kind_marks (Some k))) k) living ≡ map (pair_with_stack t (f (stack_of t living))) living
+  written-marks k h is = written-changed t (kind_with_marks (f (kind_marks (Some k)))) k living h is
+      ∙ ap (λ o. map (pair_with_stack t (f (kind_marks o))) living) (sym is)
 
   pub no-marks : value_of t living ≡ None → living ≡ map (pair_with_stack t (f (stack_of t living))) living
   no-marks none = sym (changed-absent t (kind_with_marks (f (stack_of t living))) living none)
@@ -76,7 +79,8 @@ copied-some None v h = absurd (cc)
 copied-some (Some r) v h = refl
 
 module _ {A : Type 0} where
-  later-number : (m : ℕ) (living : List (ℕ × A)) (i : ℕ) → AllByRecursion (λ (q : ℕ × A). m < q.0) living → i < length living → m < slice_index (numbers living) i
+  later-number : (m : ℕ) (living : List (ℕ × A)) (i : ℕ) → AllByRecursion (λ (q : ℕ × A). m < q.0) living → i < length living
+      → m < slice_index (numbers living) i
   later-number m [] i h within = absurd (omega arith)
   later-number m (p ∷ living) zero h within = h.0
   later-number m (p ∷ living) (suc i) h within = later-number m living i h.1 (omega arith)

@@ -19,7 +19,8 @@ use Rattle.std.specs.Prelude.{IfSome, IsTrue, is_none, is_some, option_map}
 
 module _ (parts : Parts) (step : InStep parts) where
   -- other monitors, whose requests are ranked, and with as many places
-  pub InStep-monitors : (t : MonitorTable) → AreRanked (priority_in (state_of parts)) t.requests → t.places ≡ parts.mons.places → t.limit ≡ parts.mons.limit → InStep (record parts { mons = t })
+  pub InStep-monitors : (t : MonitorTable) → AreRanked (priority_in (state_of parts)) t.requests → t.places ≡ parts.mons.places
+      → t.limit ≡ parts.mons.limit → InStep (record parts { mons = t })
   InStep-monitors t ranked places limit = record {
     tied = record { known = step.tied.known; waits = step.tied.waits };
     ranked = record { requests = ranked; waits = step.ranked.waits };
@@ -39,32 +40,44 @@ module _ (parts : Parts) (step : InStep parts) where
       InStep-monitors (mon.after_release parts.mons m) (ranked_released (priority_in (state_of parts)) parts.mons step.ranked.requests m) same.0 same.1
 
   pub InStep-exited : (m : ℕ) → InStep (record parts { mons = mon.after_exit parts.mons m })
-  InStep-exited m = InStep-monitors (mon.after_exit parts.mons m) (ranked_exited (priority_in (state_of parts)) parts.mons step.ranked.requests m) (by_test (mon.is_outermost parts.mons m)).0 (by_test (mon.is_outermost parts.mons m)).1
+  InStep-exited m = InStep-monitors (mon.after_exit parts.mons m)
+      (ranked_exited (priority_in (state_of parts)) parts.mons step.ranked.requests m) (by_test (mon.is_outermost parts.mons m)).0
+      (by_test (mon.is_outermost parts.mons m)).1
     where
-      by_test : (b : Bool) → ((cond b (mon.after_release parts.mons m) (record parts.mons { locks = with_depth m (depth_in parts.mons.locks m - 1) parts.mons.locks })).places ≡ parts.mons.places)
-          × ((cond b (mon.after_release parts.mons m) (record parts.mons { locks = with_depth m (depth_in parts.mons.locks m - 1) parts.mons.locks })).limit ≡ parts.mons.limit)
+      by_test : (b : Bool)
+          → ((cond b (mon.after_release parts.mons m) (record parts.mons { locks = with_depth m (depth_in parts.mons.locks m - 1) parts.mons.locks })).places
+          ≡ parts.mons.places)
+          × ((cond b (mon.after_release parts.mons m) (record parts.mons { locks = with_depth m (depth_in parts.mons.locks m - 1) parts.mons.locks })).limit
+          ≡ parts.mons.limit)
       by_test true = granted-places (mon.after_give_up parts.mons m) (mon.next_request parts.mons m)
       by_test false = (refl, refl)
 
   -- what the machine makes of it
-  pub released-is : (m : ℕ) (o : Option ℕ) → o ≡ mon.next_owner parts.mons m → release m (state_of parts) ≡ with_owner o (state_of (record parts { mons = mon.after_release parts.mons m }))
-  released-is m o e = releases_agree parts.mons (state_of parts) step.ranked.requests m ∙ ap (λ u. with_owner u (state_of (record parts { mons = mon.after_release parts.mons m }))) (sym e)
+  pub released-is : (m : ℕ) (o : Option ℕ) → o ≡ mon.next_owner parts.mons m
+      → release m (state_of parts) ≡ with_owner o (state_of (record parts { mons = mon.after_release parts.mons m }))
+  released-is m o e = releases_agree parts.mons (state_of parts) step.ranked.requests m
+      ∙ ap (λ u. with_owner u (state_of (record parts { mons = mon.after_release parts.mons m }))) (sym e)
 
-  pub exited-is : (m : ℕ) (o : Option ℕ) → o ≡ mon.owner_after parts.mons m → after_exit m (state_of parts) ≡ with_owner o (state_of (record parts { mons = mon.after_exit parts.mons m }))
-  exited-is m o e = leaves_agree parts.mons (state_of parts) step.ranked.requests m ∙ ap (λ u. with_owner u (state_of (record parts { mons = mon.after_exit parts.mons m }))) (sym e)
+  pub exited-is : (m : ℕ) (o : Option ℕ) → o ≡ mon.owner_after parts.mons m
+      → after_exit m (state_of parts) ≡ with_owner o (state_of (record parts { mons = mon.after_exit parts.mons m }))
+  exited-is m o e = leaves_agree parts.mons (state_of parts) step.ranked.requests m
+      ∙ ap (λ u. with_owner u (state_of (record parts { mons = mon.after_exit parts.mons m }))) (sym e)
 
 module _ (parts : Parts) (lawful : LawfulParts parts) where
   -- who is next waits
   next-waits : (m : ℕ) (r : EntryRequest) → mon.next_request parts.mons m ≡ Some r → is_blocked_in (state_of parts) r.tid ≡ true
   next-waits m r h =
-      let e : next_owner (state_of parts) m ≡ Some (mon.machine_row r) = next_agrees parts.mons (state_of parts) lawful.step.ranked.requests m ∙ ap (option_map mon.machine_row) h in
-      let who = requester (state_of parts) parts.dying lawful.nine (mon.machine_row r) (next (state_of parts) parts.dying lawful.nine m (mon.machine_row r) e).some in
+      let e : next_owner (state_of parts) m
+      ≡ Some (mon.machine_row r) = next_agrees parts.mons (state_of parts) lawful.step.ranked.requests m ∙ ap (option_map mon.machine_row) h in
+      let who = requester (state_of parts) parts.dying lawful.nine (mon.machine_row r)
+      (next (state_of parts) parts.dying lawful.nine m (mon.machine_row r) e).some in
       ap (passes (λ row. not (is_not_blocked row.block))) who.known ∙ ap (λ b. not (is_not_blocked b)) who.enters
 
   pub owner-waits : (m : ℕ) (o : Option ℕ) → o ≡ mon.next_owner parts.mons m → IfSome o (λ u. IsTrue (is_blocked_in (state_of parts) u))
   owner-waits m o e = rw e (by_request (mon.next_request parts.mons m) refl)
     where
-      by_request : (r : Option EntryRequest) → mon.next_request parts.mons m ≡ r → IfSome (option_map (λ (q : EntryRequest). q.tid) r) (λ u. IsTrue (is_blocked_in (state_of parts) u))
+      by_request : (r : Option EntryRequest) → mon.next_request parts.mons m ≡ r
+          → IfSome (option_map (λ (q : EntryRequest). q.tid) r) (λ u. IsTrue (is_blocked_in (state_of parts) u))
       by_request None h = tt
       by_request (Some r) h = next-waits m r h
 
@@ -76,7 +89,8 @@ module _ (parts : Parts) (lawful : LawfulParts parts) where
       by_test false = tt
 
 -- who has no owner is free
-pub free-is : (locks : List Lock) (m : ℕ) (o : Option ℕ) (b : Bool) → o ≡ option_map (λ (lock : Lock). lock.owner) (lock_of locks m) → is_some o ≡ b → is_none (lock_of locks m) ≡ not b
+pub free-is : (locks : List Lock) (m : ℕ) (o : Option ℕ) (b : Bool) → o ≡ option_map (λ (lock : Lock). lock.owner) (lock_of locks m)
+    → is_some o ≡ b → is_none (lock_of locks m) ≡ not b
 free-is locks m o b owner is = by_lock (lock_of locks m) (ap is_some (sym owner) ∙ is)
   where
     by_lock : (l : Option Lock) → is_some (option_map (λ (lock : Lock). lock.owner) l) ≡ b → is_none l ≡ not b

@@ -3,7 +3,8 @@ use Rattle.death_cleanup.specs.Named.{AreOrdered, HasNoWaiter, IsBefore, IsBefor
 use Rattle.death_cleanup.specs.declared.rows.Awaited.{Awaited}
 use Rattle.death_cleanup.specs.declared.rows.Awaited.TheVariants as awaited
 use Rattle.death_cleanup.specs.declared.rows.NamedWait.{NamedWait}
-use Rattle.std.proofs.Common.{Bool, List, [], ap, arith, cond, eqb, false, get_or, inl, inr, length, refl, suc, sym, take, true, zero, ℕ, ◌&&◌, ◌+◌, ◌-◌, ◌<◌, ◌∙◌, ◌∷◌, ◌≡◌, ◌≤◌, ◌||◌}
+use Rattle.std.proofs.Common.{Bool, List, [], ap, arith, cond, eqb, false, get_or, inl, inr, length, refl, suc}
+use Rattle.std.proofs.Common.{sym, take, true, zero, ℕ, ◌&&◌, ◌+◌, ◌-◌, ◌<◌, ◌∙◌, ◌∷◌, ◌≡◌, ◌≤◌, ◌||◌}
 use Rattle.std.proofs.lemmas.Bool.{and_from, cases_lt, eq-eqb, eqb-true, le-ltb, lt-ltb, ltb-false, ltb-true, or_right}
 use Rattle.std.specs.List.{AllByRecursion, filter, insert, list_any, remove}
 use Rattle.std.specs.List.Sorted.{IsPartitionedBy}
@@ -104,7 +105,8 @@ AreOrdered-removed [] i within ordered = absurd (omega arith)
 AreOrdered-removed (w ∷ ws) zero within ordered = ordered.1
 AreOrdered-removed (w ∷ ws) (suc i) within ordered = (all-removed (IsBefore w) ws i (omega arith) ordered.0, AreOrdered-removed ws i (omega arith) ordered.1)
 
-all-inserted : (P : NamedWait → Type 0) (ws : List NamedWait) (i : ℕ) (v : NamedWait) → i ≤ length ws → AllByRecursion P ws → P v → AllByRecursion P (insert ws i v)
+all-inserted : (P : NamedWait → Type 0) (ws : List NamedWait) (i : ℕ) (v : NamedWait) → i ≤ length ws → AllByRecursion P ws → P v
+    → AllByRecursion P (insert ws i v)
 all-inserted P ws zero v within all own = (own, all)
 all-inserted P [] (suc i) v within all own = absurd (omega arith)
 all-inserted P (w ∷ ws) (suc i) v within all own = (all.0, all-inserted P ws i v (omega arith) all.1 own)
@@ -114,7 +116,8 @@ all-from P [] each = tt
 all-from P (w ∷ ws) each = (each 0 w (omega arith), all-from P ws (λ j d lt. each (suc j) d (omega arith)))
 
 -- where the wait stands, nobody else of its run and thread does
-pub AreOrdered-inserted : (ws : List NamedWait) (i : ℕ) (v : NamedWait) → AreOrdered ws → IsGap (run_of v) v.tid ws i → ((d : NamedWait) → i < length ws → is_wait (run_of v) v.tid (get_or ws i d) ≡ false) → AreOrdered (insert ws i v)
+pub AreOrdered-inserted : (ws : List NamedWait) (i : ℕ) (v : NamedWait) → AreOrdered ws → IsGap (run_of v) v.tid ws i
+    → ((d : NamedWait) → i < length ws → is_wait (run_of v) v.tid (get_or ws i d) ≡ false) → AreOrdered (insert ws i v)
 AreOrdered-inserted ws zero v ordered gap away = (all-from (IsBefore v) ws later, ordered)
   where
     first : (d : NamedWait) → 0 < length ws → run_of v ≡ run_of (get_or ws 0 d) → v.tid < (get_or ws 0 d).tid
@@ -123,7 +126,8 @@ AreOrdered-inserted ws zero v ordered gap away = (all-from (IsBefore v) ws later
       | inr more ↦
           let not = before-not (get_or ws 0 d) (run_of v) v.tid (gap.above 0 d (omega arith) lt) in
           let least : v.tid ≤ (get_or ws 0 d).tid = not.1 (sym same) in
-          let here : is_wait (run_of v) v.tid (get_or ws 0 d) ≡ true = and_from _ _ (eq-eqb (get_or ws 0 d).tid v.tid (omega (arith, least, more))) (eq-eqb (run_of (get_or ws 0 d)) (run_of v) (sym same)) in
+          let here : is_wait (run_of v) v.tid (get_or ws 0 d)
+          ≡ true = and_from _ _ (eq-eqb (get_or ws 0 d).tid v.tid (omega (arith, least, more))) (eq-eqb (run_of (get_or ws 0 d)) (run_of v) (sym same)) in
           let no : false ≡ true = sym (away d lt) ∙ here in
           absurd (cc)
     ]
@@ -167,7 +171,8 @@ any-place p (w ∷ ws) d some = by_test (p w) refl some (any-place p ws d)
         let later = rest some in
         record { place = suc later.place; within = omega (arith, later.within); passes = later.passes }
 
-pub any-removed : (p : NamedWait → Bool) (ws : List NamedWait) (i : ℕ) (d : NamedWait) → i < length ws → p (get_or ws i d) ≡ false → list_any p ws ≡ true → list_any p (remove ws i) ≡ true
+pub any-removed : (p : NamedWait → Bool) (ws : List NamedWait) (i : ℕ) (d : NamedWait) → i < length ws → p (get_or ws i d) ≡ false
+    → list_any p ws ≡ true → list_any p (remove ws i) ≡ true
 any-removed p [] i d within other some = absurd (omega arith)
 any-removed p (w ∷ ws) zero d within other some = (rw other at some)
 any-removed p (w ∷ ws) (suc i) d within other some = by_test (p w) some (any-removed p ws i d (omega arith) other)
@@ -176,7 +181,8 @@ any-removed p (w ∷ ws) (suc i) d within other some = by_test (p w) some (any-r
     by_test true some rest = refl
     by_test false some rest = rest some
 
-pub any-inserted : (p : NamedWait → Bool) (ws : List NamedWait) (i : ℕ) (v : NamedWait) → i ≤ length ws → list_any p ws ≡ true → list_any p (insert ws i v) ≡ true
+pub any-inserted : (p : NamedWait → Bool) (ws : List NamedWait) (i : ℕ) (v : NamedWait) → i ≤ length ws → list_any p ws ≡ true
+    → list_any p (insert ws i v) ≡ true
 any-inserted p ws zero v within some = or_right (p v) _ some
 any-inserted p [] (suc i) v within some = absurd (omega arith)
 any-inserted p (w ∷ ws) (suc i) v within some = by_test (p w) some (any-inserted p ws i v (omega arith))
@@ -198,7 +204,8 @@ parted ws r n ordered i j d le within passes = elim (cases_lt i j) [
 ]
 
 -- a wait that comes after the last comes after all
-pub behind_last : (ws : List NamedWait) (r n : ℕ) (last : NamedWait) → AreOrdered ws → ((d : NamedWait) → last ≡ get_or ws (length ws - 1) d) → is_before r n last ≡ true → IsGap r n ws (length ws)
+pub behind_last : (ws : List NamedWait) (r n : ℕ) (last : NamedWait) → AreOrdered ws
+    → ((d : NamedWait) → last ≡ get_or ws (length ws - 1) d) → is_before r n last ≡ true → IsGap r n ws (length ws)
 behind_last ws r n last ordered is passes = record {
   within = omega arith;
   below = λ j d lt. parted ws r n ordered j (length ws - 1) d (omega (arith, lt)) (omega (arith, lt)) (ap (is_before r n) (sym (is d)) ∙ passes);
@@ -206,7 +213,8 @@ behind_last ws r n last ordered is passes = record {
 }
 
 -- a wait that comes after the one before the last, and not after the last
-pub behind_others : (ws : List NamedWait) (r n : ℕ) → AreOrdered ws → IsBeforeLast r n ws → 2 ≤ length ws → ((d : NamedWait) → is_before r n (get_or ws (length ws - 2) d) ≡ true) → IsGap r n ws (length ws - 1)
+pub behind_others : (ws : List NamedWait) (r n : ℕ) → AreOrdered ws → IsBeforeLast r n ws → 2 ≤ length ws
+    → ((d : NamedWait) → is_before r n (get_or ws (length ws - 2) d) ≡ true) → IsGap r n ws (length ws - 1)
 behind_others ws r n ordered before two passes = record {
   within = omega arith;
   below = λ j d lt. parted ws r n ordered j (length ws - 2) d (omega (arith, lt)) (omega (arith, two)) (passes d);

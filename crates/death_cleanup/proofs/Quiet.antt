@@ -45,9 +45,11 @@ count-seen : {X Y : Type 0} (f : X → Y) (p : Y → Bool) (xs : List X) → cou
 count-seen f p [] = refl
 count-seen f p (x ∷ xs) = omega (arith, count-cons (λ x. p (f x)) x xs, count-cons p (f x) (map f xs), count-seen f p xs)
 
-module _ (parts : Parts) (t : ℕ) (lawful : LawfulParts parts) (lives : is_thread (state_of parts) t ≡ true) (idle : sched.is_blocked_in parts.sched t ≡ false) where
+module _ (parts : Parts) (t : ℕ) (lawful : LawfulParts parts) (lives : is_thread (state_of parts) t ≡ true)
+    (idle : sched.is_blocked_in parts.sched t ≡ false) where
   abbrev Idle : Type 0
-  Idle = (letters_of parts.mail.letters t ≡ 0) × (count_by (mon_table.is_request_of t) parts.mons.requests ≡ 0) × (count_by (cond_table.is_wait_of t) parts.conds.waits ≡ 0)
+  Idle = (letters_of parts.mail.letters t ≡ 0) × (count_by (mon_table.is_request_of t) parts.mons.requests ≡ 0)
+      × (count_by (cond_table.is_wait_of t) parts.conds.waits ≡ 0)
 
   waits_not : is_blocked_in (state_of parts) t ≡ false
   waits_not = sym (lawful.step.tied.waits t) ∙ idle
@@ -55,12 +57,15 @@ module _ (parts : Parts) (t : ℕ) (lawful : LawfulParts parts) (lives : is_thre
   none : Idle
   none = by_case (thread_of (state_of parts) t) refl lives waits_not
     where
-      by_case : (o : Option ThreadRow) → thread_of (state_of parts) t ≡ o → is_some o ≡ true → passes (λ (row : ThreadRow). not (is_not_blocked row.block)) o ≡ false → Idle
+      by_case : (o : Option ThreadRow) → thread_of (state_of parts) t ≡ o → is_some o ≡ true
+          → passes (λ (row : ThreadRow). not (is_not_blocked row.block)) o ≡ false → Idle
       by_case None known lives waits_not = absurd (cc)
       by_case (Some x) known lives waits_not =
           let nothing : x.block ≡ block.Not = not_waiting x.block waits_not in
-          let requests = nowhere (λ (r : _). r.tid) (λ r. r.mon) t (state_of parts).requests (λ m. requester_enters (state_of parts) parts.dying lawful.nine t x known m ∙ ap (λ b. one (is_entering m b)) nothing) in
-          let waits = nowhere (λ (w : _). w.tid) (λ w. w.cond) t (state_of parts).waits (λ c. waiter_waits (state_of parts) parts.dying lawful.nine t x known c ∙ ap (λ b. one (is_waiting c b)) nothing) in (
+          let requests = nowhere (λ (r : _). r.tid) (λ r. r.mon) t (state_of parts).requests
+          (λ m. requester_enters (state_of parts) parts.dying lawful.nine t x known m ∙ ap (λ b. one (is_entering m b)) nothing) in
+          let waits = nowhere (λ (w : _). w.tid) (λ w. w.cond) t (state_of parts).waits
+          (λ c. waiter_waits (state_of parts) parts.dying lawful.nine t x known c ∙ ap (λ b. one (is_waiting c b)) nothing) in (
             letters_counted (state_of parts) parts.dying lawful.nine t x known ∙ ap (λ b. one (is_sending b)) nothing,
             count-seen mon_table.machine_row (λ r. eqb r.tid t) parts.mons.requests ∙ requests,
             count-seen cond_table.machine_row (λ w. eqb w.tid t) parts.conds.waits ∙ waits,
@@ -75,6 +80,7 @@ module _ (parts : Parts) (t : ℕ) (lawful : LawfulParts parts) (lives : is_thre
   }
   withdrawn-idle =
       let letters : without_letter t parts.mail.letters ≡ parts.mail.letters = filter_none (is_letter_of t) parts.mail.letters none.0 in
-      let requests : mon_table.without_request t parts.mons.requests ≡ parts.mons.requests = filter_none (mon_table.is_request_of t) parts.mons.requests none.1 in
+      let requests : mon_table.without_request t parts.mons.requests
+      ≡ parts.mons.requests = filter_none (mon_table.is_request_of t) parts.mons.requests none.1 in
       let waits : cond_table.without_wait t parts.conds.waits ≡ parts.conds.waits = filter_none (cond_table.is_wait_of t) parts.conds.waits none.2 in
       rw (letters, requests, waits) refl

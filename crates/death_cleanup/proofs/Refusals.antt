@@ -38,7 +38,8 @@ module _ (t : ℕ) where
       by_found None h = refl
       by_found (Some letter) h = absurd (cc)
 
-  module _ (start : Parts) (before : List Effect) (parts : Parts) (after : List Effect) (h : Draining (Lonely t) list refuse_sender 0 start before parts after) where
+  module _ (start : Parts) (before : List Effect) (parts : Parts) (after : List Effect)
+      (h : Draining (Lonely t) list refuse_sender 0 start before parts after) where
     -- the parts without the letter that was found
     abbrev pub lighter : Parts
     lighter = record parts { mail = after_pop parts.mail t }
@@ -61,7 +62,8 @@ module _ (t : ℕ) where
       module _ (new : Parts) (now : List Effect) (woken : CameTo lighter new after now (unblock nonexist x (state_of lighter))) where
         came : CameTo parts new after now (refuse_sender x (state_of parts))
         came = record {
-          state = woken.state ∙ ap (λ letters. (unblock nonexist x (record (state_of parts) { letters = letters })).after) (popped-some parts.mail.letters x found);
+          state = woken.state
+              ∙ ap (λ letters. (unblock nonexist x (record (state_of parts) { letters = letters })).after) (popped-some parts.mail.letters x found);
           effects = woken.effects;
           step = woken.step;
           dying = woken.dying;
@@ -75,7 +77,8 @@ module _ (t : ℕ) where
 
     pub senders_over : first parts.mail.letters ≡ None → CameTo start lighter before after (refuse_senders t (state_of start))
     senders_over none =
-        let all = done (Lonely t) list refuse_sender (refuse_first t) 0 start before parts after h (found_none (λ (letter : Letter). letter.from) (is_to t) parts.mail.letters none) in
+        let all = done (Lonely t) list refuse_sender (refuse_first t) 0 start before parts after h
+        (found_none (λ (letter : Letter). letter.from) (is_to t) parts.mail.letters none) in
         record {
           state = ap (λ letters. record (state_of parts) { letters = letters }) (popped-none parts.mail.letters none) ∙ all.state;
           effects = all.effects;

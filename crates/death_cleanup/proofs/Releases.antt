@@ -29,7 +29,8 @@ module _ (t : ℕ) where
   abbrev last : List Lock → Option ℕ
   last locks = option_map (λ (lock : Lock). lock.mon) (last_lock locks t)
 
-  module _ (start : Parts) (before : List Effect) (parts : Parts) (after : List Effect) (dying : start.dying ≡ Some t) (h : Draining Keeps list release 1 start before parts after) where
+  module _ (start : Parts) (before : List Effect) (parts : Parts) (after : List Effect) (dying : start.dying ≡ Some t)
+      (h : Draining Keeps list release 1 start before parts after) where
     pub lock_lawful : LawfulParts parts
     lock_lawful = record { nine = rw (h.dying ∙ dying) h.keeps; step = h.step }
 
@@ -65,4 +66,5 @@ module _ (t : ℕ) where
         lock_on = goes_on Keeps list release (release_first t) 1 start before parts after h m front.rest front.is new now came
 
     pub locks_over : last parts.mons.locks ≡ None → CameTo start parts before after (release_all t (state_of start))
-    locks_over none = done Keeps list release (release_first t) 1 start before parts after h (found_none (λ (lock : Lock). lock.mon) (is_owned_by t) (reverse parts.mons.locks) none)
+    locks_over none = done Keeps list release (release_first t) 1 start before parts after h
+        (found_none (λ (lock : Lock). lock.mon) (is_owned_by t) (reverse parts.mons.locks) none)

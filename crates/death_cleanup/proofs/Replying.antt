@@ -21,7 +21,8 @@ use Rattle.std.proofs.Common.{Bool, List, None, Option, Some, [], ap, arith, con
 use Rattle.std.specs.Prelude.{IsTrue, is_none, is_some, nat_lt, option_map}
 
 -- an agent has an owner
-pub agent-is : (rows : List AgentRow) (a : ℕ) (o : Option ℕ) (b : Bool) → o ≡ option_map (λ (row : AgentRow). row.owner) (agent_of rows a) → is_some o ≡ b → is_some (agent_of rows a) ≡ b
+pub agent-is : (rows : List AgentRow) (a : ℕ) (o : Option ℕ) (b : Bool) → o ≡ option_map (λ (row : AgentRow). row.owner) (agent_of rows a)
+    → is_some o ≡ b → is_some (agent_of rows a) ≡ b
 agent-is rows a o b owner is = by_row (agent_of rows a) (ap is_some (sym owner) ∙ is)
   where
     by_row : (r : Option AgentRow) → is_some (option_map (λ (row : AgentRow). row.owner) r) ≡ b → is_some r ≡ b
@@ -56,12 +57,15 @@ module _ (s : State) (t u : ℕ) (text : List ℕ) where
   unfolding unless
   reply-refused lives e cause = rw lives (by_letter (received_letter s.letters t u) cause)
     where
-      by_test : (letter : Letter) (b : Bool) → cond b (Some error.InvalidArg) None ≡ Some e → cond b (refusal_case s error.InvalidArg) (with_zero (after_reply u text s)) ≡ refusal_case s e
+      by_test : (letter : Letter) (b : Bool) → cond b (Some error.InvalidArg) None ≡ Some e
+          → cond b (refusal_case s error.InvalidArg) (with_zero (after_reply u text s)) ≡ refusal_case s e
       by_test letter true h = let same : error.InvalidArg ≡ e = cc in ap (refusal_case s) same
       by_test letter false h = absurd (cc)
 
       by_letter : (o : Option Letter) → refusal o (length text) ≡ Some e
-          → cond (is_none o) (refusal_case s error.NoWait) (cond (passes (λ letter. nat_lt letter.room (length text)) o) (refusal_case s error.InvalidArg) (with_zero (after_reply u text s))) ≡ refusal_case s e
+          → cond (is_none o) (refusal_case s error.NoWait)
+          (cond (passes (λ letter. nat_lt letter.room (length text)) o) (refusal_case s error.InvalidArg) (with_zero (after_reply u text s)))
+          ≡ refusal_case s e
       by_letter None h = let same : error.NoWait ≡ e = cc in ap (refusal_case s) same
       by_letter (Some letter) h = by_test letter (nat_lt letter.room (length text)) h
 
@@ -69,12 +73,15 @@ module _ (s : State) (t u : ℕ) (text : List ℕ) where
   unfolding unless
   reply-made lives fine = rw lives (by_letter (received_letter s.letters t u) fine)
     where
-      by_test : (b : Bool) → ◌≡◌ {A = Option LwpErr} (cond b (Some error.InvalidArg) None) None → cond b (refusal_case s error.InvalidArg) (with_zero (after_reply u text s)) ≡ with_zero (after_reply u text s)
+      by_test : (b : Bool) → ◌≡◌ {A = Option LwpErr} (cond b (Some error.InvalidArg) None) None
+          → cond b (refusal_case s error.InvalidArg) (with_zero (after_reply u text s)) ≡ with_zero (after_reply u text s)
       by_test true h = absurd (cc)
       by_test false h = refl
 
       by_letter : (o : Option Letter) → refusal o (length text) ≡ None
-          → cond (is_none o) (refusal_case s error.NoWait) (cond (passes (λ letter. nat_lt letter.room (length text)) o) (refusal_case s error.InvalidArg) (with_zero (after_reply u text s))) ≡ with_zero (after_reply u text s)
+          → cond (is_none o) (refusal_case s error.NoWait)
+          (cond (passes (λ letter. nat_lt letter.room (length text)) o) (refusal_case s error.InvalidArg) (with_zero (after_reply u text s)))
+          ≡ with_zero (after_reply u text s)
       by_letter None h = absurd (cc)
       by_letter (Some letter) h = by_test (nat_lt letter.room (length text)) h
 
@@ -103,18 +110,22 @@ module _ (parts : Parts) (u : ℕ) where
   rearmed = record lighter { agents = roster.after_release parts.agents u }
 
   pub InStep-rearmed : InStep parts → InStep rearmed
-  InStep-rearmed step = InStep-agents lighter (InStep-lighter step) (roster.after_release parts.agents u) (omega (arith, length-holding u false parts.agents.agents))
+  InStep-rearmed step = InStep-agents lighter (InStep-lighter step) (roster.after_release parts.agents u)
+      (omega (arith, length-holding u false parts.agents.agents))
 
   pub replied-agent : (text : List ℕ) → is_agent (state_of parts) u ≡ true → after_reply u text (state_of parts) ≡ still (state_of rearmed)
   replied-agent text is = rw is refl
 
-  pub replied-thread : (text : List ℕ) → is_agent (state_of parts) u ≡ false → after_reply u text (state_of parts) ≡ unblock (answer.Reply text) u (state_of lighter)
+  pub replied-thread : (text : List ℕ) → is_agent (state_of parts) u ≡ false
+      → after_reply u text (state_of parts) ≡ unblock (answer.Reply text) u (state_of lighter)
   replied-thread text none = rw none refl
 
   -- a thread that sent a letter waits for the reply
-  pub sender-waits : LawfulParts parts → (t : ℕ) → is_none (received_letter parts.mail.letters t u) ≡ false → is_thread (state_of parts) u ≡ true → is_blocked_in (state_of parts) u ≡ true
+  pub sender-waits : LawfulParts parts → (t : ℕ) → is_none (received_letter parts.mail.letters t u) ≡ false
+      → is_thread (state_of parts) u ≡ true → is_blocked_in (state_of parts) u ≡ true
   sender-waits lawful t some lives = by_row (thread_of (state_of parts) u) refl lives
     where
       by_row : (o : Option _) → thread_of (state_of parts) u ≡ o → is_some o ≡ true → is_blocked_in (state_of parts) u ≡ true
       by_row None e h = absurd (cc)
-      by_row (Some row) e h = ap (passes (λ row. not (is_not_blocked row.block))) e ∙ ap (λ b. not (is_not_blocked b)) (sender_row (state_of parts) parts.dying lawful.nine u row e (reply_sends (state_of parts) t u some))
+      by_row (Some row) e h = ap (passes (λ row. not (is_not_blocked row.block))) e
+          ∙ ap (λ b. not (is_not_blocked b)) (sender_row (state_of parts) parts.dying lawful.nine u row e (reply_sends (state_of parts) t u some))

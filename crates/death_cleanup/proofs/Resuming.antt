@@ -17,26 +17,31 @@ use Rattle.conditions.proofs.Machine as conds
 use Rattle.pod_sched.specs.Schedule as sched
 use Rattle.pod_sched.specs.Schedule.{newcomer}
 use Rattle.pod_sched.specs.declared.rows.Known.{Known}
-use Rattle.std.proofs.Common.{Bool, List, None, Option, Some, [], ap, arith, cond, eqb, false, inl, inr, length, not, refl, sym, true, ℕ, ◌&&◌, ◌∙◌, ◌∷◌, ◌≡◌, ◌<◌, ◌≤◌}
+use Rattle.std.proofs.Common.{Bool, List, None, Option, Some, [], ap, arith, cond, eqb, false, inl, inr}
+use Rattle.std.proofs.Common.{length, not, refl, sym, true, ℕ, ◌&&◌, ◌∙◌, ◌∷◌, ◌≡◌, ◌<◌, ◌≤◌}
 use Rattle.std.proofs.lemmas.Bool.{cases_eq, eq-eqb, le-ltb, lt-ltb, ne_eqb}
 use Rattle.std.specs.List.{find}
 use Rattle.std.specs.Prelude.{is_some, option_map, unwrap_or}
 
-find-suspended : (t u : ℕ) (b : Bool) (known : List Known) → find (sched.is_of u) (sched.with_suspension t b known) ≡ option_map (sched.row_with_suspension t b) (find (sched.is_of u) known)
+find-suspended : (t u : ℕ) (b : Bool) (known : List Known)
+    → find (sched.is_of u) (sched.with_suspension t b known) ≡ option_map (sched.row_with_suspension t b) (find (sched.is_of u) known)
 find-suspended t u b [] = refl
 find-suspended t u b (row ∷ known) = by_test (find-suspended t u b known) (sched.is_of u row)
   where
     by_test : find (sched.is_of u) (sched.with_suspension t b known) ≡ option_map (sched.row_with_suspension t b) (find (sched.is_of u) known) → (c : Bool)
-        → cond c (Some (sched.row_with_suspension t b row)) (find (sched.is_of u) (sched.with_suspension t b known)) ≡ option_map (sched.row_with_suspension t b) (cond c (Some row) (find (sched.is_of u) known))
+        → cond c (Some (sched.row_with_suspension t b row)) (find (sched.is_of u) (sched.with_suspension t b known))
+        ≡ option_map (sched.row_with_suspension t b) (cond c (Some row) (find (sched.is_of u) known))
     by_test rest true = refl
     by_test rest false = rest
 
-find-row : (t u : ℕ) (b : Bool) (rows : List ThreadRow) → find (is_number u) (machine.with_suspension t b rows) ≡ option_map (machine.row_with_suspension t b) (find (is_number u) rows)
+find-row : (t u : ℕ) (b : Bool) (rows : List ThreadRow)
+    → find (is_number u) (machine.with_suspension t b rows) ≡ option_map (machine.row_with_suspension t b) (find (is_number u) rows)
 find-row t u b [] = refl
 find-row t u b (row ∷ rows) = by_test (find-row t u b rows) (is_number u row)
   where
     by_test : find (is_number u) (machine.with_suspension t b rows) ≡ option_map (machine.row_with_suspension t b) (find (is_number u) rows) → (c : Bool)
-        → cond c (Some (machine.row_with_suspension t b row)) (find (is_number u) (machine.with_suspension t b rows)) ≡ option_map (machine.row_with_suspension t b) (cond c (Some row) (find (is_number u) rows))
+        → cond c (Some (machine.row_with_suspension t b row)) (find (is_number u) (machine.with_suspension t b rows))
+        ≡ option_map (machine.row_with_suspension t b) (cond c (Some row) (find (is_number u) rows))
     by_test rest true = refl
     by_test rest false = rest
 
@@ -46,10 +51,14 @@ rows-length t b (row ∷ rows) = omega (arith, rows-length t b rows)
 
 module _ (p t : ℕ) where
   -- the row of a thread, where any is resumed
-  row-resumed : (known : List Known) (n : ℕ) (rec : ThreadRec) → row_of (known_of p (sched.with_suspension t false known) n) n rec ≡ machine.row_with_suspension t false (row_of (known_of p known n) n rec)
-  row-resumed known n rec = ap (λ o. row_of (unwrap_or o (newcomer n p false)) n rec) (find-suspended t n false known) ∙ by_found (find (sched.is_of n) known) refl
+  row-resumed : (known : List Known) (n : ℕ) (rec : ThreadRec)
+      → row_of (known_of p (sched.with_suspension t false known) n) n rec ≡ machine.row_with_suspension t false (row_of (known_of p known n) n rec)
+  row-resumed known n rec = ap (λ o. row_of (unwrap_or o (newcomer n p false)) n rec) (find-suspended t n false known)
+      ∙ by_found (find (sched.is_of n) known) refl
     where
-      by_found : (o : Option Known) → find (sched.is_of n) known ≡ o → row_of (unwrap_or (option_map (sched.row_with_suspension t false) o) (newcomer n p false)) n rec ≡ machine.row_with_suspension t false (row_of (unwrap_or o (newcomer n p false)) n rec)
+      by_found : (o : Option Known) → find (sched.is_of n) known ≡ o
+          → row_of (unwrap_or (option_map (sched.row_with_suspension t false) o) (newcomer n p false)) n rec
+          ≡ machine.row_with_suspension t false (row_of (unwrap_or o (newcomer n p false)) n rec)
       by_found None e = by_test (eqb n t)
         where
           by_test : (c : Bool) → row_of (newcomer n p false) n rec ≡ record (row_of (newcomer n p false) n rec) { suspended = cond c false false }
@@ -67,14 +76,17 @@ module _ (p t : ℕ) where
             | inr away ↦ found-of known (rw (ne_eqb k.tid n away) at h)
           ]
 
-  rows-resumed : (known : List Known) (living : List (ℕ × Kind)) → rows_of p (sched.with_suspension t false known) living ≡ machine.with_suspension t false (rows_of p known living)
+  rows-resumed : (known : List Known) (living : List (ℕ × Kind))
+      → rows_of p (sched.with_suspension t false known) living ≡ machine.with_suspension t false (rows_of p known living)
   rows-resumed known [] = refl
   rows-resumed known (live ∷ living) = by_kind live.0 live.1 (rows-resumed known living)
     where
       by_kind : (n : ℕ) (k : Kind) → rows_of p (sched.with_suspension t false known) living ≡ machine.with_suspension t false (rows_of p known living)
-          → row_onto (known_of p (sched.with_suspension t false known) n) n k (rows_of p (sched.with_suspension t false known) living) ≡ machine.with_suspension t false (row_onto (known_of p known n) n k (rows_of p known living))
+          → row_onto (known_of p (sched.with_suspension t false known) n) n k (rows_of p (sched.with_suspension t false known) living)
+          ≡ machine.with_suspension t false (row_onto (known_of p known n) n k (rows_of p known living))
       by_kind n kind.Agent rest = rest
-      by_kind n (kind.Thread rec) rest = ap (λ row. row ∷ rows_of p (sched.with_suspension t false known) living) (row-resumed known n rec) ∙ ap (λ rows. machine.row_with_suspension t false (row_of (known_of p known n) n rec) ∷ rows) rest
+      by_kind n (kind.Thread rec) rest = ap (λ row. row ∷ rows_of p (sched.with_suspension t false known) living) (row-resumed known n rec)
+          ∙ ap (λ rows. machine.row_with_suspension t false (row_of (known_of p known n) n rec) ∷ rows) rest
 
 -- whom nobody knows is resumed in vain
 unknown-same : (t : ℕ) (known : List Known) → find (sched.is_of t) known ≡ None → sched.with_suspension t false known ≡ known
@@ -107,7 +119,9 @@ module _ (parts : Parts) (t : ℕ) where
       prio : Option ThreadRow → ℕ
       prio o = unwrap_or (option_map (λ (row : ThreadRow). row.priority) o) 0
 
-      same : (o : Option ThreadRow) → unwrap_or (option_map (λ (row : ThreadRow). row.priority) (option_map (machine.row_with_suspension t false) o)) 0 ≡ unwrap_or (option_map (λ (row : ThreadRow). row.priority) o) 0
+      same : (o : Option ThreadRow)
+          → unwrap_or (option_map (λ (row : ThreadRow). row.priority) (option_map (machine.row_with_suspension t false) o)) 0
+          ≡ unwrap_or (option_map (λ (row : ThreadRow). row.priority) o) 0
       same None = refl
       same (Some row) = refl
 
@@ -115,28 +129,42 @@ module _ (parts : Parts) (t : ℕ) where
     pub InStep-resumed : InStep resumed-parts
     InStep-resumed = record {
       tied = record {
-        known = λ u. ap is_some (find-suspended t u false parts.sched.threads) ∙ same-some (sched.row_with_suspension t false) (find (sched.is_of u) parts.sched.threads) ∙ step.tied.known u
-            ∙ ap (λ b. b && not (is_same_option parts.dying u)) (sym (ap is_some (found u) ∙ same-some (machine.row_with_suspension t false) (machine.thread_of (state_of parts) u)));
-        waits = λ u. ap (passes (λ (row : Known). row.blocked)) (find-suspended t u false parts.sched.threads) ∙ blocked (find (sched.is_of u) parts.sched.threads) ∙ step.tied.waits u
+        known = λ u. ap is_some (find-suspended t u false parts.sched.threads)
+            ∙ same-some (sched.row_with_suspension t false) (find (sched.is_of u) parts.sched.threads) ∙ step.tied.known u
+            ∙ ap (λ b. b && not (is_same_option parts.dying u))
+            (sym (ap is_some (found u) ∙ same-some (machine.row_with_suspension t false) (machine.thread_of (state_of parts) u)));
+        waits = λ u. ap (passes (λ (row : Known). row.blocked)) (find-suspended t u false parts.sched.threads)
+            ∙ blocked (find (sched.is_of u) parts.sched.threads) ∙ step.tied.waits u
             ∙ sym (ap (passes (λ (row : ThreadRow). not (is_not_blocked row.block))) (found u) ∙ waiting (machine.thread_of (state_of parts) u));
       };
       ranked = record {
-        requests = mons.ranked_same (machine.priority_in (state_of parts)) (machine.priority_in (state_of resumed-parts)) parts.mons step.ranked.requests priority-same;
-        waits = conds.ranked_same (machine.priority_in (state_of parts)) (machine.priority_in (state_of resumed-parts)) parts.conds step.ranked.waits priority-same;
+        requests = mons.ranked_same (machine.priority_in (state_of parts)) (machine.priority_in (state_of resumed-parts)) parts.mons
+            step.ranked.requests priority-same;
+        waits = conds.ranked_same (machine.priority_in (state_of parts)) (machine.priority_in (state_of resumed-parts)) parts.conds
+            step.ranked.waits priority-same;
       };
       roomy =
-          let same : length (state_of resumed-parts).threads ≡ length (state_of parts).threads = ap length threads-are ∙ rows-length t false (state_of parts).threads in
-          record { letters = omega (arith, same, step.roomy.letters); threads = omega (arith, same, step.roomy.threads); requests = omega (arith, same, step.roomy.requests); waits = omega (arith, same, step.roomy.waits) };
+          let same : length (state_of resumed-parts).threads
+          ≡ length (state_of parts).threads = ap length threads-are ∙ rows-length t false (state_of parts).threads in
+          record {
+            letters = omega (arith, same, step.roomy.letters);
+            threads = omega (arith, same, step.roomy.threads);
+            requests = omega (arith, same, step.roomy.requests);
+            waits = omega (arith, same, step.roomy.waits);
+          };
       monitors = step.monitors;
       conditions = step.conditions;
       noted = step.noted;
     }
       where
-        blocked : (o : Option Known) → passes (λ (row : Known). row.blocked) (option_map (sched.row_with_suspension t false) o) ≡ passes (λ (row : Known). row.blocked) o
+        blocked : (o : Option Known)
+            → passes (λ (row : Known). row.blocked) (option_map (sched.row_with_suspension t false) o) ≡ passes (λ (row : Known). row.blocked) o
         blocked None = refl
         blocked (Some row) = refl
 
-        waiting : (o : Option ThreadRow) → passes (λ (row : ThreadRow). not (is_not_blocked row.block)) (option_map (machine.row_with_suspension t false) o) ≡ passes (λ (row : ThreadRow). not (is_not_blocked row.block)) o
+        waiting : (o : Option ThreadRow)
+            → passes (λ (row : ThreadRow). not (is_not_blocked row.block)) (option_map (machine.row_with_suspension t false) o)
+            ≡ passes (λ (row : ThreadRow). not (is_not_blocked row.block)) o
         waiting None = refl
         waiting (Some row) = refl
 

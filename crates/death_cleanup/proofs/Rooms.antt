@@ -13,7 +13,8 @@ use Rattle.lwp_types.specs.CountLaws.{count-cons, one}
 use Rattle.lwp_types.specs.State.{ThreadRow, is_number, passes}
 use Rattle.lwp_types.specs.declared.rows.Block.{Block}
 use Rattle.stale_ids.specs.Register.{AreRising, value_of}
-use Rattle.std.proofs.Common.{Bool, List, None, Option, Some, [], ap, arith, cond, count_by, eqb, false, length, refl, sym, true, ℕ, ◌&&◌, ◌<◌, ◌∙◌, ◌∷◌, ◌≡◌, ◌≤◌}
+use Rattle.std.proofs.Common.{Bool, List, None, Option, Some, [], ap, arith, cond, count_by, eqb}
+use Rattle.std.proofs.Common.{false, length, refl, sym, true, ℕ, ◌&&◌, ◌<◌, ◌∙◌, ◌∷◌, ◌≡◌, ◌≤◌}
 use Rattle.std.proofs.lemmas.Bool.{and_parts, eq-eqb, eqb-true}
 use Rattle.std.proofs.lemmas.List.Sums.{count_by-le-length}
 use Rattle.std.specs.List.{AllByRecursion, filter, find, list_all}
@@ -68,23 +69,32 @@ module _ (living : List (ℕ × Kind)) (rising : AreRising living) where
           let named : block_name rec.block ≡ Some (w.what, w.of) = named-by w.what w.of (kind.Thread rec) h in
           rw named (eq-eqb (run_of w) (run_of w) refl)
 
-  at-most : (ws : List NamedWait) → AreOrdered ws → list_all (is_on living) ws ≡ true → (n r : ℕ) → count_by (is_wait r n) ws ≤ one (passes (waits_in r) (find (is_number n) rows))
+  at-most : (ws : List NamedWait) → AreOrdered ws → list_all (is_on living) ws ≡ true → (n r : ℕ)
+      → count_by (is_wait r n) ws ≤ one (passes (waits_in r) (find (is_number n) rows))
   at-most [] ordered all n r = omega arith
   at-most (w ∷ ws) ordered all n r = by_test (is_wait r n w) refl (at-most ws ordered.1 parts.1 n r)
     where
       parts : (is_on living w ≡ true) × (list_all (is_on living) ws ≡ true)
       parts = and_parts (is_on living w) (list_all (is_on living) ws) all
 
-      by_test : (c : Bool) → is_wait r n w ≡ c → count_by (is_wait r n) ws ≤ one (passes (waits_in r) (find (is_number n) rows)) → count_by (is_wait r n) (w ∷ ws) ≤ one (passes (waits_in r) (find (is_number n) rows))
+      by_test : (c : Bool) → is_wait r n w ≡ c → count_by (is_wait r n) ws ≤ one (passes (waits_in r) (find (is_number n) rows))
+          → count_by (is_wait r n) (w ∷ ws) ≤ one (passes (waits_in r) (find (is_number n) rows))
       by_test false e rest = omega (arith, count-cons (is_wait r n) w ws, ap one e, rest)
       by_test true e rest =
           let both = and_parts (eqb w.tid n) (eqb (run_of w) r) e in
-          let here : passes (waits_in r) (find (is_number n) rows) ≡ true = (rw (eqb-true w.tid n both.0, eqb-true (run_of w) r both.1) at (on-row w parts.0)) in
+          let here : passes (waits_in r) (find (is_number n) rows)
+          ≡ true = (rw (eqb-true w.tid n both.0, eqb-true (run_of w) r both.1) at (on-row w parts.0)) in
           omega (arith, count-cons (is_wait r n) w ws, ap one e, none-later r n w ws e ordered.0, ap one here)
 
   -- what is left of a note, once those that wait no longer are gone
   pub pruned-fits : (ws : List NamedWait) → AreOrdered (filter (is_on living) ws) → length (filter (is_on living) ws) ≤ threads_in living
   pruned-fits ws ordered =
       let left : List NamedWait = filter (is_on living) ws in
-      let stand : Stand (λ (w : NamedWait). w.tid) run_of by_name run_in rows left = record { here = λ n r. at-most left ordered (all-on (is_on living) ws) n r } in
-      omega (arith, fits (λ (w : NamedWait). w.tid) run_of by_name run_in rows left (once (λ (w : NamedWait). w.tid) run_of by_name run_in rows left stand), count_by-le-length (λ (row : ThreadRow). by_name row.block) rows, threads-rows 0 [] living)
+      let stand : Stand (λ (w : NamedWait). w.tid) run_of by_name run_in rows left =
+      record { here = λ n r. at-most left ordered (all-on (is_on living) ws) n r } in
+      omega (
+        arith,
+        fits (λ (w : NamedWait). w.tid) run_of by_name run_in rows left (once (λ (w : NamedWait). w.tid) run_of by_name run_in rows left stand),
+        count_by-le-length (λ (row : ThreadRow). by_name row.block) rows,
+        threads-rows 0 [] living,
+      )

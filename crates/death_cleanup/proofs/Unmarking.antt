@@ -5,7 +5,8 @@ use Rattle.lwp_types.specs.Exits.{exit_case, exit_outcome, run_exit}
 use Rattle.lwp_types.specs.Messages.{after_reply, received_letter, with_holding, without_letter}
 use Rattle.lwp_types.specs.Monitors.{after_exit, depth_in, is_owner, with_depth}
 use Rattle.lwp_types.specs.MonitorRelease.{grant, lock_of, next_owner, release, requests_of, without_lock, without_request}
-use Rattle.lwp_types.specs.State.{Outcome, State, ThreadRow, is_agent, is_blocked_in, is_id, is_not_blocked, is_number, is_suspended_in, is_thread, marks_in, row_with_marks, member, passes, priority_in, still, with_block, with_marks, with_marks_of, with_suspension}
+use Rattle.lwp_types.specs.State.{Outcome, State, ThreadRow, is_agent, is_blocked_in, is_id, is_not_blocked, is_number, is_suspended_in, is_thread, marks_in}
+use Rattle.lwp_types.specs.State.{row_with_marks, member, passes, priority_in, still, with_block, with_marks, with_marks_of, with_suspension}
 use Rattle.lwp_types.specs.Threads.{after_resume}
 use Rattle.lwp_types.specs.Unblock.{after_unblock, unblock, zero_answer}
 use Rattle.lwp_types.specs.Conditions.{after_wake, after_wake_all, condition_of, is_no_condition, is_not_last, waits_on}
@@ -50,11 +51,13 @@ module _ (t : ℕ) (ms : List Mark) where
   found u (row ∷ rows) = by_test (found u rows) (is_number u row)
     where
       by_test : find (is_number u) (with_marks t ms rows) ≡ option_map (row_with_marks t ms) (find (is_number u) rows) → (c : Bool)
-          → cond c (Some (row_with_marks t ms row)) (find (is_number u) (with_marks t ms rows)) ≡ option_map (row_with_marks t ms) (cond c (Some row) (find (is_number u) rows))
+          → cond c (Some (row_with_marks t ms row)) (find (is_number u) (with_marks t ms rows))
+          ≡ option_map (row_with_marks t ms) (cond c (Some row) (find (is_number u) rows))
       by_test rest true = refl
       by_test rest false = rest
 
-  passes_same : (q : ThreadRow → Bool) → ((row : ThreadRow) → q (row_with_marks t ms row) ≡ q row) → (o : Option ThreadRow) → passes q (option_map (row_with_marks t ms) o) ≡ passes q o
+  passes_same : (q : ThreadRow → Bool) → ((row : ThreadRow) → q (row_with_marks t ms row) ≡ q row) → (o : Option ThreadRow)
+      → passes q (option_map (row_with_marks t ms) o) ≡ passes q o
   passes_same q same None = refl
   passes_same q same (Some row) = same row
 
@@ -66,15 +69,19 @@ module _ (t : ℕ) (ms : List Mark) where
       by_row (Some row) = refl
 
   suspended : (s : State) (u : ℕ) → is_suspended_in (remarked s) u ≡ is_suspended_in s u
-  suspended s u = ap (passes (λ (row : ThreadRow). row.suspended)) (found u s.threads) ∙ passes_same (λ row. row.suspended) (λ row. refl) (find (is_number u) s.threads)
+  suspended s u = ap (passes (λ (row : ThreadRow). row.suspended)) (found u s.threads)
+      ∙ passes_same (λ row. row.suspended) (λ row. refl) (find (is_number u) s.threads)
 
   pub blocked : (s : State) (u : ℕ) → is_blocked_in (remarked s) u ≡ is_blocked_in s u
-  blocked s u = ap (passes (λ (row : ThreadRow). not (is_not_blocked row.block))) (found u s.threads) ∙ passes_same (λ row. not (is_not_blocked row.block)) (λ row. refl) (find (is_number u) s.threads)
+  blocked s u = ap (passes (λ (row : ThreadRow). not (is_not_blocked row.block))) (found u s.threads)
+      ∙ passes_same (λ row. not (is_not_blocked row.block)) (λ row. refl) (find (is_number u) s.threads)
 
   pub priority : (s : State) (u : ℕ) → priority_in (remarked s) u ≡ priority_in s u
   priority s u = ap (λ o. unwrap_or (option_map (λ (row : ThreadRow). row.priority) o) 0) (found u s.threads) ∙ by_row (find (is_number u) s.threads)
     where
-      by_row : (o : Option ThreadRow) → unwrap_or (option_map (λ (row : ThreadRow). row.priority) (option_map (row_with_marks t ms) o)) 0 ≡ unwrap_or (option_map (λ (row : ThreadRow). row.priority) o) 0
+      by_row : (o : Option ThreadRow)
+          → unwrap_or (option_map (λ (row : ThreadRow). row.priority) (option_map (row_with_marks t ms) o)) 0
+          ≡ unwrap_or (option_map (λ (row : ThreadRow). row.priority) o) 0
       by_row None = refl
       by_row (Some row) = refl
 
@@ -95,7 +102,9 @@ module _ (t : ℕ) (ms : List Mark) where
   again [] ks = refl
   again (row ∷ rows) ks = by_test (is_number t row) (again rows ks)
     where
-      by_test : (c : Bool) → with_marks t ms (with_marks t ks rows) ≡ with_marks t ms rows → record row { marks = cond c ms (cond c ks row.marks) } ∷ with_marks t ms (with_marks t ks rows) ≡ record row { marks = cond c ms row.marks } ∷ with_marks t ms rows
+      by_test : (c : Bool) → with_marks t ms (with_marks t ks rows) ≡ with_marks t ms rows
+          → record row { marks = cond c ms (cond c ks row.marks) } ∷ with_marks t ms (with_marks t ks rows)
+          ≡ record row { marks = cond c ms row.marks } ∷ with_marks t ms rows
       by_test true rest = ap (λ rs. record row { marks = ms } ∷ rs) rest
       by_test false rest = ap (λ rs. row ∷ rs) rest
 
@@ -107,7 +116,8 @@ module _ (t : ℕ) (ms : List Mark) where
   pub marks_now : (s : State) → is_thread s t ≡ true → marks_in (remarked s) t ≡ ms
   marks_now s is = ap (λ o. unwrap_or (option_map (λ (row : ThreadRow). row.marks) o) []) (found t s.threads) ∙ by_row (find (is_number t) s.threads) refl is
     where
-      by_row : (o : Option ThreadRow) → find (is_number t) s.threads ≡ o → is_some o ≡ true → unwrap_or (option_map (λ (row : ThreadRow). row.marks) (option_map (row_with_marks t ms) o)) [] ≡ ms
+      by_row : (o : Option ThreadRow) → find (is_number t) s.threads ≡ o → is_some o ≡ true
+          → unwrap_or (option_map (λ (row : ThreadRow). row.marks) (option_map (row_with_marks t ms) o)) [] ≡ ms
       by_row None e is = absurd (cc)
       by_row (Some row) e is = ap (λ c. cond c ms row.marks) (find_passes (is_number t) s.threads row e)
 
@@ -127,7 +137,8 @@ module _ (t : ℕ) (ms : List Mark) where
   })
 
   release_so : (m : ℕ) (s : State) → release m (remarked s) ≡ remarked_out (release m s)
-  release_so m s = ap (λ f. grant (best_by (λ (r : Request). f r.tid) (requests_of s.requests m)) (record (remarked s) { locks = without_lock m s.locks })) (priorities s)
+  release_so m s =
+      ap (λ f. grant (best_by (λ (r : Request). f r.tid) (requests_of s.requests m)) (record (remarked s) { locks = without_lock m s.locks })) (priorities s)
       ∙ grant_so (next_owner s m) (record s { locks = without_lock m s.locks })
 
   exited_so : (m : ℕ) (s : State) → after_exit m (remarked s) ≡ remarked_out (after_exit m s)
@@ -141,8 +152,11 @@ module _ (t : ℕ) (ms : List Mark) where
   replied_so : (u : ℕ) (text : List ℕ) (s : State) → after_reply u text (remarked s) ≡ remarked_out (after_reply u text s)
   replied_so u text s = by_agent (is_agent s u)
     where
-      by_agent : (b : Bool) → cond b (still (record (remarked s) { letters = without_letter u s.letters; agents = with_holding u false s.agents })) (unblock (answer.Reply text) u (record (remarked s) { letters = without_letter u s.letters }))
-          ≡ remarked_out (cond b (still (record s { letters = without_letter u s.letters; agents = with_holding u false s.agents })) (unblock (answer.Reply text) u (record s { letters = without_letter u s.letters })))
+      by_agent : (b : Bool)
+          → cond b (still (record (remarked s) { letters = without_letter u s.letters; agents = with_holding u false s.agents }))
+          (unblock (answer.Reply text) u (record (remarked s) { letters = without_letter u s.letters }))
+          ≡ remarked_out (cond b (still (record s { letters = without_letter u s.letters; agents = with_holding u false s.agents }))
+          (unblock (answer.Reply text) u (record s { letters = without_letter u s.letters })))
       by_agent true = refl
       by_agent false = unblock_so (answer.Reply text) u (record s { letters = without_letter u s.letters })
 
@@ -157,30 +171,54 @@ module _ (t : ℕ) (ms : List Mark) where
   woken_all_so None ws s = refl
   woken_all_so (Some row) ws s = woken_list row.mon ws s
 
-  unless_so : (s : State) (checks : List Check) (otherwise : Case) → unless (remarked s) checks (remarked_case otherwise) ≡ remarked_case (unless s checks otherwise)
+  unless_so : (s : State) (checks : List Check) (otherwise : Case)
+      → unless (remarked s) checks (remarked_case otherwise) ≡ remarked_case (unless s checks otherwise)
   unfolding unless
   unless_so s [] otherwise = refl
   unless_so s (check ∷ checks) otherwise = by_test check.0 (unless_so s checks otherwise)
     where
       by_test : (b : Bool) → unless (remarked s) checks (remarked_case otherwise) ≡ remarked_case (unless s checks otherwise)
-          → cond b (refusal_case (remarked s) check.1) (unless (remarked s) checks (remarked_case otherwise)) ≡ remarked_case (cond b (refusal_case s check.1) (unless s checks otherwise))
+          → cond b (refusal_case (remarked s) check.1) (unless (remarked s) checks (remarked_case otherwise))
+          ≡ remarked_case (cond b (refusal_case s check.1) (unless s checks otherwise))
       by_test true rest = refl
       by_test false rest = rest
 
   -- what an exit procedure does
 
-  waking_so : (s : State) (u c : ℕ) (ws : List WaitRow) → unless (remarked s) (is_no_condition s c ∷ is_not_last s u c ∷ []) (value_case (after_wake_all (condition_of s.conditions c) ws (remarked s)) 0)
+  waking_so : (s : State) (u c : ℕ) (ws : List WaitRow)
+      → unless (remarked s) (is_no_condition s c ∷ is_not_last s u c ∷ []) (value_case (after_wake_all (condition_of s.conditions c) ws (remarked s)) 0)
       ≡ remarked_case (unless s (is_no_condition s c ∷ is_not_last s u c ∷ []) (value_case (after_wake_all (condition_of s.conditions c) ws s) 0))
-  waking_so s u c ws = ap (λ now. unless (remarked s) (is_no_condition s c ∷ is_not_last s u c ∷ []) (value_case now 0)) (woken_all_so (condition_of s.conditions c) ws s) ∙ unless_so s _ _
+  waking_so s u c ws = ap (λ now. unless (remarked s) (is_no_condition s c ∷ is_not_last s u c ∷ []) (value_case now 0))
+      (woken_all_so (condition_of s.conditions c) ws s)
+      ∙ unless_so s _ _
 
   exit_case_so : (s : State) (u : ℕ) (call : ExitCall) → exit_case (remarked s) u call ≡ remarked_case (exit_case s u call)
-  exit_case_so s u (exit.MonExit m) = ap (λ (o : Outcome). unless (remarked s) ((not (member m s.monitors), error.NonExist) ∷ (not (is_owner s.locks u m), error.InvalidArg) ∷ []) (with_zero o)) (exited_so m s) ∙ unless_so s _ _
-  exit_case_so s u (exit.MonBreak m) = ap (λ (o : Outcome). unless (remarked s) ((not (member m s.monitors), error.NonExist) ∷ (is_none (lock_of s.locks m), error.NotOwned) ∷ []) (with_zero o)) (release_so m s) ∙ unless_so s _ _
-  exit_case_so s u (exit.Notify c) = ap (λ f. unless (remarked s) (is_no_condition s c ∷ is_not_last s u c ∷ []) (value_case (after_wake_all (condition_of s.conditions c) (option_to_list (best_by (λ (w : WaitRow). f w.tid) (waits_on s.waits c))) (remarked s)) 0)) (priorities s)
+  exit_case_so s u (exit.MonExit m) = ap
+      (λ (o : Outcome). unless (remarked s) ((not (member m s.monitors), error.NonExist) ∷ (not (is_owner s.locks u m), error.InvalidArg) ∷ []) (with_zero o))
+      (exited_so m s)
+      ∙ unless_so s _ _
+  exit_case_so s u (exit.MonBreak m) = ap
+      (λ (o : Outcome). unless (remarked s) ((not (member m s.monitors), error.NonExist) ∷ (is_none (lock_of s.locks m), error.NotOwned) ∷ []) (with_zero o))
+      (release_so m s)
+      ∙ unless_so s _ _
+  exit_case_so s u (exit.Notify c) = ap
+      (λ f. unless (remarked s) (is_no_condition s c ∷ is_not_last s u c ∷ [])
+      (value_case (after_wake_all (condition_of s.conditions c) (option_to_list (best_by (λ (w : WaitRow). f w.tid) (waits_on s.waits c))) (remarked s)) 0))
+      (priorities s)
       ∙ waking_so s u c (option_to_list (best_by (λ (w : WaitRow). priority_in s w.tid) (waits_on s.waits c)))
   exit_case_so s u (exit.Broadcast c) = waking_so s u c (waits_on s.waits c)
-  exit_case_so s u (exit.Reply to text) = ap (λ b. unless (remarked s) ((not (b || is_agent s to), error.NonExist) ∷ (is_none (received_letter s.letters u to), error.NoWait) ∷ (passes (λ (letter : Letter). nat_lt letter.room (length text)) (received_letter s.letters u to), error.InvalidArg) ∷ []) (with_zero (after_reply to text (remarked s)))) (lives s to)
-      ∙ ap (λ (o : Outcome). unless (remarked s) ((not (is_id s to), error.NonExist) ∷ (is_none (received_letter s.letters u to), error.NoWait) ∷ (passes (λ (letter : Letter). nat_lt letter.room (length text)) (received_letter s.letters u to), error.InvalidArg) ∷ []) (with_zero o)) (replied_so to text s)
+  exit_case_so s u (exit.Reply to text) = ap
+      (λ b. unless (remarked s)
+      ((not (b || is_agent s to), error.NonExist) ∷ (is_none (received_letter s.letters u to), error.NoWait)
+      ∷ (passes (λ (letter : Letter). nat_lt letter.room (length text)) (received_letter s.letters u to), error.InvalidArg) ∷ [])
+      (with_zero (after_reply to text (remarked s))))
+      (lives s to)
+      ∙ ap
+      (λ (o : Outcome). unless (remarked s)
+      ((not (is_id s to), error.NonExist) ∷ (is_none (received_letter s.letters u to), error.NoWait)
+      ∷ (passes (λ (letter : Letter). nat_lt letter.room (length text)) (received_letter s.letters u to), error.InvalidArg) ∷ [])
+      (with_zero o))
+      (replied_so to text s)
       ∙ unless_so s _ _
   exit_case_so s u (exit.Resume v) = ap (λ b. unless (remarked s) ((not b, error.NonExist) ∷ []) (value_case (after_resume (remarked s) v) 0)) (lives s v)
       ∙ ap (λ now. unless (remarked s) ((not (is_thread s v), error.NonExist) ∷ []) (value_case now 0)) (resumed_so v s) ∙ unless_so s _ _
@@ -207,7 +245,9 @@ module _ (v : ℕ) where
   same_suspension u b [] = refl
   same_suspension u b (row ∷ rows) = by_test (is_number v row) (same_suspension u b rows)
     where
-      by_test : (c : Bool) → is_some (find (is_number v) (with_suspension u b rows)) ≡ is_some (find (is_number v) rows) → is_some (cond c (Some (record row { suspended = cond (is_number u row) b row.suspended })) (find (is_number v) (with_suspension u b rows))) ≡ is_some (cond c (Some row) (find (is_number v) rows))
+      by_test : (c : Bool) → is_some (find (is_number v) (with_suspension u b rows)) ≡ is_some (find (is_number v) rows)
+          → is_some (cond c (Some (record row { suspended = cond (is_number u row) b row.suspended })) (find (is_number v) (with_suspension u b rows)))
+          ≡ is_some (cond c (Some row) (find (is_number v) rows))
       by_test true rest = refl
       by_test false rest = rest
 
@@ -237,7 +277,9 @@ module _ (v : ℕ) where
   same_replied : (u : ℕ) (text : List ℕ) (s : State) → Same s (after_reply u text s).after
   same_replied u text s = by_agent (is_agent s u)
     where
-      by_agent : (b : Bool) → Same s (cond b (still (record s { letters = without_letter u s.letters; agents = with_holding u false s.agents })) (unblock (answer.Reply text) u (record s { letters = without_letter u s.letters }))).after
+      by_agent : (b : Bool)
+          → Same s (cond b (still (record s { letters = without_letter u s.letters; agents = with_holding u false s.agents }))
+          (unblock (answer.Reply text) u (record s { letters = without_letter u s.letters }))).after
       by_agent true = refl
       by_agent false = same_block u block.Not s.threads
 

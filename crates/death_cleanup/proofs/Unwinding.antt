@@ -31,27 +31,34 @@ use Rattle.pod_laws.proofs.Chosen.{living}
 use Rattle.pod_laws.proofs.MarkMoves.{NineParts-fewer}
 use Rattle.pod_sched.specs.declared.rows.Known.{Known}
 use Rattle.stale_ids.specs.Register.{AreRising, value_of}
-use Rattle.std.proofs.Common.{Bool, List, None, Option, Some, [], ap, arith, cond, count_by, eqb, false, length, length-append, map, not, refl, sym, true, ℕ, ◌&&◌, ◌++◌, ◌+◌, ◌<◌, ◌||◌, ◌∙◌, ◌∷◌, ◌≡◌, ◌≤◌}
+use Rattle.std.proofs.Common.{Bool, List, None, Option, Some, [], ap, arith, cond, count_by, eqb, false, length, length-append}
+use Rattle.std.proofs.Common.{map, not, refl, sym, true, ℕ, ◌&&◌, ◌++◌, ◌+◌, ◌<◌, ◌||◌, ◌∙◌, ◌∷◌, ◌≡◌, ◌≤◌}
 use Rattle.std.proofs.lemmas.List.{append-nil, append_assoc, length-map}
 use Rattle.std.proofs.lemmas.Bool.{eq-eqb, or_left}
 use Rattle.std.specs.List.{list_any}
 use Rattle.std.specs.Prelude.{option_map, option_to_list, unwrap_or}
 
 -- other marks in the registry are other marks in the state
-rows-stacked : (p t : ℕ) (ms : List Mark) (known : List Known) (living : List (ℕ × Kind)) → rows_of p known (map (pair_with_stack t ms) living) ≡ with_marks t ms (rows_of p known living)
+rows-stacked : (p t : ℕ) (ms : List Mark) (known : List Known) (living : List (ℕ × Kind))
+    → rows_of p known (map (pair_with_stack t ms) living) ≡ with_marks t ms (rows_of p known living)
 rows-stacked p t ms known [] = refl
 rows-stacked p t ms known (live ∷ living) = by_kind live.0 live.1 (rows-stacked p t ms known living)
   where
     by_kind : (n : ℕ) (k : Kind) → rows_of p known (map (pair_with_stack t ms) living) ≡ with_marks t ms (rows_of p known living)
-        → row_onto (known_of p known n) n (cond (eqb n t) (kind_with_marks ms k) k) (rows_of p known (map (pair_with_stack t ms) living)) ≡ with_marks t ms (row_onto (known_of p known n) n k (rows_of p known living))
+        → row_onto (known_of p known n) n (cond (eqb n t) (kind_with_marks ms k) k) (rows_of p known (map (pair_with_stack t ms) living))
+        ≡ with_marks t ms (row_onto (known_of p known n) n k (rows_of p known living))
     by_kind n kind.Agent rest = by_test (eqb n t)
       where
-        by_test : (c : Bool) → row_onto (known_of p known n) n (cond c kind.Agent kind.Agent) (rows_of p known (map (pair_with_stack t ms) living)) ≡ with_marks t ms (rows_of p known living)
+        by_test : (c : Bool)
+            → row_onto (known_of p known n) n (cond c kind.Agent kind.Agent) (rows_of p known (map (pair_with_stack t ms) living))
+            ≡ with_marks t ms (rows_of p known living)
         by_test true = rest
         by_test false = rest
     by_kind n (kind.Thread rec) rest = by_test (eqb n t)
       where
-        by_test : (c : Bool) → row_onto (known_of p known n) n (cond c (kind.Thread (record rec { stack = ms })) (kind.Thread rec)) (rows_of p known (map (pair_with_stack t ms) living))
+        by_test : (c : Bool)
+            → row_onto (known_of p known n) n (cond c (kind.Thread (record rec { stack = ms })) (kind.Thread rec))
+            (rows_of p known (map (pair_with_stack t ms) living))
             ≡ record (row_of (known_of p known n) n rec) { marks = cond c ms rec.stack } ∷ with_marks t ms (rows_of p known living)
         by_test true = ap (λ rows. record (row_of (known_of p known n) n rec) { marks = ms } ∷ rows) rest
         by_test false = ap (λ rows. row_of (known_of p known n) n rec ∷ rows) rest
@@ -63,14 +70,24 @@ module _ (parts : Parts) (t : ℕ) (ms : List Mark) where
   pub InStep-stacked : InStep parts → InStep (after_set_stack parts t ms)
   InStep-stacked step = record {
     tied = record {
-      known = λ u. step.tied.known u ∙ ap (λ b. b && not (is_same_option parts.dying u)) (sym (ap (λ s. is_thread s u) stacked-is ∙ lives t ms (state_of parts) u));
+      known = λ u. step.tied.known u
+          ∙ ap (λ b. b && not (is_same_option parts.dying u)) (sym (ap (λ s. is_thread s u) stacked-is ∙ lives t ms (state_of parts) u));
       waits = λ u. step.tied.waits u ∙ sym (ap (λ s. machine.is_blocked_in s u) stacked-is ∙ blocked t ms (state_of parts) u);
     };
     ranked = record {
-      requests = All-weaker (λ (r : EntryRequest). r.prio ≡ machine.priority_in (state_of parts) r.tid) (λ r. r.prio ≡ machine.priority_in (state_of (after_set_stack parts t ms)) r.tid) (λ r e. e ∙ sym (ap (λ s. machine.priority_in s r.tid) stacked-is ∙ priority t ms (state_of parts) r.tid)) parts.mons.requests step.ranked.requests;
-      waits = All-weaker (λ (w : WaitRec). w.prio ≡ machine.priority_in (state_of parts) w.tid) (λ w. w.prio ≡ machine.priority_in (state_of (after_set_stack parts t ms)) w.tid) (λ w e. e ∙ sym (ap (λ s. machine.priority_in s w.tid) stacked-is ∙ priority t ms (state_of parts) w.tid)) parts.conds.waits step.ranked.waits;
+      requests = All-weaker (λ (r : EntryRequest). r.prio ≡ machine.priority_in (state_of parts) r.tid)
+          (λ r. r.prio ≡ machine.priority_in (state_of (after_set_stack parts t ms)) r.tid)
+          (λ r e. e ∙ sym (ap (λ s. machine.priority_in s r.tid) stacked-is ∙ priority t ms (state_of parts) r.tid)) parts.mons.requests step.ranked.requests;
+      waits = All-weaker (λ (w : WaitRec). w.prio ≡ machine.priority_in (state_of parts) w.tid)
+          (λ w. w.prio ≡ machine.priority_in (state_of (after_set_stack parts t ms)) w.tid)
+          (λ w e. e ∙ sym (ap (λ s. machine.priority_in s w.tid) stacked-is ∙ priority t ms (state_of parts) w.tid)) parts.conds.waits step.ranked.waits;
     };
-    roomy = record { letters = omega (arith, few, step.roomy.letters); threads = omega (arith, few, step.roomy.threads); requests = omega (arith, few, step.roomy.requests); waits = omega (arith, few, step.roomy.waits) };
+    roomy = record {
+      letters = omega (arith, few, step.roomy.letters);
+      threads = omega (arith, few, step.roomy.threads);
+      requests = omega (arith, few, step.roomy.requests);
+      waits = omega (arith, few, step.roomy.waits);
+    };
     monitors = step.monitors;
     conditions = step.conditions;
     noted = noted-stack parts.named t ms parts.ids.live step.noted;
@@ -81,7 +98,9 @@ module _ (parts : Parts) (t : ℕ) (ms : List Mark) where
 
 -- a thread's marks are those in the registry
 pub marks-are : (parts : Parts) (t : ℕ) → AreRising parts.ids.live → marks_in (state_of parts) t ≡ stack_of t parts.ids.live
-marks-are parts t rising = ap (λ o. unwrap_or (option_map (λ (row : ThreadRow). row.marks) o) []) (rows-under parts.last_prio parts.sched.threads t parts.ids.live rising) ∙ by_kind (value_of t parts.ids.live)
+marks-are parts t rising =
+    ap (λ o. unwrap_or (option_map (λ (row : ThreadRow). row.marks) o) []) (rows-under parts.last_prio parts.sched.threads t parts.ids.live rising)
+    ∙ by_kind (value_of t parts.ids.live)
   where
     by_kind : (o : Option Kind) → unwrap_or (option_map (λ (row : ThreadRow). row.marks) (row_under parts.last_prio parts.sched.threads t o)) [] ≡ kind_marks o
     by_kind None = refl
@@ -102,7 +121,8 @@ module _ (t : ℕ) (todo : List Mark → List ExitMark) (kept : List Mark) where
     pub effects : after ++ (all (state_of parts)).effects ≡ before ++ (all (state_of start)).effects
     pub room : HasRoom after (all (state_of parts)) 1
 
-  module _ (Fits : List Mark → Type 0) (start : Parts) (before : List Effect) (parts : Parts) (after : List Effect) (h : Unwinding Fits start before parts after) (left : List Mark) where
+  module _ (Fits : List Mark → Type 0) (start : Parts) (before : List Effect) (parts : Parts) (after : List Effect)
+      (h : Unwinding Fits start before parts after) (left : List Mark) where
     abbrev pub popped : Parts
     popped = after_set_stack parts t left
 
@@ -110,7 +130,8 @@ module _ (t : ℕ) (todo : List Mark → List ExitMark) (kept : List Mark) where
     popped_lawful fewer based =
         let who = living (state_of parts) t h.lives in
         record {
-          nine = rw (stacked-is parts t left) (NineParts-fewer (state_of parts) parts.dying h.lawful.nine t who.row who.known left based (λ p. omega (arith, fewer p, ap (λ o. count_by p (unwrap_or (option_map (λ (row : ThreadRow). row.marks) o) [])) who.known)));
+          nine = rw (stacked-is parts t left) (NineParts-fewer (state_of parts) parts.dying h.lawful.nine t who.row who.known left based
+              (λ p. omega (arith, fewer p, ap (λ o. count_by p (unwrap_or (option_map (λ (row : ThreadRow). row.marks) o) [])) who.known)));
           step = InStep-stacked parts t left h.lawful.step;
         }
 
@@ -119,18 +140,39 @@ module _ (t : ℕ) (todo : List Mark → List ExitMark) (kept : List Mark) where
       other : State
       other = (run_exit t x (state_of parts)).after
 
-      next : (ks : List Mark) → run_exit t x (with_marks_of (state_of parts) t ks) ≡ record { after = with_marks_of (run_exit t x (state_of parts)).after t ks; effects = (run_exit t x (state_of parts)).effects }
+      next : (ks : List Mark)
+          → run_exit t x (with_marks_of (state_of parts) t ks)
+          ≡ record { after = with_marks_of (run_exit t x (state_of parts)).after t ks; effects = (run_exit t x (state_of parts)).effects }
       next ks = run_exit_so t ks t x (state_of parts)
 
-      turn : all (state_of parts) ≡ record { after = (for_each (run_exit t) (todo left) (with_marks_of (run_exit t x (state_of parts)).after t kept)).after; effects = (run_exit t x (state_of parts)).effects ++ (for_each (run_exit t) (todo left) (with_marks_of (run_exit t x (state_of parts)).after t kept)).effects }
+      turn : all (state_of parts)
+          ≡ record {
+            after = (for_each (run_exit t) (todo left) (with_marks_of (run_exit t x (state_of parts)).after t kept)).after;
+            effects = (run_exit t x (state_of parts)).effects
+                ++ (for_each (run_exit t) (todo left) (with_marks_of (run_exit t x (state_of parts)).after t kept)).effects;
+          }
       unfolding for_each and_then
       turn = ap (λ xs. for_each (run_exit t) xs (with_marks_of (state_of parts) t kept)) first
-          ∙ ap (λ (o : Outcome). record { after = (for_each (run_exit t) (todo left) o.after).after; effects = o.effects ++ (for_each (run_exit t) (todo left) o.after).effects }) (next kept)
+          ∙ ap (λ (o : Outcome).
+          record { after = (for_each (run_exit t) (todo left) o.after).after; effects = o.effects ++ (for_each (run_exit t) (todo left) o.after).effects })
+          (next kept)
 
-      pub exit_room : length after + ((length (run_exit t x (state_of parts)).effects + length (for_each (run_exit t) (todo left) (with_marks_of (run_exit t x (state_of parts)).after t kept)).effects) + 1) ≤ 2048
-      exit_room = omega (arith, h.room, ap (λ (o : Outcome). length o.effects) turn, length-append (run_exit t x (state_of parts)).effects (for_each (run_exit t) (todo left) (with_marks_of (run_exit t x (state_of parts)).after t kept)).effects)
+      pub exit_room : length after
+          + ((length (run_exit t x (state_of parts)).effects
+          + length (for_each (run_exit t) (todo left) (with_marks_of (run_exit t x (state_of parts)).after t kept)).effects)
+          + 1)
+          ≤ 2048
+      exit_room =
+          omega (
+            arith,
+            h.room,
+            ap (λ (o : Outcome). length o.effects) turn,
+            length-append (run_exit t x (state_of parts)).effects
+                (for_each (run_exit t) (todo left) (with_marks_of (run_exit t x (state_of parts)).after t kept)).effects,
+          )
 
-      module _ (new : Parts) (now : List Effect) (came : CameTo popped new after now (run_exit t x (state_of popped))) (nine : LawfulParts new) (fit : Fits left) where
+      module _ (new : Parts) (now : List Effect) (came : CameTo popped new after now (run_exit t x (state_of popped)))
+          (nine : LawfulParts new) (fit : Fits left) where
         came_so : (state_of new ≡ with_marks_of (run_exit t x (state_of parts)).after t left) × (now ≡ after ++ (run_exit t x (state_of parts)).effects)
         came_so =
             let e = ap (λ s. run_exit t x s) (stacked-is parts t left) ∙ next left in
@@ -154,9 +196,12 @@ module _ (t : ℕ) (todo : List Mark → List ExitMark) (kept : List Mark) where
           fits = rw marks_left fit;
           dying = came.dying ∙ h.dying;
           state = ap (λ (o : Outcome). o.after) rest ∙ sym (ap (λ (o : Outcome). o.after) turn) ∙ h.state;
-          effects = ap (λ es. es ++ (all (state_of new)).effects) came_so.1 ∙ append_assoc after (run_exit t x (state_of parts)).effects (all (state_of new)).effects
-              ∙ ap (λ (o : Outcome). after ++ ((run_exit t x (state_of parts)).effects ++ o.effects)) rest ∙ ap (λ es. after ++ es) (sym (ap (λ (o : Outcome). o.effects) turn)) ∙ h.effects;
-          room = omega (arith, exit_room, ap length came_so.1, length-append after (run_exit t x (state_of parts)).effects, ap (λ (o : Outcome). length o.effects) rest);
+          effects = ap (λ es. es ++ (all (state_of new)).effects) came_so.1
+              ∙ append_assoc after (run_exit t x (state_of parts)).effects (all (state_of new)).effects
+              ∙ ap (λ (o : Outcome). after ++ ((run_exit t x (state_of parts)).effects ++ o.effects)) rest
+              ∙ ap (λ es. after ++ es) (sym (ap (λ (o : Outcome). o.effects) turn)) ∙ h.effects;
+          room = omega
+              (arith, exit_room, ap length came_so.1, length-append after (run_exit t x (state_of parts)).effects, ap (λ (o : Outcome). length o.effects) rest);
         }
 
     -- none is left
@@ -189,7 +234,8 @@ below_fewer (m ∷ ms) p = by_test (list_any is_exit ms) (below_fewer ms p)
 given : {A : Type 0} (o : Option A) (x : A) (rest all : List A) → o ≡ Some x → all ≡ option_to_list o ++ rest → all ≡ x ∷ rest
 given o x rest all is e = e ∙ ap (λ p. option_to_list p ++ rest) is
 
-module _ (t : ℕ) (start : Parts) (before : List Effect) (parts : Parts) (after : List Effect) (dying : start.dying ≡ Some t) (h : Unwinding t exits_of [] (λ ms. Unit {0}) start before parts after) (rising : AreRising parts.ids.live) where
+module _ (t : ℕ) (start : Parts) (before : List Effect) (parts : Parts) (after : List Effect) (dying : start.dying ≡ Some t)
+    (h : Unwinding t exits_of [] (λ ms. Unit {0}) start before parts after) (rising : AreRising parts.ids.live) where
   abbrev stack : List Mark
   stack = stack_of t parts.ids.live
 
@@ -211,20 +257,23 @@ module _ (t : ℕ) (start : Parts) (before : List Effect) (parts : Parts) (after
       first = ap exits_of same ∙ given o x (exits_of left) (exits_of stack) is steps.next
 
       pub all_lawful : LawfulParts lighter
-      all_lawful = popped_lawful t exits_of [] (λ ms. Unit {0}) start before parts after h left (rw same (below_fewer stack)) (ap (λ d. is_same_option d t || has_its_marks left) (h.dying ∙ dying) ∙ or_left (eqb t t) _ (eq-eqb t t refl))
+      all_lawful = popped_lawful t exits_of [] (λ ms. Unit {0}) start before parts after h left (rw same (below_fewer stack))
+          (ap (λ d. is_same_option d t || has_its_marks left) (h.dying ∙ dying) ∙ or_left (eqb t t) _ (eq-eqb t t refl))
 
       pub all_room : length after + 2 ≤ 2048
       all_room = omega (arith, exit_room t exits_of [] (λ ms. Unit {0}) start before parts after h left x first, told t x (state_of parts))
 
       module _ (new : Parts) (now : List Effect) (came : CameTo lighter new after now (run_exit t x (state_of lighter))) (nine : LawfulParts new) where
         pub all_fewer : length (marks_in (state_of new) t) < length (marks_in (state_of parts) t)
-        all_fewer = omega (arith, shorter, ap length same, ap length (marks_left t exits_of [] (λ ms. Unit {0}) start before parts after h left x first new now came nine tt))
+        all_fewer = omega
+            (arith, shorter, ap length same, ap length (marks_left t exits_of [] (λ ms. Unit {0}) start before parts after h left x first new now came nine tt))
 
         pub all_on : Unwinding t exits_of [] (λ ms. Unit {0}) start before new now
         all_on = unwinds_on t exits_of [] (λ ms. Unit {0}) start before parts after h left x first new now came nine tt
 
     pub all_over : o ≡ None → CameTo start lighter before after (run_all_exits t (state_of start))
-    all_over is = unwinds_over t exits_of [] (λ ms. Unit {0}) start before parts after h left (ap exits_of same ∙ (rw is at steps.next) ∙ none) (rw is at steps.rest)
+    all_over is = unwinds_over t exits_of [] (λ ms. Unit {0}) start before parts after h left
+        (ap exits_of same ∙ (rw is at steps.next) ∙ none) (rw is at steps.rest)
       where
         none : exits_of left ≡ []
         none = ap exits_of (let e : left ≡ [] = (rw is at steps.rest) in e)

@@ -61,12 +61,22 @@ module _ (what : Awaited) (t : ℕ) where
   pub first_waits : (u : ℕ) (us : List ℕ) (s : State) → HasLawfulThreads s → list s ≡ u ∷ us → is_blocked_in s u ≡ true
   first_waits u us s has listed =
       let who = first_waiter (block_waits what t) (alone what t) has.lawful has.dying has.nine u us (ap (waiting what t) has.threads ∙ listed) in
-      ap (λ rows. passes (λ (row : ThreadRow). not (is_not_blocked row.block)) (find (is_number u) rows)) (sym has.threads) ∙ ap (passes (λ (row : ThreadRow). not (is_not_blocked row.block))) who.known ∙ waits who.row.block (alone what t who.row.block who.passes)
+      ap (λ rows. passes (λ (row : ThreadRow). not (is_not_blocked row.block)) (find (is_number u) rows)) (sym has.threads)
+      ∙ ap (passes (λ (row : ThreadRow). not (is_not_blocked row.block))) who.known ∙ waits who.row.block (alone what t who.row.block who.passes)
 
-  module _ (start : Parts) (before : List Effect) (parts : Parts) (after : List Effect) (h : Draining HasLawfulThreads list change 0 start before parts after) where
+  module _ (start : Parts) (before : List Effect) (parts : Parts) (after : List Effect)
+      (h : Draining HasLawfulThreads list change 0 start before parts after) where
     -- another note, which has all that wait by name
-    pub noted-on : (named : NameNote) → IsNoteOf named parts.ids.live → Draining HasLawfulThreads list change 0 start before (record parts { named = named }) after
-    noted-on named noted = record { keeps = h.keeps; step = InStep-noted parts h.step named noted; dying = h.dying; state = h.state; effects = h.effects; room = h.room }
+    pub noted-on : (named : NameNote) → IsNoteOf named parts.ids.live
+        → Draining HasLawfulThreads list change 0 start before (record parts { named = named }) after
+    noted-on named noted = record {
+      keeps = h.keeps;
+      step = InStep-noted parts h.step named noted;
+      dying = h.dying;
+      state = h.state;
+      effects = h.effects;
+      room = h.room;
+    }
 
     module _ (u : ℕ) (found : first_waiting what t parts.ids.live ≡ Some u) where
       first : Front (list (state_of parts)) u
@@ -86,4 +96,5 @@ module _ (what : Awaited) (t : ℕ) where
         turn_on = goes_on HasLawfulThreads list change one_less 0 start before parts after h u first.rest first.is new now came
 
     pub over : first_waiting what t parts.ids.live ≡ None → CameTo start parts before after (after_dismiss what t (state_of start))
-    over none = done HasLawfulThreads list change one_less 0 start before parts after h (waiting_none what t parts.last_prio parts.sched.threads parts.ids.live none)
+    over none = done HasLawfulThreads list change one_less 0 start before parts after h
+        (waiting_none what t parts.last_prio parts.sched.threads parts.ids.live none)

@@ -1,5 +1,6 @@
 -- What the taker's book says of the lines that are left.
-use Rattle.std.proofs.Common.{◌≡◌, ◌≢◌, ℕ, zero, suc, ◌+◌, true, false, true≢false, cond, eqb, eq-eqb, ne_eqb, ◌||◌, List, [], ◌∷◌, ◌++◌, length, take, drop, sym, refl, ap, ◌∙◌, subst, ⊎_elim, arith}
+use Rattle.std.proofs.Common.{◌≡◌, ◌≢◌, ℕ, zero, suc, ◌+◌, true, false, true≢false, cond, eqb, eq-eqb, ne_eqb, ◌||◌}
+use Rattle.std.proofs.Common.{List, [], ◌∷◌, ◌++◌, length, take, drop, sym, refl, ap, ◌∙◌, subst, ⊎_elim, arith}
 use Rattle.std.proofs.lemmas.List.{append-nil, take-append-drop}
 use lib.ListN.{get_elem?}
 use Rattle.atomic_table.proofs.Lists.{drop_at}
@@ -44,8 +45,10 @@ of_other_none c d (l ∷ ls) apart = ⊎_elim
 of_others : (c d : ℕ) (ls : List Line) → d ≢ c → of c (others d ls) ≡ of c ls
 of_others c d [] apart = refl
 of_others c d (l ∷ ls) apart = ⊎_elim
-    (λ (e : l.client ≡ d). ap (of c) (cond_same l.client d (others d ls) (l ∷ others d ls) e) ∙ of_others c d ls apart ∙ sym (none_of c l ls (λ q. apart (sym e ∙ q))))
-    (λ (n : l.client ≢ d). ap (of c) (cond_other l.client d (others d ls) (l ∷ others d ls) n) ∙ ap (λ xs. cond (eqb l.client c) (l ∷ xs) xs) (of_others c d ls apart))
+    (λ (e : l.client ≡ d). ap (of c) (cond_same l.client d (others d ls) (l ∷ others d ls) e) ∙ of_others c d ls apart
+    ∙ sym (none_of c l ls (λ q. apart (sym e ∙ q))))
+    (λ (n : l.client ≢ d). ap (of c) (cond_other l.client d (others d ls) (l ∷ others d ls) n)
+    ∙ ap (λ xs. cond (eqb l.client c) (l ∷ xs) xs) (of_others c d ls apart))
     (same_or l.client d)
 
 of_others_none : (d : ℕ) (ls : List Line) → of d (others d ls) ≡ []
@@ -56,20 +59,27 @@ of_others_none d (l ∷ ls) = ⊎_elim
     (same_or l.client d)
 
 -- of a client that is told
-of_left : (c : ℕ) (known : List Told) (taken : List Line) → is_told c known ≡ true → of c (left_lines known taken) ≡ of c (drop (length (of c taken)) (lines_in_pass c known))
+of_left : (c : ℕ) (known : List Told) (taken : List Line) → is_told c known ≡ true
+    → of c (left_lines known taken) ≡ of c (drop (length (of c taken)) (lines_in_pass c known))
 of_left c [] taken told = absurd (true≢false (sym told))
 of_left c (t ∷ ts) taken told =
     let n : ℕ = length (of t.client taken) in
-    let split : of c (left_lines (t ∷ ts) taken) ≡ of c (of t.client (drop n t.posted)) ++ of c (others t.client (left_lines ts taken)) = of-append c (of t.client (drop n t.posted)) (others t.client (left_lines ts taken)) in
+    let split : of c (left_lines (t ∷ ts) taken)
+    ≡ of c (of t.client (drop n t.posted))
+    ++ of c (others t.client (left_lines ts taken)) = of-append c (of t.client (drop n t.posted)) (others t.client (left_lines ts taken)) in
     split ∙ ⊎_elim
     (λ (e : t.client ≡ c).
-    let mine : of c (of t.client (drop n t.posted)) ≡ of c (drop (length (of c taken)) t.posted) = ap (λ d. of c (of d (drop (length (of d taken)) t.posted))) e ∙ of_same_again c (drop (length (of c taken)) t.posted) in
+    let mine : of c (of t.client (drop n t.posted))
+    ≡ of c (drop (length (of c taken)) t.posted) = ap (λ d. of c (of d (drop (length (of d taken)) t.posted))) e
+    ∙ of_same_again c (drop (length (of c taken)) t.posted) in
     let rest : of c (others t.client (left_lines ts taken)) ≡ [] = ap (λ d. of c (others d (left_lines ts taken))) e ∙ of_others_none c (left_lines ts taken) in
-    (λ k. mine k ++ rest k) ∙ append-nil (of c (drop (length (of c taken)) t.posted)) ∙ ap (λ ls. of c (drop (length (of c taken)) ls)) (sym (cond_same t.client c t.posted (lines_in_pass c ts) e)))
+    (λ k. mine k ++ rest k) ∙ append-nil (of c (drop (length (of c taken)) t.posted))
+    ∙ ap (λ ls. of c (drop (length (of c taken)) ls)) (sym (cond_same t.client c t.posted (lines_in_pass c ts) e)))
     (λ (apart : t.client ≢ c).
     let none : of c (of t.client (drop n t.posted)) ≡ [] = of_other_none c t.client (drop n t.posted) apart in
     let rest : of c (others t.client (left_lines ts taken)) ≡ of c (left_lines ts taken) = of_others c t.client (left_lines ts taken) apart in
-    (λ k. none k ++ rest k) ∙ of_left c ts taken (or_other t.client c (is_told c ts) apart told) ∙ ap (λ ls. of c (drop (length (of c taken)) ls)) (sym (cond_other t.client c t.posted (lines_in_pass c ts) apart)))
+    (λ k. none k ++ rest k) ∙ of_left c ts taken (or_other t.client c (is_told c ts) apart told)
+    ∙ ap (λ ls. of c (drop (length (of c taken)) ls)) (sym (cond_other t.client c t.posted (lines_in_pass c ts) apart)))
     (same_or t.client c)
 
 -- and of one that isn't
@@ -82,7 +92,8 @@ of_left_none c (t ∷ ts) taken not =
     (λ (apart : t.client ≢ c).
     let none : of c (of t.client (drop n t.posted)) ≡ [] = of_other_none c t.client (drop n t.posted) apart in
     let rest : of c (others t.client (left_lines ts taken)) ≡ of c (left_lines ts taken) = of_others c t.client (left_lines ts taken) apart in
-    of-append c (of t.client (drop n t.posted)) (others t.client (left_lines ts taken)) ∙ (λ k. none k ++ rest k) ∙ of_left_none c ts taken (told_later c t ts apart not))
+    of-append c (of t.client (drop n t.posted)) (others t.client (left_lines ts taken)) ∙ (λ k. none k ++ rest k)
+    ∙ of_left_none c ts taken (told_later c t ts apart not))
     (same_or t.client c)
   where
     told_first : (c : ℕ) (t : Told) (ts : List Told) → t.client ≡ c → is_told c (t ∷ ts) ≡ true
@@ -118,16 +129,20 @@ accounts_learnt b h numbered =
     let n : ℕ = length (of c b.lines) in
     let run = h.runs c yes' in
     let first : take n whole ≡ of c b.lines = first_lines whole (of c b.lines) 0 (numbered c) (h.sent c yes') in
-    let rest : of c (left_lines b.known b.lines) ≡ drop n whole = of_left c b.known b.lines yes' ∙ run_own c (0 + n) (drop n whole) (run_drop c 0 n whole run) in
+    let rest : of c (left_lines b.known b.lines)
+    ≡ drop n whole = of_left c b.known b.lines yes' ∙ run_own c (0 + n) (drop n whole) (run_drop c 0 n whole run) in
     sym (take-append-drop n whole) ∙ (λ k. first k ++ sym rest k) in
     record {
       told = told;
       stray = λ c not.
           let none = h.stray c not in
-          let untold : is_told c b.known ≡ false = ⊎_elim (λ (e : is_told c b.known ≡ true). absurd (true≢false (sym (h.noted_too c e) ∙ not))) (λ (e : is_told c b.known ≡ false). e) (bool_cases (is_told c b.known)) in
+          let untold : is_told c b.known
+          ≡ false = ⊎_elim (λ (e : is_told c b.known ≡ true). absurd (true≢false (sym (h.noted_too c e) ∙ not)))
+          (λ (e : is_told c b.known ≡ false). e) (bool_cases (is_told c b.known)) in
           (λ k. none k ++ of_left_none c b.known b.lines untold k);
       numbered = λ c. ⊎_elim
           (λ (e : is_told c b.known ≡ true). subst (IsNumbered 0) (told c e) (run_numbered c 0 (lines_in_pass c b.known) (h.runs c e)))
-          (λ (e : is_told c b.known ≡ false). subst (IsNumbered 0) (sym ((λ k. of c b.lines ++ of_left_none c b.known b.lines e k) ∙ append-nil (of c b.lines))) (numbered c))
+          (λ (e : is_told c b.known ≡ false).
+          subst (IsNumbered 0) (sym ((λ k. of c b.lines ++ of_left_none c b.known b.lines e k) ∙ append-nil (of c b.lines))) (numbered c))
           (bool_cases (is_told c b.known));
     }

@@ -1,5 +1,6 @@
 -- Each kind of step keeps the books of a gauge's seats.
-use Rattle.std.proofs.Common.{◌≡◌, ◌≢◌, ℕ, zero, suc, ◌+◌, ◌-◌, ◌<◌, ◌≤◌, true, false, true≢false, cond, eqb, List, [], ◌∷◌, ◌++◌, length, length-append, set, take, Option, Some, None, sym, refl, ap, ◌∙◌, subst, ◌⊎◌, ⊎_elim, arith}
+use Rattle.std.proofs.Common.{◌≡◌, ◌≢◌, ℕ, zero, suc, ◌+◌, ◌-◌, ◌<◌, ◌≤◌, true, false, true≢false, cond, eqb, List, [], ◌∷◌, ◌++◌, length}
+use Rattle.std.proofs.Common.{length-append, set, take, Option, Some, None, sym, refl, ap, ◌∙◌, subst, ◌⊎◌, ⊎_elim, arith}
 use Rattle.std.proofs.Math.Seq.{take-append_seam}
 use Rattle.std.proofs.lemmas.Bool.{cases_order, le-ltb, lt-ltb}
 use mathlib.Core.Option.{some, some-injective, some-ne-none}
@@ -7,7 +8,8 @@ use lib.ListN.{get_elem?}
 use Rattle.atomic_table.proofs.Lists.{at_last, at_longer, at_set, set_else}
 use Rattle.lwp_types.specs.declared.call.Line.{Line}
 use Rattle.event_gate.specs.declared.book.Book.{Book}
-use Rattle.event_gate.specs.Book.{AreBooked, AreSent, FitsPoster, FitsTaker, IsRun, IsSent, Learns, below, blank, hit, hits, lines_alone, posters_book, takers_book, tickets_in, with_lines, with_next, with_next_noted, with_note, with_told, without_last, without_lines}
+use Rattle.event_gate.specs.Book.{AreBooked, AreSent, FitsPoster, FitsTaker, IsRun, IsSent, Learns, below, blank, hit, hits, lines_alone, posters_book}
+use Rattle.event_gate.specs.Book.{takers_book, tickets_in, with_lines, with_next, with_next_noted, with_note, with_told, without_last, without_lines}
 use Rattle.event_gate.specs.Clients.{is_noted, is_told, of, lines_in_pass}
 use Rattle.event_gate.proofs.Lines.{at_new, bool_cases, cond_other, cond_same, noted_more, noted_still, or_other, same_or}
 
@@ -16,7 +18,8 @@ use Rattle.event_gate.proofs.Lines.{at_new, bool_cases, cond_other, cond_same, n
 abbrev Each : (ℕ → Book → Type 0) → List Book → Type 0
 Each F books = (pass : ℕ) (b : Book) → get_elem? books pass ≡ some b → F pass b
 
-each_set : (F : ℕ → Book → Type 0) (books : List Book) (pass : ℕ) (w : Book) → F pass w → ((j : ℕ) (u : Book) → j ≢ pass → get_elem? books j ≡ some u → F j u) → Each F (set books pass w)
+each_set : (F : ℕ → Book → Type 0) (books : List Book) (pass : ℕ) (w : Book) → F pass w
+    → ((j : ℕ) (u : Book) → j ≢ pass → get_elem? books j ≡ some u → F j u) → Each F (set books pass w)
 each_set F books pass w mine others j u e = ⊎_elim (λ (x : (j ≡ pass) × (w ≡ u)). subst (λ (y : ℕ × Book). F y.0 y.1) (λ i. (sym x.0 i, x.1 i)) mine)
     (λ (x : (j ≢ pass) × (get_elem? books j ≡ some u)). others j u x.0 x.1) (at_set books pass j w u e)
 
@@ -27,7 +30,8 @@ each_more F books w mine others j u e = ⊎_elim (λ (x : get_elem? books j ≡ 
 abbrev Fits : ℕ → (ℕ → Option ℕ) → (ℕ → List Line) → ℕ → Book → Type 0
 Fits taker seat sent pass b = FitsPoster seat sent pass b × FitsTaker taker seat sent pass b
 
-blank_fits : (taker : ℕ) (seat : ℕ → Option ℕ) (sent : ℕ → List Line) (pass : ℕ) (lines : List Line) → Fits taker seat sent pass (record blank { lines = lines })
+blank_fits : (taker : ℕ) (seat : ℕ → Option ℕ) (sent : ℕ → List Line) (pass : ℕ) (lines : List Line)
+    → Fits taker seat sent pass (record blank { lines = lines })
 blank_fits taker seat sent pass lines = ((λ p. absurd (true≢false (sym p))), λ p. absurd (true≢false (sym p)))
 
 two_seats : (i j : ℕ) → i ≢ j → (seat : ℕ → Option ℕ) (c d : ℕ) → seat c ≡ Some i → seat d ≡ Some j → c ≢ d
@@ -51,9 +55,11 @@ hits_append : (c i : ℕ) (xs ys : List Line) → hits c i (xs ++ ys) ≡ hits c
 hits_append c i [] ys = let e : hits c i ys ≡ 0 + hits c i ys = omega arith in e
 hits_append c i (x ∷ xs) ys = let r = hits_append c i xs ys in omega (arith, r)
 
-held_set : (c i : ℕ) (books : List Book) (k : ℕ) (b w : Book) → get_elem? books k ≡ some b → tickets_in c i (set books k w) + hits c i b.lines ≡ tickets_in c i books + hits c i w.lines
+held_set : (c i : ℕ) (books : List Book) (k : ℕ) (b w : Book) → get_elem? books k ≡ some b
+    → tickets_in c i (set books k w) + hits c i b.lines ≡ tickets_in c i books + hits c i w.lines
 held_set c i [] k b w e = absurd (some-ne-none b (sym e))
-held_set c i (x ∷ xs) zero b w e = let same : hits c i x.lines ≡ hits c i b.lines = ap (λ (y : Book). hits c i y.lines) (some-injective x b e) in omega (arith, same)
+held_set c i (x ∷ xs) zero b w e = let same : hits c i x.lines ≡ hits c i b.lines = ap (λ (y : Book). hits c i y.lines) (some-injective x b e) in
+    omega (arith, same)
 held_set c i (x ∷ xs) (suc k) b w e = let r = held_set c i xs k b w e in omega (arith, r)
 
 held_more : (c i : ℕ) (books : List Book) (w : Book) → tickets_in c i (books ++ w ∷ []) ≡ tickets_in c i books + hits c i w.lines
@@ -62,7 +68,8 @@ held_more c i (b ∷ bs) w = let r = held_more c i bs w in omega (arith, r)
 
 hits_part : (c i : ℕ) (books : List Book) (k : ℕ) (b : Book) → get_elem? books k ≡ some b → hits c i b.lines ≤ tickets_in c i books
 hits_part c i [] k b e = absurd (some-ne-none b (sym e))
-hits_part c i (x ∷ xs) zero b e = let same : hits c i x.lines ≡ hits c i b.lines = ap (λ (y : Book). hits c i y.lines) (some-injective x b e) in omega (arith, same)
+hits_part c i (x ∷ xs) zero b e = let same : hits c i x.lines ≡ hits c i b.lines = ap (λ (y : Book). hits c i y.lines) (some-injective x b e) in
+    omega (arith, same)
 hits_part c i (x ∷ xs) (suc k) b e = let r = hits_part c i xs k b e in omega (arith, r)
 
 below_yes : (i : ℕ) (ls : List Line) → i < length ls → below i ls ≡ 1
@@ -107,7 +114,8 @@ sent_still : (sent now : ℕ → List Line) (ls : List Line) → ((l : Line) →
 sent_still sent now [] f h = tt
 sent_still sent now (l ∷ ls) f h = (f l h.0, sent_still sent now ls f h.1)
 
-sent_less : (sent now : ℕ → List Line) (c i : ℕ) (ls : List Line) → hits c i ls ≡ 0 → ((l : Line) → hit c i l ≡ 0 → IsSent sent l → IsSent now l) → AreSent sent ls → AreSent now ls
+sent_less : (sent now : ℕ → List Line) (c i : ℕ) (ls : List Line) → hits c i ls ≡ 0
+    → ((l : Line) → hit c i l ≡ 0 → IsSent sent l → IsSent now l) → AreSent sent ls → AreSent now ls
 sent_less sent now c i [] none f h = tt
 sent_less sent now c i (l ∷ ls) none f h = (f l (omega (arith, none)) h.0, sent_less sent now c i ls (omega (arith, none)) f h.1)
 
@@ -125,11 +133,13 @@ books_begin = record {
   runs = λ c. tt;
   once = λ c i. sym (below_no i [] (omega arith));
   right = each_more (λ j u. AreSent (λ c. []) u.lines) [] takers_book tt (λ j u e. absurd (some-ne-none u (sym e)));
-  fits = each_more (Fits 0 (λ c. None) (λ c. [])) [] takers_book ((λ p. absurd (true≢false (sym p))), λ p. (refl, (λ c h. (refl, refl)), λ c h. absurd (true≢false (sym h)))) (λ j u e. absurd (some-ne-none u (sym e)));
+  fits = each_more (Fits 0 (λ c. None) (λ c. [])) [] takers_book
+      ((λ p. absurd (true≢false (sym p))), λ p. (refl, (λ c h. (refl, refl)), λ c h. absurd (true≢false (sym h)))) (λ j u e. absurd (some-ne-none u (sym e)));
 }
 
 -- a line is announced
-pub books_note : (books : List Book) (pass : ℕ) (b : Book) (l : Line) → get_elem? books pass ≡ some b → AreBooked books → b.posts ≡ true → l.client ≡ b.client → l.seq ≡ length b.sent → l.seq < 4294967295 → AreBooked (set books pass (with_note b l))
+pub books_note : (books : List Book) (pass : ℕ) (b : Book) (l : Line) → get_elem? books pass ≡ some b → AreBooked books → b.posts ≡ true
+    → l.client ≡ b.client → l.seq ≡ length b.sent → l.seq < 4294967295 → AreBooked (set books pass (with_note b l))
 books_note books pass b l at h may mine next small =
     let w : Book = with_note b l in
     let fit = h.fits pass b at in
@@ -142,7 +152,8 @@ books_note books pass b l at h may mine next small =
     (λ (e : x.client ≡ b.client). subst (λ ls. get_elem? ls x.seq ≡ some x) (sym (here x.client e)) (at_longer (h.sent x.client) (l ∷ []) x.seq x s))
     (λ (n : x.client ≢ b.client). subst (λ ls. get_elem? ls x.seq ≡ some x) (sym (else x.client n)) s)
     (same_or x.client b.client) in
-    let last : IsSent sent l = subst (λ ls. get_elem? ls l.seq ≡ some l) (sym (here l.client mine)) (at_last (h.sent l.client) l l.seq (sym (place l.client mine))) in
+    let last : IsSent sent l =
+    subst (λ ls. get_elem? ls l.seq ≡ some l) (sym (here l.client mine)) (at_last (h.sent l.client) l l.seq (sym (place l.client mine))) in
     let takers : (j : ℕ) (u : Book) → FitsTaker h.taker h.seat h.sent j u → FitsTaker h.taker h.seat sent j u =
     λ j u f t. let g = f t in (
       g.0,
@@ -154,7 +165,8 @@ books_note books pass b l at h may mine next small =
       seat = h.seat;
       sent = sent;
       runs = λ c. ⊎_elim
-          (λ (e : c ≡ b.client). subst (IsRun c 0) (sym (here c e)) (run_snoc c 0 (h.sent c) l (h.runs c) (mine ∙ sym e) (let p = place c e in omega (arith, p)) small))
+          (λ (e : c ≡ b.client).
+          subst (IsRun c 0) (sym (here c e)) (run_snoc c 0 (h.sent c) l (h.runs c) (mine ∙ sym e) (let p = place c e in omega (arith, p)) small))
           (λ (n : c ≢ b.client). subst (IsRun c 0) (sym (else c n)) (h.runs c))
           (same_or c b.client);
       once = λ c i.
@@ -182,7 +194,8 @@ books_note books pass b l at h may mine next small =
     }
 
 -- the line announced last is taken back
-pub books_withdraw : (books : List Book) (pass : ℕ) (b : Book) (before : List Line) (l : Line) → get_elem? books pass ≡ some b → AreBooked books → b.posts ≡ true → b.sent ≡ before ++ l ∷ [] → b.lines ≡ l ∷ [] → AreBooked (set books pass (without_last b))
+pub books_withdraw : (books : List Book) (pass : ℕ) (b : Book) (before : List Line) (l : Line) → get_elem? books pass ≡ some b
+    → AreBooked books → b.posts ≡ true → b.sent ≡ before ++ l ∷ [] → b.lines ≡ l ∷ [] → AreBooked (set books pass (without_last b))
 books_withdraw books pass b before l at h may is tickets =
     let w : Book = without_last b in
     let fit = h.fits pass b at in
@@ -193,7 +206,8 @@ books_withdraw books pass b before l at h may is tickets =
     let place : l.seq ≡ length before = (let p = run.2 in omega (arith, p)) in
     let size : length (before ++ l ∷ []) ≡ length before + 1 = length-append before (l ∷ []) in
     let less : length (before ++ l ∷ []) - 1 ≡ length before = omega (arith, size) in
-    let rest : take (length b.sent - 1) b.sent ≡ before = ap (λ ls. take (length ls - 1) ls) is ∙ ap (λ n. take n (before ++ l ∷ [])) less ∙ take-append_seam before (l ∷ []) in
+    let rest : take (length b.sent - 1) b.sent
+    ≡ before = ap (λ ls. take (length ls - 1) ls) is ∙ ap (λ n. take n (before ++ l ∷ [])) less ∙ take-append_seam before (l ∷ []) in
     let sent : ℕ → List Line = λ c. cond (eqb c b.client) before (h.sent c) in
     let here : (c : ℕ) → c ≡ b.client → sent c ≡ before = λ c e. cond_same c b.client before (h.sent c) e in
     let else : (c : ℕ) → c ≢ b.client → sent c ≡ h.sent c = λ c n. cond_other c b.client before (h.sent c) n in
@@ -250,7 +264,9 @@ books_withdraw books pass b before l at h may is tickets =
     }
 
 -- something is noted that the rule doesn't read
-books_like : (books : List Book) (pass : ℕ) (b w : Book) → get_elem? books pass ≡ some b → w.lines ≡ b.lines → ((taker : ℕ) (seat : ℕ → Option ℕ) (sent : ℕ → List Line) → Fits taker seat sent pass b → Fits taker seat sent pass w) → AreBooked books → AreBooked (set books pass w)
+books_like : (books : List Book) (pass : ℕ) (b w : Book) → get_elem? books pass ≡ some b → w.lines ≡ b.lines
+    → ((taker : ℕ) (seat : ℕ → Option ℕ) (sent : ℕ → List Line) → Fits taker seat sent pass b → Fits taker seat sent pass w)
+    → AreBooked books → AreBooked (set books pass w)
 books_like books pass b w at same keep h = record {
   taker = h.taker;
   seat = h.seat;
@@ -274,7 +290,8 @@ books_more books lines h none = record {
   seat = h.seat;
   sent = h.sent;
   runs = h.runs;
-  once = λ c i. let more = held_more c i books (record blank { lines = lines }) in let e = ap (hits c i) none in let was = h.once c i in omega (arith, more, e, was);
+  once = λ c i.
+      let more = held_more c i books (record blank { lines = lines }) in let e = ap (hits c i) none in let was = h.once c i in omega (arith, more, e, was);
   right = each_more (λ j u. AreSent h.sent u.lines) books (record blank { lines = lines }) (subst (AreSent h.sent) (sym none) tt) h.right;
   fits = each_more (Fits h.taker h.seat h.sent) books (record blank { lines = lines }) (blank_fits h.taker h.seat h.sent (length books) lines) h.fits;
 }
@@ -283,7 +300,8 @@ pub books_part : (books : List Book) (pass : ℕ) (b : Book) → get_elem? books
 books_part books pass b at h = books_more (set books pass b) [] (books_kept books pass b at h) refl
 
 -- all tickets of a seat are handed on
-pub books_cut : (books : List Book) (pass : ℕ) (b : Book) → get_elem? books pass ≡ some b → AreBooked books → AreBooked (set books pass (without_lines b) ++ lines_alone b ∷ [])
+pub books_cut : (books : List Book) (pass : ℕ) (b : Book) → get_elem? books pass ≡ some b → AreBooked books
+    → AreBooked (set books pass (without_lines b) ++ lines_alone b ∷ [])
 books_cut books pass b at h =
     let w : Book = without_lines b in
     let vs : List Book = set books pass w in
@@ -292,18 +310,22 @@ books_cut books pass b at h =
       seat = h.seat;
       sent = h.sent;
       runs = h.runs;
-      once = λ c i. let change = held_set c i books pass b w at in let more = held_more c i vs (lines_alone b) in let was = h.once c i in omega (arith, change, more, was);
+      once = λ c i. let change = held_set c i books pass b w at in let more = held_more c i vs (lines_alone b) in let was = h.once c i in
+          omega (arith, change, more, was);
       right = each_more (λ j u. AreSent h.sent u.lines) vs (lines_alone b) (h.right pass b at)
           (each_set (λ j u. AreSent h.sent u.lines) books pass w tt (λ j u apart e. h.right j u e));
       fits = each_more (Fits h.taker h.seat h.sent) vs (lines_alone b) (blank_fits h.taker h.seat h.sent (length vs) b.lines)
           (each_set (Fits h.taker h.seat h.sent) books pass w (h.fits pass b at) (λ j u apart e. h.fits j u e));
     }
 
-other_was : (books : List Book) (pass : ℕ) (w : Book) (other : ℕ) (u : Book) → ¬ (other ≡ pass) → get_elem? (set books pass w) other ≡ some u → get_elem? books other ≡ some u
-other_was books pass w other u two at = ⊎_elim (λ (x : (other ≡ pass) × (w ≡ u)). absurd (two x.0)) (λ (x : (other ≢ pass) × (get_elem? books other ≡ some u)). x.1) (at_set books pass other w u at)
+other_was : (books : List Book) (pass : ℕ) (w : Book) (other : ℕ) (u : Book) → ¬ (other ≡ pass)
+    → get_elem? (set books pass w) other ≡ some u → get_elem? books other ≡ some u
+other_was books pass w other u two at = ⊎_elim (λ (x : (other ≡ pass) × (w ≡ u)). absurd (two x.0))
+    (λ (x : (other ≢ pass) × (get_elem? books other ≡ some u)). x.1) (at_set books pass other w u at)
 
 -- a seat takes in another's tickets
-pub books_gather : (books : List Book) (pass : ℕ) (b : Book) (other : ℕ) (u : Book) → get_elem? books pass ≡ some b → ¬ (other ≡ pass) → get_elem? (set books pass (with_lines b u)) other ≡ some u → AreBooked books → AreBooked (set (set books pass (with_lines b u)) other blank)
+pub books_gather : (books : List Book) (pass : ℕ) (b : Book) (other : ℕ) (u : Book) → get_elem? books pass ≡ some b → ¬ (other ≡ pass)
+    → get_elem? (set books pass (with_lines b u)) other ≡ some u → AreBooked books → AreBooked (set (set books pass (with_lines b u)) other blank)
 books_gather books pass b other u at two at' h =
     let w : Book = with_lines b u in
     let vs : List Book = set books pass w in
@@ -320,13 +342,15 @@ books_gather books pass b other u at two at' h =
           let before = h.once c i in
           omega (arith, one, more, spent, before);
       right = each_set (λ j u. AreSent h.sent u.lines) vs other blank tt
-          (λ j y apart e. each_set (λ j u. AreSent h.sent u.lines) books pass w (sent_append h.sent b.lines u.lines (h.right pass b at) (h.right other u was)) (λ j u apart e. h.right j u e) j y e);
+          (λ j y apart e. each_set (λ j u. AreSent h.sent u.lines) books pass w
+          (sent_append h.sent b.lines u.lines (h.right pass b at) (h.right other u was)) (λ j u apart e. h.right j u e) j y e);
       fits = each_set (Fits h.taker h.seat h.sent) vs other blank (blank_fits h.taker h.seat h.sent other [])
           (λ j y apart e. each_set (Fits h.taker h.seat h.sent) books pass w (h.fits pass b at) (λ j u apart e. h.fits j u e) j y e);
     }
 
 -- a poster is made
-pub books_enroll : (books : List Book) (pass : ℕ) (b : Book) → get_elem? books pass ≡ some b → AreBooked books → b.takes ≡ true → is_noted b.next b.noted ≡ false → AreBooked (set books pass (with_next_noted b) ++ posters_book b.next [] ∷ [])
+pub books_enroll : (books : List Book) (pass : ℕ) (b : Book) → get_elem? books pass ≡ some b → AreBooked books → b.takes ≡ true
+    → is_noted b.next b.noted ≡ false → AreBooked (set books pass (with_next_noted b) ++ posters_book b.next [] ∷ [])
 books_enroll books pass b at h may new =
     let w : Book = with_next_noted b in
     let p : Book = posters_book b.next [] in
@@ -337,28 +361,33 @@ books_enroll books pass b at h may new =
     let seat : ℕ → Option ℕ = λ c. cond (eqb c b.next) (Some (length vs)) (h.seat c) in
     let here : seat b.next ≡ Some (length vs) = cond_same b.next b.next (Some (length vs)) (h.seat b.next) refl in
     let else : (c : ℕ) → c ≢ b.next → seat c ≡ h.seat c = λ c n. cond_other c b.next (Some (length vs)) (h.seat c) n in
-    let posters : (j : ℕ) (u : Book) → FitsPoster h.seat h.sent j u → FitsPoster seat h.sent j u = λ j u f p. let g = f p in (else u.client (no_seat j h.seat u.client b.next g.0 free.0) ∙ g.0, g.1) in
+    let posters : (j : ℕ) (u : Book) → FitsPoster h.seat h.sent j u
+    → FitsPoster seat h.sent j u = λ j u f p. let g = f p in (else u.client (no_seat j h.seat u.client b.next g.0 free.0) ∙ g.0, g.1) in
     record {
       taker = h.taker;
       seat = seat;
       sent = h.sent;
       runs = h.runs;
       once = λ c i. let change = held_set c i books pass b w at in let more = held_more c i vs p in let was = h.once c i in omega (arith, change, more, was);
-      right = each_more (λ j u. AreSent h.sent u.lines) vs p tt (each_set (λ j u. AreSent h.sent u.lines) books pass w (h.right pass b at) (λ j u apart e. h.right j u e));
+      right = each_more (λ j u. AreSent h.sent u.lines) vs p tt
+          (each_set (λ j u. AreSent h.sent u.lines) books pass w (h.right pass b at) (λ j u apart e. h.right j u e));
       fits = each_more (Fits h.taker seat h.sent) vs p ((λ q. (here, sym free.1)), λ q. absurd (true≢false (sym q)))
           (each_set (Fits h.taker seat h.sent) books pass w (
             posters pass w fit.0,
             λ t. (
               me.0,
               (λ c none. let o = noted_more c b.next b.noted none in let k = me.1 c o.0 in (else c (λ e. o.1 (sym e)) ∙ k.0, k.1)),
-              (λ c told. let k = me.2 c told in (else c (λ e. absurd (true≢false (sym k.2 ∙ ap (λ d. is_noted d b.noted) e ∙ new))) ∙ k.0, k.1, noted_still c b.next b.noted k.2)),
+              (λ c told. let k = me.2 c told in
+                  (else c (λ e. absurd (true≢false (sym k.2 ∙ ap (λ d. is_noted d b.noted) e ∙ new))) ∙ k.0, k.1, noted_still c b.next b.noted k.2)),
             ),
           )
           (λ j u apart e. let f = h.fits j u e in (posters j u f.0, λ t. absurd (apart ((f.1 t).0 ∙ sym me.0)))));
     }
 
 -- what a poster has announced in all is told
-pub books_tell : (books : List Book) (pass : ℕ) (b : Book) (other : ℕ) (u : Book) → get_elem? books pass ≡ some b → ¬ (other ≡ pass) → get_elem? (set books pass (with_told b u)) other ≡ some u → AreBooked books → b.takes ≡ true → u.posts ≡ true → AreBooked (set (set books pass (with_told b u)) other blank)
+pub books_tell : (books : List Book) (pass : ℕ) (b : Book) (other : ℕ) (u : Book) → get_elem? books pass ≡ some b → ¬ (other ≡ pass)
+    → get_elem? (set books pass (with_told b u)) other ≡ some u → AreBooked books → b.takes ≡ true → u.posts ≡ true
+    → AreBooked (set (set books pass (with_told b u)) other blank)
 books_tell books pass b other u at two at' h may theirs =
     let w : Book = with_told b u in
     let vs : List Book = set books pass w in
@@ -369,13 +398,20 @@ books_tell books pass b other u at two at' h may theirs =
     let seat : ℕ → Option ℕ = λ c. cond (eqb c u.client) None (h.seat c) in
     let here : (c : ℕ) → c ≡ u.client → seat c ≡ None = λ c e. cond_same c u.client None (h.seat c) e in
     let else : (c : ℕ) → c ≢ u.client → seat c ≡ h.seat c = λ c n. cond_other c u.client None (h.seat c) n in
-    let empty : (c : ℕ) → h.seat c ≡ None → seat c ≡ None = λ c k. ⊎_elim (λ (e : c ≡ u.client). here c e) (λ (n : c ≢ u.client). else c n ∙ k) (same_or c u.client) in
-    let posters : (j : ℕ) (y : Book) → j ≢ other → FitsPoster h.seat h.sent j y → FitsPoster seat h.sent j y = λ j y apart f p. let g = f p in (else y.client (two_seats j other apart h.seat y.client u.client g.0 it.0) ∙ g.0, g.1) in
-    let noted : is_noted u.client b.noted ≡ true = ⊎_elim (λ (e : is_noted u.client b.noted ≡ true). e) (λ (e : is_noted u.client b.noted ≡ false). absurd (no_seat other h.seat u.client u.client it.0 (me.1 u.client e).0 refl)) (bool_cases (is_noted u.client b.noted)) in
+    let empty : (c : ℕ) → h.seat c ≡ None
+    → seat c ≡ None = λ c k. ⊎_elim (λ (e : c ≡ u.client). here c e) (λ (n : c ≢ u.client). else c n ∙ k) (same_or c u.client) in
+    let posters : (j : ℕ) (y : Book) → j ≢ other → FitsPoster h.seat h.sent j y
+    → FitsPoster seat h.sent j y = λ j y apart f p. let g = f p in (else y.client (two_seats j other apart h.seat y.client u.client g.0 it.0) ∙ g.0, g.1) in
+    let noted : is_noted u.client b.noted
+    ≡ true = ⊎_elim (λ (e : is_noted u.client b.noted ≡ true). e)
+    (λ (e : is_noted u.client b.noted ≡ false). absurd (no_seat other h.seat u.client u.client it.0 (me.1 u.client e).0 refl))
+    (bool_cases (is_noted u.client b.noted)) in
     let told : (c : ℕ) → is_told c w.known ≡ true → (seat c ≡ None) × (lines_in_pass c w.known ≡ h.sent c) × (is_noted c b.noted ≡ true) =
     λ c k. ⊎_elim
-    (λ (e : c ≡ u.client). (here c e, cond_same u.client c u.sent (lines_in_pass c b.known) (sym e) ∙ it.1 ∙ ap h.sent (sym e), ap (λ d. is_noted d b.noted) e ∙ noted))
-    (λ (n : c ≢ u.client). let apart : u.client ≢ c = λ e. n (sym e) in let f = me.2 c (or_other u.client c (is_told c b.known) apart k) in (empty c f.0, cond_other u.client c u.sent (lines_in_pass c b.known) apart ∙ f.1, f.2))
+    (λ (e : c ≡ u.client).
+    (here c e, cond_same u.client c u.sent (lines_in_pass c b.known) (sym e) ∙ it.1 ∙ ap h.sent (sym e), ap (λ d. is_noted d b.noted) e ∙ noted))
+    (λ (n : c ≢ u.client). let apart : u.client ≢ c = λ e. n (sym e) in let f = me.2 c (or_other u.client c (is_told c b.known) apart k) in
+    (empty c f.0, cond_other u.client c u.sent (lines_in_pass c b.known) apart ∙ f.1, f.2))
     (same_or c u.client) in
     let Now : ℕ → Book → Type 0 = λ j y. j ≢ other → Fits h.taker seat h.sent j y in
     let now : Each Now vs = each_set Now books pass w
@@ -393,7 +429,8 @@ books_tell books pass b other u at two at' h may theirs =
           let before = h.once c i in
           omega (arith, one, more, spent, before);
       right = each_set (λ j u. AreSent h.sent u.lines) vs other blank tt
-          (λ j y apart e. each_set (λ j u. AreSent h.sent u.lines) books pass w (sent_append h.sent b.lines u.lines (h.right pass b at) (h.right other u was)) (λ j u apart e. h.right j u e) j y e);
+          (λ j y apart e. each_set (λ j u. AreSent h.sent u.lines) books pass w
+          (sent_append h.sent b.lines u.lines (h.right pass b at) (h.right other u was)) (λ j u apart e. h.right j u e) j y e);
       fits = each_set (Fits h.taker seat h.sent) vs other blank (blank_fits h.taker seat h.sent other []) (λ j y apart e. now j y e apart);
     }
 
@@ -402,7 +439,8 @@ books_tell books pass b other u at two at' h may theirs =
 sent_of : (c : ℕ) (sent : ℕ → List Line) (whole : List Line) (ls : List Line) → whole ≡ sent c → AreSent sent ls → AreSent (λ d. whole) (of c ls)
 sent_of c sent whole [] is h = tt
 sent_of c sent whole (l ∷ ls) is h = ⊎_elim
-    (λ (e : l.client ≡ c). subst (AreSent (λ d. whole)) (sym (cond_same l.client c (l ∷ of c ls) (of c ls) e)) (ap (λ ys. get_elem? ys l.seq) (is ∙ ap sent (sym e)) ∙ h.0, sent_of c sent whole ls is h.1))
+    (λ (e : l.client ≡ c). subst (AreSent (λ d. whole)) (sym (cond_same l.client c (l ∷ of c ls) (of c ls) e))
+    (ap (λ ys. get_elem? ys l.seq) (is ∙ ap sent (sym e)) ∙ h.0, sent_of c sent whole ls is h.1))
     (λ (n : l.client ≢ c). subst (AreSent (λ d. whole)) (sym (cond_other l.client c (l ∷ of c ls) (of c ls) n)) (sent_of c sent whole ls is h.1))
     (same_or l.client c)
 

@@ -12,7 +12,8 @@ part f (x ∷ xs) zero v e = let same : f x ≡ f v = ap f (some-injective x v e
 part f (x ∷ xs) (suc i) v e = let r = part f xs i v e in omega arith
 
 -- and so is what two of them have
-two_parts : (f : GaugeView → ℕ) (views : List GaugeView) (i j : ℕ) (v w : GaugeView) → i ≢ j → get_elem? views i ≡ some v → get_elem? views j ≡ some w → f v + f w ≤ total f views
+two_parts : (f : GaugeView → ℕ) (views : List GaugeView) (i j : ℕ) (v w : GaugeView) → i ≢ j → get_elem? views i ≡ some v
+    → get_elem? views j ≡ some w → f v + f w ≤ total f views
 two_parts f [] i j v w n e d = absurd (some-ne-none v (sym e))
 two_parts f (x ∷ xs) zero zero v w n e d = absurd (n refl)
 two_parts f (x ∷ xs) zero (suc j) v w n e d = let same : f x ≡ f v = ap f (some-injective x v e) in let r = part f xs j w d in omega arith
@@ -24,6 +25,7 @@ all_own n own g few = let mine = part tickets_of g.accounts g.seat own g.mine in
 
 pub finds_are_whole : FindsAreWhole
 finds_are_whole = record {
-  others = λ n own g few other w apart at. let all = all_own n own g few in let two = two_parts tickets_of g.accounts g.seat other own w (λ e. apart (sym e)) g.mine at in omega (arith, all, two);
+  others = λ n own g few other w apart at.
+      let all = all_own n own g few in let two = two_parts tickets_of g.accounts g.seat other own w (λ e. apart (sym e)) g.mine at in omega (arith, all, two);
   announced = λ n own g few. g.each ∙ all_own n own g few;
 }

@@ -15,7 +15,8 @@ use Rattle.event_gate.proofs.BookLearns.{accounts_learnt, left_lines}
 use Rattle.event_gate.proofs.Lines.{of_moved}
 
 pub announced_more : (c : ℕ) (sent : List Line) (l : Line) → after_announce (at_work c sent) l ≡ at_work c (sent ++ l ∷ [])
-announced_more c sent l = let e : length sent + 1 ≡ length (sent ++ l ∷ []) = sym (length-append sent (l ∷ [])) in λ k. record opening { announced = e k; book = posters_book c (sent ++ l ∷ []) }
+announced_more c sent l = let e : length sent + 1 ≡ length (sent ++ l ∷ []) = sym (length-append sent (l ∷ [])) in
+    λ k. record opening { announced = e k; book = posters_book c (sent ++ l ∷ []) }
 
 pub withdrawn_again : (c : ℕ) (sent : List Line) (l : Line) → after_withdraw (after_announce (at_work c sent) l) ≡ at_work c sent
 withdrawn_again c sent l =
@@ -29,7 +30,8 @@ numbered_first : (n : ℕ) (xs ys : List Line) → IsNumbered n (xs ++ ys) → I
 numbered_first n [] ys h = tt
 numbered_first n (x ∷ xs) ys h = (h.0, h.1, numbered_first (suc n) xs ys h.2)
 
-pub book_taken : (v : View) (g : GaugeView) (x : Line) (queued : List Line) → IsTakersBook v g → Sees v (x ∷ queued) → IsTakersBook (after_take v x) (after_redeem g x)
+pub book_taken : (v : View) (g : GaugeView) (x : Line) (queued : List Line) → IsTakersBook v g → Sees v (x ∷ queued)
+    → IsTakersBook (after_take v x) (after_redeem g x)
 book_taken v g x queued h sees = record {
   tickets = (let n = length-append v.taken (x ∷ []) in let t = h.tickets in omega (arith, n, t));
   takes = h.takes;
@@ -40,7 +42,14 @@ book_taken v g x queued h sees = record {
 }
 
 pub book_found : (v : View) (g : GaugeView) (n : ℕ) → IsTakersBook v g → IsTakersBook v (after_find g n)
-book_found v g n h = record { tickets = h.tickets; takes = h.takes; lines_are = h.lines_are; noted_are = h.noted_are; known_are = h.known_are; numbered = h.numbered }
+book_found v g n h = record {
+  tickets = h.tickets;
+  takes = h.takes;
+  lines_are = h.lines_are;
+  noted_are = h.noted_are;
+  known_are = h.known_are;
+  numbered = h.numbered;
+}
 
 -- the seat of a poster that has posted just what its view says
 pub book_told : (v u : View) (g : GaugeView) → IsTakersBook v g → IsTakersBook (after_take_in v u) (after_tell g (at_work u.client u.posted))
@@ -57,13 +66,22 @@ book_told v u g h = record {
 pub sees_left : (v : View) (g : GaugeView) → IsTakersBook v g → Learns g.book → Sees v (left_lines v.known v.taken)
 sees_left v g h learnt =
     let numbered : (c : ℕ) → IsNumbered 0 (of c g.book.lines) = λ c. subst (λ ls. IsNumbered 0 (of c ls)) (sym h.lines_are) (h.numbered c) in
-    subst (λ (y : List ℕ × List Told × List Line). Accounts y.0 y.1 y.2 (left_lines y.1 y.2)) (λ k. (h.noted_are k, h.known_are k, h.lines_are k)) (accounts_learnt g.book learnt numbered)
+    subst (λ (y : List ℕ × List Told × List Line). Accounts y.0 y.1 y.2 (left_lines y.1 y.2))
+    (λ k. (h.noted_are k, h.known_are k, h.lines_are k)) (accounts_learnt g.book learnt numbered)
 
 pub gauge_opens : IsOpenGauge [] starting
 gauge_opens = record { tickets = refl; finds = refl; found = refl; takes = refl; lines_are = refl; noted_are = refl; known_are = refl }
 
 pub gauge_enrolls : (noted : List ℕ) (g : GaugeView) (c : ℕ) → IsOpenGauge noted g → IsOpenGauge (noted ++ c ∷ []) (after_enroll (after_aim g c))
-gauge_enrolls noted g c h = record { tickets = h.tickets; finds = h.finds; found = h.found; takes = h.takes; lines_are = h.lines_are; noted_are = ap (λ ns. ns ++ c ∷ []) h.noted_are; known_are = h.known_are }
+gauge_enrolls noted g c h = record {
+  tickets = h.tickets;
+  finds = h.finds;
+  found = h.found;
+  takes = h.takes;
+  lines_are = h.lines_are;
+  noted_are = ap (λ ns. ns ++ c ∷ []) h.noted_are;
+  known_are = h.known_are;
+}
 
 pub book_opens : (gauge : TableId) (noted : List ℕ) (v : View) (g : GaugeView) → IsOpen gauge noted v → IsOpenGauge noted g → IsTakersBook v g
 book_opens gauge noted v g o h = record {
@@ -75,10 +93,13 @@ book_opens gauge noted v g o h = record {
   numbered = λ c. subst (λ ls. IsNumbered 0 (of c ls)) (sym o.taken_are) tt;
 }
 
-pub taking_opens : (port : PortId) (event : ℕ) (gauge : TableId) (noted : List ℕ) (v : View) (g : GaugeView) → IsOpen gauge noted v → IsOpenGauge noted g → taking port event v g ≡ new_taking port event noted
-taking_opens port event gauge noted v g o h = λ k. record { port = port; event = event; taken = o.taken_are k; finds = h.finds k; found = h.found k; noted = o.noted_are k; known = o.known_are k }
+pub taking_opens : (port : PortId) (event : ℕ) (gauge : TableId) (noted : List ℕ) (v : View) (g : GaugeView) → IsOpen gauge noted v
+    → IsOpenGauge noted g → taking port event v g ≡ new_taking port event noted
+taking_opens port event gauge noted v g o h =
+    λ k. record { port = port; event = event; taken = o.taken_are k; finds = h.finds k; found = h.found k; noted = o.noted_are k; known = o.known_are k }
 
 -- what the taker's end is when a pass came in
 pub taken_in : (port : PortId) (event : ℕ) (v u w : View) (g h x : GaugeView) (client : ℕ) → w ≡ after_take_in v u → h ≡ after_tell g x → u.client ≡ client
     → taking port event w h ≡ record (taking port event v g) { known = record { client = client; posted = u.posted } ∷ v.known }
-taken_in port event v u w g h x client rule told is = (λ k. taking port event (rule k) (told k)) ∙ (λ k. record (taking port event v g) { known = record { client = is k; posted = u.posted } ∷ v.known })
+taken_in port event v u w g h x client rule told is = (λ k. taking port event (rule k) (told k))
+    ∙ (λ k. record (taking port event v g) { known = record { client = is k; posted = u.posted } ∷ v.known })

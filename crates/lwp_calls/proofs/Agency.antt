@@ -47,8 +47,10 @@ module _ (parts : Parts) (e t : ℕ) where
             waits = λ u. step.tied.waits u ∙ sym (ap (λ rows. passes waits (find (is_number u) rows)) same);
           };
           ranked = record {
-            requests = All-weaker (λ (r : EntryRequest). r.prio ≡ priority_in (state_of parts) r.tid) (λ r. r.prio ≡ priority_in (state_of (with_agent parts e t)) r.tid) (λ r is. is ∙ sym (ranks r.tid)) parts.mons.requests step.ranked.requests;
-            waits = All-weaker (λ (w : WaitRec). w.prio ≡ priority_in (state_of parts) w.tid) (λ w. w.prio ≡ priority_in (state_of (with_agent parts e t)) w.tid) (λ w is. is ∙ sym (ranks w.tid)) parts.conds.waits step.ranked.waits;
+            requests = All-weaker (λ (r : EntryRequest). r.prio ≡ priority_in (state_of parts) r.tid)
+                (λ r. r.prio ≡ priority_in (state_of (with_agent parts e t)) r.tid) (λ r is. is ∙ sym (ranks r.tid)) parts.mons.requests step.ranked.requests;
+            waits = All-weaker (λ (w : WaitRec). w.prio ≡ priority_in (state_of parts) w.tid)
+                (λ w. w.prio ≡ priority_in (state_of (with_agent parts e t)) w.tid) (λ w is. is ∙ sym (ranks w.tid)) parts.conds.waits step.ranked.waits;
           };
           roomy = record {
             letters = omega (arith, as_many, places.letters, length-append parts.agents.agents (new_agent parts.ids.births e t ∷ []));

@@ -27,9 +27,11 @@ module _ (parts : Parts) (tied : IsTied parts) (alone : parts.dying ≡ None) wh
   known-same t = tied.known t ∙ ap (λ o. is_thread (state_of parts) t && not (is_same_option o t)) alone ∙ and_true (is_thread (state_of parts) t)
 
   pub priority-same : (t : ℕ) → priority_in (state_of parts) t ≡ sched.priority_in parts.sched t
-  priority-same t = by_rows (thread_of (state_of parts) t) (sched.thread_of parts.sched t) (known-same t) (λ row e. (shows parts.last_prio t parts.sched.threads parts.ids.live row e).1)
+  priority-same t = by_rows (thread_of (state_of parts) t) (sched.thread_of parts.sched t) (known-same t)
+      (λ row e. (shows parts.last_prio t parts.sched.threads parts.ids.live row e).1)
     where
-      by_rows : (o : Option ThreadRow) (k : Option Known) → is_some k ≡ is_some o → ((row : ThreadRow) → o ≡ Some row → row.priority ≡ (unwrap_or k (newcomer t parts.last_prio false)).prio)
+      by_rows : (o : Option ThreadRow) (k : Option Known) → is_some k ≡ is_some o
+          → ((row : ThreadRow) → o ≡ Some row → row.priority ≡ (unwrap_or k (newcomer t parts.last_prio false)).prio)
           → unwrap_or (option_map (λ (row : ThreadRow). row.priority) o) 0 ≡ unwrap_or (option_map (λ (row : Known). row.prio) k) 0
       by_rows None None same shown = refl
       by_rows (Some row) (Some k) same shown = shown row refl
@@ -37,7 +39,8 @@ module _ (parts : Parts) (tied : IsTied parts) (alone : parts.dying ≡ None) wh
       by_rows (Some row) None same shown = absurd (cc)
 
   pub eligible-same : (t : ℕ) → is_eligible_in (state_of parts) t ≡ sched.is_eligible_in parts.sched t
-  eligible-same t = by_rows (thread_of (state_of parts) t) (sched.thread_of parts.sched t) (known-same t) (tied.waits t) (λ row e. (shows parts.last_prio t parts.sched.threads parts.ids.live row e).0)
+  eligible-same t = by_rows (thread_of (state_of parts) t) (sched.thread_of parts.sched t) (known-same t) (tied.waits t)
+      (λ row e. (shows parts.last_prio t parts.sched.threads parts.ids.live row e).0)
     where
       by_rows : (o : Option ThreadRow) (k : Option Known) → is_some k ≡ is_some o → passes (λ (row : Known). row.blocked) k ≡ passes waits o
           → ((row : ThreadRow) → o ≡ Some row → row.suspended ≡ (unwrap_or k (newcomer t parts.last_prio false)).suspended)
@@ -56,11 +59,14 @@ module _ (parts : Parts) (tied : IsTied parts) (alone : parts.dying ≡ None) wh
       better-same None x = refl
       better-same (Some y) x = rw (priority-same x, priority-same y) refl
 
-      fold-same : (best : Option ℕ) (xs : List ℕ) → fold (better_by (priority_in (state_of parts))) best xs ≡ fold (better_by (sched.prio_in parts.sched.threads)) best xs
+      fold-same : (best : Option ℕ) (xs : List ℕ)
+          → fold (better_by (priority_in (state_of parts))) best xs ≡ fold (better_by (sched.prio_in parts.sched.threads)) best xs
       fold-same best [] = refl
-      fold-same best (x ∷ xs) = ap (λ b. fold (better_by (priority_in (state_of parts))) b xs) (better-same best x) ∙ fold-same (better_by (sched.prio_in parts.sched.threads) best x) xs
+      fold-same best (x ∷ xs) = ap (λ b. fold (better_by (priority_in (state_of parts))) b xs) (better-same best x)
+          ∙ fold-same (better_by (sched.prio_in parts.sched.threads) best x) xs
 
   -- the first of a priority
   pub first-same : (p : ℕ) (xs : List ℕ) → find (λ t. priority_in (state_of parts) t == p) xs ≡ find (λ t. sched.priority_in parts.sched t == p) xs
   first-same p [] = refl
-  first-same p (x ∷ xs) = ap (λ n. cond (n == p) (Some x) (find (λ t. priority_in (state_of parts) t == p) xs)) (priority-same x) ∙ ap (λ o. cond (sched.priority_in parts.sched x == p) (Some x) o) (first-same p xs)
+  first-same p (x ∷ xs) = ap (λ n. cond (n == p) (Some x) (find (λ t. priority_in (state_of parts) t == p) xs)) (priority-same x)
+      ∙ ap (λ o. cond (sched.priority_in parts.sched x == p) (Some x) o) (first-same p xs)

@@ -14,7 +14,8 @@ use Rattle.monitors.specs.declared.requests.EntryRequest.{EntryRequest}
 use Rattle.pod_sched.specs.Schedule as sched
 use Rattle.pod_sched.specs.Schedule.{newcomer}
 use Rattle.pod_sched.specs.declared.rows.Known.{Known}
-use Rattle.std.proofs.Common.{Bool, List, None, Option, Some, [], ap, arith, cond, eqb, false, inl, inr, length, map, not, refl, sym, true, ℕ, ◌&&◌, ◌∙◌, ◌∷◌, ◌≡◌}
+use Rattle.std.proofs.Common.{Bool, List, None, Option, Some, [], ap, arith, cond, eqb, false, inl}
+use Rattle.std.proofs.Common.{inr, length, map, not, refl, sym, true, ℕ, ◌&&◌, ◌∙◌, ◌∷◌, ◌≡◌}
 use Rattle.std.proofs.lemmas.Bool.{cases_eq, eq-eqb, ne_eqb}
 use Rattle.std.specs.List.{find}
 use Rattle.std.specs.Prelude.{is_some, option_map, unwrap_or}
@@ -49,22 +50,26 @@ module _ (p t : ℕ) (f : Bool → Known → Known) (h : Bool → ThreadRow → 
     (tid : (c : Bool) (k : Known) → (f c k).tid ≡ k.tid) (other : (k : Known) → f false k ≡ k)
     (fits : (c : Bool) (k : Known) (n : ℕ) (rec : ThreadRec) → row_of (f c k) n rec ≡ h c (row_of k n rec)) where
   -- the thread is known, so that who isn't known is another
-  known-changed : (known : List Known) → is_some (find (sched.is_of t) known) ≡ true → (n : ℕ) → known_of p (map (λ k. f (eqb k.tid t) k) known) n ≡ f (eqb n t) (known_of p known n)
+  known-changed : (known : List Known) → is_some (find (sched.is_of t) known) ≡ true → (n : ℕ)
+      → known_of p (map (λ k. f (eqb k.tid t) k) known) n ≡ f (eqb n t) (known_of p known n)
   known-changed known is n = ap (λ o. unwrap_or o (newcomer n p false)) (find-known t f tid n known) ∙ by_found (find (sched.is_of n) known) refl
     where
-      by_found : (o : Option Known) → find (sched.is_of n) known ≡ o → unwrap_or (option_map (f (eqb n t)) o) (newcomer n p false) ≡ f (eqb n t) (unwrap_or o (newcomer n p false))
+      by_found : (o : Option Known) → find (sched.is_of n) known ≡ o
+          → unwrap_or (option_map (f (eqb n t)) o) (newcomer n p false) ≡ f (eqb n t) (unwrap_or o (newcomer n p false))
       by_found (Some k) e = refl
       by_found None e = elim (cases_eq n t) [
         | inl same ↦ absurd (let no : false ≡ true = (rw (sym same, e) at is) in cc)
         | inr away ↦ rw (ne_eqb n t away) (sym (other (newcomer n p false)))
       ]
 
-  pub rows-changed : (known : List Known) → is_some (find (sched.is_of t) known) ≡ true → (living : List (ℕ × Kind)) → rows_of p (map (λ k. f (eqb k.tid t) k) known) living ≡ map (λ row. h (eqb row.number t) row) (rows_of p known living)
+  pub rows-changed : (known : List Known) → is_some (find (sched.is_of t) known) ≡ true → (living : List (ℕ × Kind))
+      → rows_of p (map (λ k. f (eqb k.tid t) k) known) living ≡ map (λ row. h (eqb row.number t) row) (rows_of p known living)
   rows-changed known is [] = refl
   rows-changed known is (live ∷ living) = by_kind live.0 live.1 (rows-changed known is living)
     where
       by_kind : (n : ℕ) (k : Kind) → rows_of p (map (λ k. f (eqb k.tid t) k) known) living ≡ map (λ row. h (eqb row.number t) row) (rows_of p known living)
-          → row_onto (known_of p (map (λ k. f (eqb k.tid t) k) known) n) n k (rows_of p (map (λ k. f (eqb k.tid t) k) known) living) ≡ map (λ row. h (eqb row.number t) row) (row_onto (known_of p known n) n k (rows_of p known living))
+          → row_onto (known_of p (map (λ k. f (eqb k.tid t) k) known) n) n k (rows_of p (map (λ k. f (eqb k.tid t) k) known) living)
+          ≡ map (λ row. h (eqb row.number t) row) (row_onto (known_of p known n) n k (rows_of p known living))
       by_kind n kind.Agent rest = rest
       by_kind n (kind.Thread rec) rest = rw (rest, known-changed known is n, fits (eqb n t) (known_of p known n) n rec) refl
 
@@ -85,14 +90,17 @@ module _ (parts : Parts) (t : ℕ) (f : Bool → Known → Known) (h : Bool → 
   thread-changed u = ap is_some (find-row t h number u (state_of parts).threads) ∙ same-some (h (eqb u t)) (thread_of (state_of parts) u)
 
   -- who waits
-  pub blocked-changed : ((c : Bool) (k : Known) → (f c k).blocked ≡ k.blocked) → (u : ℕ) → passes (λ (k : Known). k.blocked) (find (sched.is_of u) known') ≡ sched.is_blocked_in parts.sched u
-  blocked-changed blocked u = ap (passes (λ (k : Known). k.blocked)) (find-known t f tid u parts.sched.threads) ∙ by_found (find (sched.is_of u) parts.sched.threads)
+  pub blocked-changed : ((c : Bool) (k : Known) → (f c k).blocked ≡ k.blocked) → (u : ℕ)
+      → passes (λ (k : Known). k.blocked) (find (sched.is_of u) known') ≡ sched.is_blocked_in parts.sched u
+  blocked-changed blocked u = ap (passes (λ (k : Known). k.blocked)) (find-known t f tid u parts.sched.threads)
+      ∙ by_found (find (sched.is_of u) parts.sched.threads)
     where
       by_found : (o : Option Known) → passes (λ (k : Known). k.blocked) (option_map (f (eqb u t)) o) ≡ passes (λ (k : Known). k.blocked) o
       by_found None = refl
       by_found (Some k) = blocked (eqb u t) k
 
-  pub waits-changed : ((c : Bool) (row : ThreadRow) → (h c row).block ≡ row.block) → (u : ℕ) → passes waits (find (is_number u) rows') ≡ is_blocked_in (state_of parts) u
+  pub waits-changed : ((c : Bool) (row : ThreadRow) → (h c row).block ≡ row.block) → (u : ℕ)
+      → passes waits (find (is_number u) rows') ≡ is_blocked_in (state_of parts) u
   waits-changed block u = ap (passes waits) (find-row t h number u (state_of parts).threads) ∙ by_found (thread_of (state_of parts) u)
     where
       by_found : (o : Option ThreadRow) → passes waits (option_map (h (eqb u t)) o) ≡ passes waits o
@@ -102,7 +110,8 @@ module _ (parts : Parts) (t : ℕ) (f : Bool → Known → Known) (h : Bool → 
   abbrev pub priority_of : Option ThreadRow → ℕ
   priority_of o = unwrap_or (option_map (λ (row : ThreadRow). row.priority) o) 0
 
-  pub priority-changed : ((c : Bool) (row : ThreadRow) → (h c row).priority ≡ row.priority) → (u : ℕ) → priority_of (find (is_number u) rows') ≡ priority_in (state_of parts) u
+  pub priority-changed : ((c : Bool) (row : ThreadRow) → (h c row).priority ≡ row.priority) → (u : ℕ)
+      → priority_of (find (is_number u) rows') ≡ priority_in (state_of parts) u
   priority-changed priority u = ap priority_of (find-row t h number u (state_of parts).threads) ∙ by_found (thread_of (state_of parts) u)
     where
       by_found : (o : Option ThreadRow) → priority_of (option_map (h (eqb u t)) o) ≡ priority_of o
@@ -121,23 +130,33 @@ module _ (parts : Parts) (t : ℕ) (f : Bool → Known → Known) (h : Bool → 
       (blocked : (c : Bool) (k : Known) → (f c k).blocked ≡ k.blocked) (block : (c : Bool) (row : ThreadRow) → (h c row).block ≡ row.block) where
     pub IsTied-moved : IsTied (moved order)
     IsTied-moved = record {
-      known = λ u. knows-changed u ∙ step.tied.known u ∙ ap (λ b. b && not (is_same_option parts.dying u)) (sym (ap (λ rows. is_some (find (is_number u) rows)) same ∙ thread-changed u));
+      known = λ u. knows-changed u ∙ step.tied.known u
+          ∙ ap (λ b. b && not (is_same_option parts.dying u)) (sym (ap (λ rows. is_some (find (is_number u) rows)) same ∙ thread-changed u));
       waits = λ u. blocked-changed blocked u ∙ step.tied.waits u ∙ sym (ap (λ rows. passes waits (find (is_number u) rows)) same ∙ waits-changed block u);
     }
 
     pub IsRoomy-moved : IsRoomy (moved order)
     IsRoomy-moved =
         let as_many : length (state_of (moved order)).threads ≡ length (state_of parts).threads = ap length same ∙ rows-length (state_of parts).threads in
-        record { letters = omega (arith, as_many, step.roomy.letters); threads = omega (arith, as_many, step.roomy.threads); requests = omega (arith, as_many, step.roomy.requests); waits = omega (arith, as_many, step.roomy.waits) }
+        record {
+          letters = omega (arith, as_many, step.roomy.letters);
+          threads = omega (arith, as_many, step.roomy.threads);
+          requests = omega (arith, as_many, step.roomy.requests);
+          waits = omega (arith, as_many, step.roomy.waits);
+        }
 
     pub InStep-moved : ((c : Bool) (row : ThreadRow) → (h c row).priority ≡ row.priority) → InStep (moved order)
     InStep-moved priority =
-        let ranks : (u : ℕ) → priority_in (state_of (moved order)) u ≡ priority_in (state_of parts) u = λ u. ap (λ rows. priority_of (find (is_number u) rows)) same ∙ priority-changed priority u in
+        let ranks : (u : ℕ)
+        → priority_in (state_of (moved order)) u
+        ≡ priority_in (state_of parts) u = λ u. ap (λ rows. priority_of (find (is_number u) rows)) same ∙ priority-changed priority u in
         record {
           tied = IsTied-moved;
           ranked = record {
-            requests = All-weaker (λ (r : EntryRequest). r.prio ≡ priority_in (state_of parts) r.tid) (λ r. r.prio ≡ priority_in (state_of (moved order)) r.tid) (λ r e. e ∙ sym (ranks r.tid)) parts.mons.requests step.ranked.requests;
-            waits = All-weaker (λ (w : WaitRec). w.prio ≡ priority_in (state_of parts) w.tid) (λ w. w.prio ≡ priority_in (state_of (moved order)) w.tid) (λ w e. e ∙ sym (ranks w.tid)) parts.conds.waits step.ranked.waits;
+            requests = All-weaker (λ (r : EntryRequest). r.prio ≡ priority_in (state_of parts) r.tid)
+                (λ r. r.prio ≡ priority_in (state_of (moved order)) r.tid) (λ r e. e ∙ sym (ranks r.tid)) parts.mons.requests step.ranked.requests;
+            waits = All-weaker (λ (w : WaitRec). w.prio ≡ priority_in (state_of parts) w.tid)
+                (λ w. w.prio ≡ priority_in (state_of (moved order)) w.tid) (λ w e. e ∙ sym (ranks w.tid)) parts.conds.waits step.ranked.waits;
           };
           roomy = IsRoomy-moved;
           monitors = step.monitors;

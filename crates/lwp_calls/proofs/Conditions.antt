@@ -12,7 +12,8 @@ use Rattle.std.proofs.Common.{Bool, List, None, Option, Some, ap, eqb, false, ma
 use Rattle.std.specs.Prelude.{is_none, is_some, option_map}
 
 -- there is the condition, if it has a monitor
-pub there : (rows : List CondRow) (c : ℕ) (o : Option ℕ) (b : Bool) → o ≡ option_map (λ (row : CondRow). row.mon) (condition_of rows c) → is_some o ≡ b → is_none (condition_of rows c) ≡ not b
+pub there : (rows : List CondRow) (c : ℕ) (o : Option ℕ) (b : Bool) → o ≡ option_map (λ (row : CondRow). row.mon) (condition_of rows c)
+    → is_some o ≡ b → is_none (condition_of rows c) ≡ not b
 there rows c o b e is = by_row (condition_of rows c) (ap is_some (sym e) ∙ is)
   where
     by_row : (p : Option CondRow) → is_some (option_map (λ (row : CondRow). row.mon) p) ≡ b → is_none p ≡ not b
@@ -28,7 +29,8 @@ module _ (s : State) (c : ℕ) where
   unfolding unless
   destroy-waited live waited = rw (live, waited) refl
 
-  pub destroy-idle : is_none (condition_of s.conditions c) ≡ false → is_waited_in s.waits c ≡ false → condition_destroy s c ≡ value_case (record s { conditions = without_condition c s.conditions }) 0
+  pub destroy-idle : is_none (condition_of s.conditions c) ≡ false → is_waited_in s.waits c ≡ false
+      → condition_destroy s c ≡ value_case (record s { conditions = without_condition c s.conditions }) 0
   unfolding unless
   destroy-idle live idle = rw (live, idle) refl
 
@@ -36,7 +38,8 @@ module _ (s : State) (c : ℕ) where
   unfolding unless
   waiters-absent none = rw none refl
 
-  pub waiters-live : is_none (condition_of s.conditions c) ≡ false → condition_waiters s c ≡ list_case s kind.Thread (map (λ (w : WaitRow). w.tid) (waits_on s.waits c))
+  pub waiters-live : is_none (condition_of s.conditions c) ≡ false
+      → condition_waiters s c ≡ list_case s kind.Thread (map (λ (w : WaitRow). w.tid) (waits_on s.waits c))
   unfolding unless
   waiters-live live = rw live refl
 
@@ -45,6 +48,7 @@ module _ (s : State) (t c : ℕ) where
   unfolding unless
   wait-absent none = rw none refl
 
-  pub wait-other : (m : ℕ) → condition_of s.conditions c ≡ Some (record { number = c; mon = m }) → passes (λ lock. eqb m lock.mon) (last_lock s.locks t) ≡ false → wait s t c ≡ refusal_case s error.NotOwned
+  pub wait-other : (m : ℕ) → condition_of s.conditions c ≡ Some (record { number = c; mon = m })
+      → passes (λ lock. eqb m lock.mon) (last_lock s.locks t) ≡ false → wait s t c ≡ refusal_case s error.NotOwned
   unfolding unless
   wait-other m found other = rw (found, other) refl

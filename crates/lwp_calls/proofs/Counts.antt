@@ -8,7 +8,8 @@ use Rattle.lwp_types.specs.State.{ThreadRow, is_number, numbers, times_in, witho
 use Rattle.pod_laws.proofs.Numbers.{once_rising}
 use Rattle.pod_sched.specs.Schedule as sched
 use Rattle.pod_sched.specs.declared.rows.Known.{Known}
-use Rattle.std.proofs.Common.{Bool, List, None, Option, Some, [], ap, arith, count_by, eqb, false, inl, inr, length, map, not, refl, suc, sym, true, zero, ℕ, ◌&&◌, ◌∙◌, ◌∷◌, ◌≡◌, ◌≢◌, ◌≤◌}
+use Rattle.std.proofs.Common.{Bool, List, None, Option, Some, [], ap, arith, count_by, eqb, false, inl, inr, length}
+use Rattle.std.proofs.Common.{map, not, refl, suc, sym, true, zero, ℕ, ◌&&◌, ◌∙◌, ◌∷◌, ◌≡◌, ◌≢◌, ◌≤◌}
 use Rattle.std.proofs.lemmas.Bool.{cases_eq, eq-eqb, ne_eqb}
 use Rattle.std.specs.List.{find}
 use Rattle.std.specs.Prelude.{is_some}
@@ -48,7 +49,9 @@ as_long_by (suc most) (x ∷ xs) ys few same =
 
     rest : (n : ℕ) → times_in (without x (x ∷ xs)) n ≡ times_in (without x ys) n
     rest n = elim (cases_eq n x) [
-      | inl e ↦ ap (times_in (without x (x ∷ xs))) e ∙ count-failed (λ m. eqb m x) (x ∷ xs) ∙ sym (count-failed (λ m. eqb m x) ys) ∙ ap (times_in (without x ys)) (sym e)
+      | inl e
+          ↦ ap (times_in (without x (x ∷ xs))) e ∙ count-failed (λ m. eqb m x) (x ∷ xs) ∙ sym (count-failed (λ m. eqb m x) ys)
+          ∙ ap (times_in (without x ys)) (sym e)
       | inr away ↦ others x n away (x ∷ xs) ∙ same n ∙ sym (others x n away ys)
     ]
 
@@ -74,14 +77,19 @@ module _ {X : Type 0} (key : X → ℕ) where
       by_found (Some x) e = omega (arith, once, count_found (λ x. eqb (key x) n) xs x e)
 
 -- the scheduler knows as many threads as there are
-pub threads-count : (parts : Parts) → LawfulParts parts → parts.dying ≡ None → ((t : ℕ) → count_by (sched.is_of t) parts.sched.threads ≤ 1) → length parts.sched.threads ≡ length (state_of parts).threads
+pub threads-count : (parts : Parts) → LawfulParts parts → parts.dying ≡ None → ((t : ℕ) → count_by (sched.is_of t) parts.sched.threads ≤ 1)
+    → length parts.sched.threads ≡ length (state_of parts).threads
 threads-count parts lawful alone once =
     sym (length-keys (λ (k : Known). k.tid) parts.sched.threads)
     ∙ as_long (map (λ (k : Known). k.tid) parts.sched.threads) (numbers (state_of parts).threads) each
     ∙ length-keys (λ (row : ThreadRow). row.number) (state_of parts).threads
   where
     row_once : (n : ℕ) → count_by (is_number n) (state_of parts).threads ≤ 1
-    row_once n = omega (arith, once_rising (numbers (state_of parts).threads) lawful.nine.numbers.0.0 n, times-keys (λ (row : ThreadRow). row.number) (state_of parts).threads n)
+    row_once n = omega (
+      arith,
+      once_rising (numbers (state_of parts).threads) lawful.nine.numbers.0.0 n,
+      times-keys (λ (row : ThreadRow). row.number) (state_of parts).threads n,
+    )
 
     each : (n : ℕ) → times_in (map (λ (k : Known). k.tid) parts.sched.threads) n ≡ times_in (numbers (state_of parts).threads) n
     each n = times-keys (λ (k : Known). k.tid) parts.sched.threads n

@@ -19,7 +19,8 @@ use Rattle.lwp_types.specs.declared.rows.Letter.{Letter}
 use Rattle.pod_laws.proofs.Delivery.{armed_idle, deliver_first, few_told, first_found, found_own, idle_agents, is_idle_for, post_agents}
 use Rattle.pod_laws.proofs.Elements.{find_passes}
 use Rattle.pod_laws.proofs.Numbers.{keys_once}
-use Rattle.std.proofs.Common.{Bool, List, None, Option, Some, [], add-one, ap, arith, cond, count_by, drop, false, length, length-append, not, refl, slice_get, subst, suc, sym, true, zero, ℕ, ◌&&◌, ◌++◌, ◌+◌, ◌<◌, ◌∙◌, ◌∷◌, ◌≡◌, ◌≤◌}
+use Rattle.std.proofs.Common.{Bool, List, None, Option, Some, [], add-one, ap, arith, cond, count_by, drop, false, length, length-append}
+use Rattle.std.proofs.Common.{not, refl, slice_get, subst, suc, sym, true, zero, ℕ, ◌&&◌, ◌++◌, ◌+◌, ◌<◌, ◌∙◌, ◌∷◌, ◌≡◌, ◌≤◌}
 use Rattle.std.proofs.lemmas.Bool.{and_parts, eqb-true}
 use Rattle.std.proofs.lemmas.List.{append_assoc, length-map}
 use Rattle.std.proofs.lemmas.List.Sums.{count_by-le-length, length-filter}
@@ -72,21 +73,25 @@ module _ (parts : Parts) (e a : ℕ) (text : List ℕ) (waits : waits_for e part
       cc
 
   pub unowned : {P : Type 0} (r : Option ℕ) → r ≡ option_map (λ (row : AgentRow). row.owner) (agent_of parts.agents.agents a) → r ≡ None → P
-  unowned r is missing = absurd (let same : Some who.row.owner ≡ None = sym (ap (option_map (λ (row : AgentRow). row.owner)) who.known) ∙ sym is ∙ missing in cc)
+  unowned r is missing = absurd (let same : Some who.row.owner ≡ None = sym (ap (option_map (λ (row : AgentRow). row.owner)) who.known) ∙ sym is ∙ missing in
+      cc)
 
   abbrev holding : Parts
   holding = record parts { agents = roster.after_hold parts.agents a }
 
   pub holding_step : InStep parts → InStep holding
-  holding_step step = InStep-agents parts step (roster.after_hold parts.agents a) (omega (arith, length-map parts.agents.agents (λ (row : AgentRow). record row { holding = cond (is_agent_row a row) true row.holding })))
+  holding_step step = InStep-agents parts step (roster.after_hold parts.agents a)
+      (omega (arith, length-map parts.agents.agents (λ (row : AgentRow). record row { holding = cond (is_agent_row a row) true row.holding })))
 
   -- the letter is posted where the agent holds the message
   pub came_found : (new : Parts) (before told after : List Effect) (o : ℕ) → who.row.owner ≡ o → told ≡ before ++ effect.Delivered a e ∷ []
-      → CameTo holding new told after (post (record { from = a; to = o; text = text; room = 240; received = false }) (state_of holding)) → CameTo parts new before after (deliver_to_found text (agent_of parts.agents.agents a) (state_of parts))
+      → CameTo holding new told after (post (record { from = a; to = o; text = text; room = 240; received = false }) (state_of holding))
+      → CameTo parts new before after (deliver_to_found text (agent_of parts.agents.agents a) (state_of parts))
   unfolding and_then
   came_found new before told after o owner tells came = rw who.known (record {
     state = came.state ∙ posted (λ (out : Outcome). out.after);
-    effects = came.effects ∙ ap (λ es. es ++ (post letter (state_of holding)).effects) tells ∙ append_assoc before (effect.Delivered a e ∷ []) (post letter (state_of holding)).effects
+    effects = came.effects ∙ ap (λ es. es ++ (post letter (state_of holding)).effects) tells
+        ∙ append_assoc before (effect.Delivered a e ∷ []) (post letter (state_of holding)).effects
         ∙ ap (λ n. before ++ (effect.Delivered n e ∷ [] ++ (post letter (state_of holding)).effects)) (sym who.number)
         ∙ ap (λ n. before ++ (effect.Delivered who.row.number n ∷ [] ++ (post letter (state_of holding)).effects)) (sym who.event)
         ∙ ap (λ es. before ++ (effect.Delivered who.row.number who.row.event ∷ [] ++ es)) (posted (λ (out : Outcome). out.effects));
@@ -97,10 +102,16 @@ module _ (parts : Parts) (e a : ℕ) (text : List ℕ) (waits : waits_for e part
       letter : Letter
       letter = record { from = a; to = o; text = text; room = 240; received = false }
 
-      posted : {R : Type 0} (f : Outcome → R) → f (post letter (state_of holding)) ≡ f (post (message text who.row) (record (state_of parts) { agents = with_holding who.row.number true parts.agents.agents }))
+      posted : {R : Type 0} (f : Outcome → R)
+          → f (post letter (state_of holding))
+          ≡ f (post (message text who.row) (record (state_of parts) { agents = with_holding who.row.number true parts.agents.agents }))
       posted f =
-          ap (λ n. f (post (record { from = n; to = o; text = text; room = 240; received = false }) (record (state_of parts) { agents = with_holding n true parts.agents.agents }))) (sym who.number)
-          ∙ ap (λ n. f (post (record { from = who.row.number; to = n; text = text; room = 240; received = false }) (record (state_of parts) { agents = with_holding who.row.number true parts.agents.agents }))) (sym owner)
+          ap (λ n. f (post (record { from = n; to = o; text = text; room = 240; received = false })
+          (record (state_of parts) { agents = with_holding n true parts.agents.agents })))
+          (sym who.number)
+          ∙ ap (λ n. f (post (record { from = who.row.number; to = n; text = text; room = 240; received = false })
+          (record (state_of parts) { agents = with_holding who.row.number true parts.agents.agents })))
+          (sym owner)
 
 -- ---- one after the other
 
@@ -155,7 +166,14 @@ module _ (e : ℕ) (text : List ℕ) (start : Parts) (before : List Effect) wher
   pub delivers : NineParts (state_of start) None → InStep start → before ≡ [] → is_armed start.agents.agents e ≡ true → Delivering 0 start before
   delivers nine step none arms = record {
     drains = starts Keeps (idle_agents e) (deliver_to text) 1 start before nine step
-        (omega (arith, ap length none, few_told text (idle_agents e (state_of start)) (state_of start), length-filter (is_idle_for e) start.agents.agents, count_by-le-length (is_idle_for e) start.agents.agents, nine.owners.3));
+        (omega (
+          arith,
+          ap length none,
+          few_told text (idle_agents e (state_of start)) (state_of start),
+          length-filter (is_idle_for e) start.agents.agents,
+          count_by-le-length (is_idle_for e) start.agents.agents,
+          nine.owners.3,
+        ));
     left = ap agent_numbers (sym (armed_idle e (state_of start) arms));
   }
 
@@ -181,11 +199,19 @@ module _ (e : ℕ) (text : List ℕ) (start : Parts) (before : List Effect) wher
       known = ap (agent_of parts.agents.agents) (sym first.number) ∙ stands
 
       pub next_waits : waits_for e parts.agents.agents a ≡ true
-      next_waits = ap (passes (is_idle_for e)) known ∙ find_passes (is_idle_for e) parts.agents.agents first.row (first_found (is_idle_for e) parts.agents.agents first.row first.rest first.is)
+      next_waits = ap (passes (is_idle_for e)) known
+          ∙ find_passes (is_idle_for e) parts.agents.agents first.row (first_found (is_idle_for e) parts.agents.agents first.row first.rest first.is)
 
       -- there are no more agents than 256
       pub next_count : i < 256
-      next_count = omega (arith, within (agent_numbers (event_agents parts.agents.agents e)) i a found, length-map (event_agents parts.agents.agents e) (λ (row : AgentRow). row.number), length-filter (is_for e) parts.agents.agents, count_by-le-length (is_for e) parts.agents.agents, nine_now.owners.3)
+      next_count = omega (
+        arith,
+        within (agent_numbers (event_agents parts.agents.agents e)) i a found,
+        length-map (event_agents parts.agents.agents e) (λ (row : AgentRow). row.number),
+        length-filter (is_for e) parts.agents.agents,
+        count_by-le-length (is_for e) parts.agents.agents,
+        nine_now.owners.3,
+      )
 
       -- an effect at least is told of it, and one may follow
       pub next_room : length after + 2 ≤ 2048
@@ -193,31 +219,38 @@ module _ (e : ℕ) (text : List ℕ) (start : Parts) (before : List Effect) wher
       next_room = omega (
         arith,
         first_room Keeps (idle_agents e) (deliver_to text) (deliver_first e text) 1 start before parts after h.drains first.row first.rest first.is,
-        length-append (effect.Delivered first.row.number first.row.event ∷ []) (post (message text first.row) (record (state_of parts) { agents = with_holding first.row.number true parts.agents.agents })).effects,
+        length-append (effect.Delivered first.row.number first.row.event ∷ []) (post (message text first.row)
+            (record (state_of parts) { agents = with_holding first.row.number true parts.agents.agents })).effects,
       )
 
-      module _ (new : Parts) (now : List Effect) (came : CameTo parts new after now (deliver_to_found text (agent_of parts.agents.agents a) (state_of parts))) where
+      module _ (new : Parts) (now : List Effect)
+          (came : CameTo parts new after now (deliver_to_found text (agent_of parts.agents.agents a) (state_of parts))) where
         moved : CameTo parts new after now (deliver_to text first.row (state_of parts))
         moved = subst (λ (o : Option AgentRow). CameTo parts new after now (deliver_to_found text o (state_of parts))) known came
 
         agents_now : new.agents.agents ≡ with_holding first.row.number true parts.agents.agents
         unfolding and_then
-        agents_now = ap (λ (s : State). s.agents) moved.state ∙ post_agents (message text first.row) (record (state_of parts) { agents = with_holding first.row.number true parts.agents.agents })
+        agents_now = ap (λ (s : State). s.agents) moved.state
+            ∙ post_agents (message text first.row) (record (state_of parts) { agents = with_holding first.row.number true parts.agents.agents })
 
         pub next_fewer : length (idle_agents e (state_of new)) < length (idle_agents e (state_of parts))
-        next_fewer = fewer Keeps (idle_agents e) (deliver_to text) (deliver_first e text) 1 start before parts after h.drains first.row first.rest first.is new now moved
+        next_fewer = fewer Keeps (idle_agents e) (deliver_to text) (deliver_first e text) 1 start before parts after h.drains first.row
+            first.rest first.is new now moved
 
         pub next_delivers : Delivering (i + 1) new now
         next_delivers = record {
-          drains = goes_on Keeps (idle_agents e) (deliver_to text) (deliver_first e text) 1 start before parts after h.drains first.row first.rest first.is new now moved;
+          drains = goes_on Keeps (idle_agents e) (deliver_to text) (deliver_first e text) 1 start before parts after h.drains first.row
+              first.rest first.is new now moved;
           left = ap (λ rows. drop (i + 1) (agent_numbers (event_agents rows e))) agents_now
               ∙ ap (drop (i + 1)) (numbers-holding (is_for e) first.row.number true (λ row. refl) parts.agents.agents)
               ∙ sym first.numbers
               ∙ ap agent_numbers (sym (ap (idle_agents e) moved.state ∙ (deliver_first e text first.row first.rest (state_of parts) nine_now first.is).1));
         }
 
-    pub delivered_all : is_armed start.agents.agents e ≡ true → slice_get (agent_numbers (event_agents parts.agents.agents e)) i ≡ None → CameTo start parts before after (for_each (deliver_to text) (event_agents start.agents.agents e) (state_of start))
+    pub delivered_all : is_armed start.agents.agents e ≡ true → slice_get (agent_numbers (event_agents parts.agents.agents e)) i ≡ None
+        → CameTo start parts before after (for_each (deliver_to text) (event_agents start.agents.agents e) (state_of start))
     delivered_all arms none =
-        subst (λ (rows : List AgentRow). CameTo start parts before after (for_each (deliver_to text) rows (state_of start))) (armed_idle e (state_of start) arms)
+        subst (λ (rows : List AgentRow). CameTo start parts before after (for_each (deliver_to text) rows (state_of start)))
+        (armed_idle e (state_of start) arms)
         (done Keeps (idle_agents e) (deliver_to text) (deliver_first e text) 1 start before parts after h.drains
         (none_of (idle_agents e (state_of parts)) (sym h.left ∙ past_end (agent_numbers (event_agents parts.agents.agents e)) i none)))

@@ -37,7 +37,8 @@ module _ (s : State) (t u : ℕ) where
 told_each : (a : Answer) (us : List ℕ) (s : State) → length (for_each (unblock a) us s).effects ≡ length us
 unfolding for_each and_then
 told_each a [] s = refl
-told_each a (u ∷ us) s = omega (arith, told_each a us (unblock a u s).after, length-append {A = Effect} (unblock a u s).effects (for_each (unblock a) us (unblock a u s).after).effects)
+told_each a (u ∷ us) s = omega
+    (arith, told_each a us (unblock a u s).after, length-append {A = Effect} (unblock a u s).effects (for_each (unblock a) us (unblock a u s).after).effects)
 
 fewer : (p : ThreadRow → Bool) (rows : List ThreadRow) → length (numbers (filter p rows)) ≤ length rows
 fewer p [] = omega arith

@@ -29,7 +29,8 @@ module _ (s : State) (weight : ℕ → ℕ) (found : Option ℕ) (best : FindsBe
   pub ends-not : is_some found ≡ true → ends s ≡ false
   ends-not some = rw goes_on (by_found found s.order best some)
     where
-      by_found : (o : Option ℕ) (order : List ℕ) → FindsBest weight order o → is_some o ≡ true → (is_empty order && list_all (λ row. row.flags.server) s.threads) ≡ false
+      by_found : (o : Option ℕ) (order : List ℕ) → FindsBest weight order o → is_some o ≡ true
+          → (is_empty order && list_all (λ row. row.flags.server) s.threads) ≡ false
       by_found None order empty h = absurd (cc)
       by_found (Some t) [] first h = absurd (no_place t first.after first.before first.splits)
       by_found (Some t) (x ∷ xs) first h = refl

@@ -8,7 +8,8 @@ use Rattle.lwp_types.specs.Case.{refusal_case, silent_case, unless, value_case}
 use Rattle.lwp_types.specs.Choice.{is_eligible, is_eligible_in}
 use Rattle.lwp_types.specs.CountLaws.{count-cons}
 use Rattle.lwp_types.specs.Counts.{is_depth}
-use Rattle.lwp_types.specs.Monitors.{after_monitor_destroy, after_request, cond_enter, depth_in, enter, enter_case, has_waits, is_deepest, is_owned_by_other, monitor_destroy}
+use Rattle.lwp_types.specs.Monitors.{after_monitor_destroy, after_request, cond_enter, depth_in, enter, enter_case}
+use Rattle.lwp_types.specs.Monitors.{has_waits, is_deepest, is_owned_by_other, monitor_destroy}
 use Rattle.lwp_types.specs.MonitorRelease.{is_owned_by, lock_of}
 use Rattle.lwp_types.specs.State.{State, ThreadRow, is_not_blocked, member, passes, still, thread_of}
 use Rattle.lwp_types.specs.declared.call.LwpErr.TheVariants as error
@@ -18,7 +19,8 @@ use Rattle.lwp_types.specs.declared.rows.Lock.{Lock}
 use Rattle.lwp_types.specs.declared.rows.Request.{Request}
 use Rattle.monitors.specs.MonitorTable as mon
 use Rattle.monitors.specs.declared.requests.EntryRequest.{EntryRequest}
-use Rattle.std.proofs.Common.{Bool, List, None, Option, Some, [], ap, arith, count_by, eqb, false, length, map, not, refl, sym, true, ℕ, ◌&&◌, ◌<◌, ◌∙◌, ◌∷◌, ◌≡◌, ◌||◌}
+use Rattle.std.proofs.Common.{Bool, List, None, Option, Some, [], ap, arith, count_by, eqb, false, length}
+use Rattle.std.proofs.Common.{map, not, refl, sym, true, ℕ, ◌&&◌, ◌<◌, ◌∙◌, ◌∷◌, ◌≡◌, ◌||◌}
 use Rattle.std.proofs.lemmas.Bool.{and_parts, eqb-true}
 use Rattle.std.proofs.lemmas.List.{length-map}
 use Rattle.std.specs.List.{list_all, list_any}
@@ -54,24 +56,39 @@ module _ (parts : Parts) (lawful : LawfulParts parts) (t : ℕ) (may : is_eligib
 
   counted : (rs : List EntryRequest) → count_by (mon.is_request_of t) rs ≡ count_by (λ (r : Request). eqb r.tid t) (map mon.machine_row rs)
   counted [] = refl
-  counted (r ∷ rs) = omega (arith, counted rs, count-cons (mon.is_request_of t) r rs, count-cons (λ (r : Request). eqb r.tid t) (mon.machine_row r) (map mon.machine_row rs))
+  counted (r ∷ rs) =
+      omega (arith, counted rs, count-cons (mon.is_request_of t) r rs, count-cons (λ (r : Request). eqb r.tid t) (mon.machine_row r) (map mon.machine_row rs))
 
   -- one that may run has no request, and there is a place for one
   pub asks_nowhere : mon.has_request parts.mons t ≡ false
-  asks_nowhere = none_there (mon.is_request_of t) parts.mons.requests (counted parts.mons.requests ∙ nowhere (λ (r : Request). r.tid) (λ r. r.mon) is_to_enter goal_of (state_of parts).threads (state_of parts).requests stand t row known (enters_not row.block free))
+  asks_nowhere = none_there (mon.is_request_of t) parts.mons.requests (counted parts.mons.requests
+      ∙ nowhere (λ (r : Request). r.tid) (λ r. r.mon) is_to_enter goal_of (state_of parts).threads (state_of parts).requests stand t row
+      known (enters_not row.block free))
 
   pub asks_room : length parts.mons.requests < parts.mons.places
-  asks_room = omega (arith, lawful.step.roomy.requests, length-map parts.mons.requests mon.machine_row, a_place (λ (r : Request). r.tid) (λ r. r.mon) is_to_enter goal_of (state_of parts).threads (state_of parts).requests stand t row known (enters_not row.block free))
+  asks_room =
+      omega (
+        arith,
+        lawful.step.roomy.requests,
+        length-map parts.mons.requests mon.machine_row,
+        a_place (λ (r : Request). r.tid) (λ r. r.mon) is_to_enter goal_of (state_of parts).threads (state_of parts).requests stand t row
+            known (enters_not row.block free),
+      )
 
 -- who is asked for is held
-unwanted-in : (locks : List Lock) (m : ℕ) → lock_of locks m ≡ None → (rs : List EntryRequest) → (members : List ℕ) → list_all (λ (r : Request). member r.mon members && (is_owned_by_other locks r.tid r.mon && is_depth r.depth)) (map mon.machine_row rs) ≡ true → list_any (λ (r : EntryRequest). eqb r.mon m) rs ≡ false
+unwanted-in : (locks : List Lock) (m : ℕ) → lock_of locks m ≡ None → (rs : List EntryRequest) → (members : List ℕ)
+    → list_all (λ (r : Request). member r.mon members && (is_owned_by_other locks r.tid r.mon && is_depth r.depth)) (map mon.machine_row rs) ≡ true
+    → list_any (λ (r : EntryRequest). eqb r.mon m) rs ≡ false
 unwanted-in locks m none [] members all = refl
 unwanted-in locks m none (r ∷ rs) members all =
     let now = and_parts (member r.mon members && (is_owned_by_other locks r.tid r.mon && is_depth r.depth)) _ all in
     by_test (eqb r.mon m) refl (and_parts _ _ (and_parts (member r.mon members) _ now.0).1).0 (unwanted-in locks m none rs members now.1)
   where
-    by_test : (b : Bool) → eqb r.mon m ≡ b → is_owned_by_other locks r.tid r.mon ≡ true → list_any (λ (r : EntryRequest). eqb r.mon m) rs ≡ false → (b || list_any (λ (r : EntryRequest). eqb r.mon m) rs) ≡ false
-    by_test true e other rest = absurd (let no : false ≡ true = ap (λ o. passes (λ lock. not (is_owned_by r.tid lock)) o) (sym none ∙ ap (lock_of locks) (sym (eqb-true r.mon m e))) ∙ other in cc)
+    by_test : (b : Bool) → eqb r.mon m ≡ b → is_owned_by_other locks r.tid r.mon ≡ true
+        → list_any (λ (r : EntryRequest). eqb r.mon m) rs ≡ false → (b || list_any (λ (r : EntryRequest). eqb r.mon m) rs) ≡ false
+    by_test true e other rest = absurd
+        (let no : false ≡ true = ap (λ o. passes (λ lock. not (is_owned_by r.tid lock)) o) (sym none ∙ ap (lock_of locks) (sym (eqb-true r.mon m e))) ∙ other in
+        cc)
     by_test false e other rest = rest
 
 pub unwanted : (parts : Parts) → LawfulParts parts → (m : ℕ) → lock_of parts.mons.locks m ≡ None → mon.is_unwanted parts.mons m ≡ true
@@ -101,7 +118,8 @@ deepest-is s t m own = by_lock (lock_of s.locks m) own
     own_lock true d e = refl
     own_lock false d e = absurd (cc)
 
-    by_lock : (o : Option Lock) → passes (λ lock. not (is_owned_by t lock)) o ≡ false → passes (λ lock. is_owned_by t lock && nat_le 65535 lock.depth) o ≡ nat_le 65535 (unwrap_or (option_map (λ (lock : Lock). lock.depth) o) 0)
+    by_lock : (o : Option Lock) → passes (λ lock. not (is_owned_by t lock)) o ≡ false
+        → passes (λ lock. is_owned_by t lock && nat_le 65535 lock.depth) o ≡ nat_le 65535 (unwrap_or (option_map (λ (lock : Lock). lock.depth) o) 0)
     by_lock None e = refl
     by_lock (Some lock) e = own_lock (is_owned_by t lock) (nat_le 65535 lock.depth) e
 
@@ -161,10 +179,12 @@ module _ (s : State) (m : ℕ) where
   unfolding unless
   destroy-held live held = rw (live, held) refl
 
-  pub destroy-waited : member m s.monitors ≡ true → is_some (lock_of s.locks m) ≡ false → has_waits s m ≡ true → monitor_destroy s m ≡ refusal_case s error.InUse
+  pub destroy-waited : member m s.monitors ≡ true → is_some (lock_of s.locks m) ≡ false → has_waits s m ≡ true
+      → monitor_destroy s m ≡ refusal_case s error.InUse
   unfolding unless
   destroy-waited live free waits = rw (live, free, waits) refl
 
-  pub destroy-idle : member m s.monitors ≡ true → is_some (lock_of s.locks m) ≡ false → has_waits s m ≡ false → monitor_destroy s m ≡ value_case (after_monitor_destroy s m) 0
+  pub destroy-idle : member m s.monitors ≡ true → is_some (lock_of s.locks m) ≡ false → has_waits s m ≡ false
+      → monitor_destroy s m ≡ value_case (after_monitor_destroy s m) 0
   unfolding unless
   destroy-idle live free none = rw (live, free, none) refl

@@ -4,7 +4,8 @@ use Rattle.death_cleanup.specs.declared.parts.Parts.{Parts}
 use Rattle.std.proofs.Common.{Bool, List, ℕ}
 
 -- another order, and other numbers
-pub InStep-levels : (parts : Parts) → InStep parts → (order : List ℕ) (maxpri exit : ℕ) (ended : Bool) → InStep (record parts { sched = record parts.sched { order = order; maxpri = maxpri }; exit = exit; ended = ended })
+pub InStep-levels : (parts : Parts) → InStep parts → (order : List ℕ) (maxpri exit : ℕ) (ended : Bool)
+    → InStep (record parts { sched = record parts.sched { order = order; maxpri = maxpri }; exit = exit; ended = ended })
 InStep-levels parts step order maxpri exit ended = record {
   tied = record { known = step.tied.known; waits = step.tied.waits };
   ranked = record { requests = step.ranked.requests; waits = step.ranked.waits };

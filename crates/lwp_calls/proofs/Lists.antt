@@ -22,8 +22,10 @@ module _ (p : ℕ) (known : List Known) (living : List (ℕ × Kind)) (i n : ℕ
   rows-at = ap (rows_of p known) (drop-some living i (n, k) at)
 
   -- all threads
-  pub listed-thread : (rec : ThreadRec) → k ≡ kind.Thread rec → (list all : List ℕ) → list ++ numbers (rows_of p known (drop i living)) ≡ all → (list ++ n ∷ []) ++ numbers rest ≡ all
-  listed-thread rec is list all so_far = append_assoc list (n ∷ []) (numbers rest) ∙ ap (λ rows. list ++ numbers rows) (sym (rows-at ∙ ap (λ o. row_onto (known_of p known n) n o rest) is)) ∙ so_far
+  pub listed-thread : (rec : ThreadRec) → k ≡ kind.Thread rec → (list all : List ℕ)
+      → list ++ numbers (rows_of p known (drop i living)) ≡ all → (list ++ n ∷ []) ++ numbers rest ≡ all
+  listed-thread rec is list all so_far = append_assoc list (n ∷ []) (numbers rest)
+      ∙ ap (λ rows. list ++ numbers rows) (sym (rows-at ∙ ap (λ o. row_onto (known_of p known n) n o rest) is)) ∙ so_far
 
   pub listed-agent : k ≡ kind.Agent → (list all : List ℕ) → list ++ numbers (rows_of p known (drop i living)) ≡ all → list ++ numbers rest ≡ all
   listed-agent is list all so_far = ap (λ rows. list ++ numbers rows) (sym (rows-at ∙ ap (λ o. row_onto (known_of p known n) n o rest) is)) ∙ so_far
@@ -37,14 +39,19 @@ module _ (p : ℕ) (known : List Known) (living : List (ℕ × Kind)) (i n : ℕ
     those-at kind.Agent b e = rw (sym e) refl
     those-at (kind.Thread rec) b e = rw e (by_test b)
       where
-        by_test : (c : Bool) → numbers (cond c (row_of (known_of p known n) n rec ∷ filter (λ row. awaits x row.block) rest) (filter (λ row. awaits x row.block) rest)) ≡ cond c (n ∷ those rest) (those rest)
+        by_test : (c : Bool)
+            → numbers (cond c (row_of (known_of p known n) n rec ∷ filter (λ row. awaits x row.block) rest) (filter (λ row. awaits x row.block) rest))
+            ≡ cond c (n ∷ those rest) (those rest)
         by_test true = refl
         by_test false = refl
 
-    pub listed-waiter : waits_for awaited.Letter x k ≡ true → (list all : List ℕ) → list ++ those (rows_of p known (drop i living)) ≡ all → (list ++ n ∷ []) ++ those rest ≡ all
-    listed-waiter waits list all so_far = append_assoc list (n ∷ []) (those rest) ∙ ap (λ ns. list ++ ns) (sym (ap those rows-at ∙ those-at k true waits)) ∙ so_far
+    pub listed-waiter : waits_for awaited.Letter x k ≡ true → (list all : List ℕ) → list ++ those (rows_of p known (drop i living)) ≡ all
+        → (list ++ n ∷ []) ++ those rest ≡ all
+    listed-waiter waits list all so_far = append_assoc list (n ∷ []) (those rest)
+        ∙ ap (λ ns. list ++ ns) (sym (ap those rows-at ∙ those-at k true waits)) ∙ so_far
 
-    pub listed-other : waits_for awaited.Letter x k ≡ false → (list all : List ℕ) → list ++ those (rows_of p known (drop i living)) ≡ all → list ++ those rest ≡ all
+    pub listed-other : waits_for awaited.Letter x k ≡ false → (list all : List ℕ) → list ++ those (rows_of p known (drop i living)) ≡ all
+        → list ++ those rest ≡ all
     listed-other waits list all so_far = ap (λ ns. list ++ ns) (sym (ap those rows-at ∙ those-at k false waits)) ∙ so_far
 
   -- whether all serve

@@ -16,7 +16,8 @@ use Rattle.std.specs.Prelude.{is_some, slice_get}
 -- by who lives under the number
 pub flags-under : (parts : Parts) (t : ℕ) (o : Option Kind) → AreRising parts.ids.live → value_of t parts.ids.live ≡ o
     → flags_of (state_of parts) t ≡ option_map (λ (row : ThreadRow). row.flags) (row_under parts.last_prio parts.sched.threads t o)
-flags-under parts t o rising e = ap (option_map (λ (row : ThreadRow). row.flags)) (rows-under parts.last_prio parts.sched.threads t parts.ids.live rising ∙ ap (row_under parts.last_prio parts.sched.threads t) e)
+flags-under parts t o rising e = ap (option_map (λ (row : ThreadRow). row.flags))
+    (rows-under parts.last_prio parts.sched.threads t parts.ids.live rising ∙ ap (row_under parts.last_prio parts.sched.threads t) e)
 
 -- where there are no agents, no event has one
 pub any-none : (e : ℕ) (rows : List AgentRow) → length rows ≡ 0 → list_any (is_for e) rows ≡ false
@@ -28,6 +29,7 @@ pub any-first : (e : ℕ) (rows : List AgentRow) → list_any (is_for e) rows �
 any-first e [] = refl
 any-first e (row ∷ rows) = by_test (is_for e row) (any-first e rows)
   where
-    by_test : (b : Bool) → list_any (is_for e) rows ≡ is_some (nth_of rows e 0) → (b || list_any (is_for e) rows) ≡ is_some (slice_get (agent_numbers (cond b (row ∷ event_agents rows e) (event_agents rows e))) 0)
+    by_test : (b : Bool) → list_any (is_for e) rows ≡ is_some (nth_of rows e 0)
+        → (b || list_any (is_for e) rows) ≡ is_some (slice_get (agent_numbers (cond b (row ∷ event_agents rows e) (event_agents rows e))) 0)
     by_test true rest = refl
     by_test false rest = rest

@@ -14,7 +14,8 @@ use Rattle.lwp_types.specs.CountLaws.{count-append, count-filter, count_agree, c
 use Rattle.lwp_types.specs.Counts.{is_sending, sendings_of}
 use Rattle.lwp_types.specs.Lawful.{NineParts}
 use Rattle.lwp_types.specs.Messages.{as_answer, as_received, is_letter_of, with_reception, next_letter, post, receive_by, send, takes_from}
-use Rattle.lwp_types.specs.State.{State, ThreadRow, agent_numbers, row_with_block, is_agent_row, is_not_blocked, is_number, is_thread, numbers, passes, still, thread_of, times_in, with_block}
+use Rattle.lwp_types.specs.State.{State, ThreadRow, agent_numbers, row_with_block, is_agent_row, is_not_blocked, is_number}
+use Rattle.lwp_types.specs.State.{is_thread, numbers, passes, still, thread_of, times_in, with_block}
 use Rattle.lwp_types.specs.Unblock.{after_block, after_block_for, unblock}
 use Rattle.lwp_types.specs.declared.call.LwpErr.{LwpErr}
 use Rattle.lwp_types.specs.declared.call.LwpErr.TheVariants as error
@@ -28,18 +29,22 @@ use Rattle.lwp_types.specs.declared.call.Answer.TheVariants as answer
 use Rattle.lwp_types.specs.declared.call.Mode.TheVariants as mode
 use Rattle.rendezvous.specs.MessageTable.{MessageTable, after_take, has_letter_of, with_found_received}
 use Rattle.stale_ids.specs.Register.{AreRising, value_of}
-use Rattle.std.proofs.Common.{Bool, List, None, Option, Some, [], ap, arith, cond, eqb, false, length, length-append, map, not, refl, subst, sym, true, ℕ, ◌&&◌, ◌+◌, ◌++◌, ◌<◌, ◌==◌, ◌∙◌, ◌∷◌, ◌≡◌, ◌≤◌}
+use Rattle.std.proofs.Common.{Bool, List, None, Option, Some, [], ap, arith, cond, eqb, false, length, length-append}
+use Rattle.std.proofs.Common.{map, not, refl, subst, sym, true, ℕ, ◌&&◌, ◌+◌, ◌++◌, ◌<◌, ◌==◌, ◌∙◌, ◌∷◌, ◌≡◌, ◌≤◌}
 use Rattle.std.proofs.lemmas.Bool.{eq-eqb, eqb-true, ne_eqb}
 use Rattle.std.specs.List.{filter, find}
 use Rattle.std.specs.Prelude.{is_some, option_map}
 
 -- a call that is refused by the first of its checks that strikes, or isn't refused
-pub unless_struck : (s : State) (checks : List Check) (otherwise : Case) (e : LwpErr) → first_refusal checks ≡ Some e → unless s checks otherwise ≡ refusal_case s e
+pub unless_struck : (s : State) (checks : List Check) (otherwise : Case) (e : LwpErr) → first_refusal checks ≡ Some e
+    → unless s checks otherwise ≡ refusal_case s e
 unfolding unless
 unless_struck s [] otherwise e struck = absurd (cc)
 unless_struck s (check ∷ checks) otherwise e struck = by_check check.0 struck (unless_struck s checks otherwise e)
   where
-    by_check : (b : Bool) → cond b (Some check.1) (first_refusal checks) ≡ Some e → (first_refusal checks ≡ Some e → unless s checks otherwise ≡ refusal_case s e) → cond b (refusal_case s check.1) (unless s checks otherwise) ≡ refusal_case s e
+    by_check : (b : Bool) → cond b (Some check.1) (first_refusal checks) ≡ Some e
+        → (first_refusal checks ≡ Some e → unless s checks otherwise ≡ refusal_case s e)
+        → cond b (refusal_case s check.1) (unless s checks otherwise) ≡ refusal_case s e
     by_check true h rest = let same : check.1 ≡ e = cc in ap (refusal_case s) same
     by_check false h rest = rest h
 
@@ -48,14 +53,17 @@ unfolding unless
 unless_passed s [] otherwise passed = refl
 unless_passed s (check ∷ checks) otherwise passed = by_check check.0 passed (unless_passed s checks otherwise)
   where
-    by_check : (b : Bool) → cond b (Some check.1) (first_refusal checks) ≡ None → (first_refusal checks ≡ None → unless s checks otherwise ≡ otherwise) → cond b (refusal_case s check.1) (unless s checks otherwise) ≡ otherwise
+    by_check : (b : Bool) → cond b (Some check.1) (first_refusal checks) ≡ None
+        → (first_refusal checks ≡ None → unless s checks otherwise ≡ otherwise) → cond b (refusal_case s check.1) (unless s checks otherwise) ≡ otherwise
     by_check true h rest = absurd (cc)
     by_check false h rest = rest h
 
 -- what is asked of a thread, by who lives under its number
 pub taking-under : (parts : Parts) (t sender : ℕ) (o : Option Kind) → AreRising parts.ids.live → value_of t parts.ids.live ≡ o
-    → option_map (λ (row : ThreadRow). takes_from sender row.block) (thread_of (state_of parts) t) ≡ option_map (λ (row : ThreadRow). takes_from sender row.block) (row_under parts.last_prio parts.sched.threads t o)
-taking-under parts t sender o rising e = ap (option_map (λ (row : ThreadRow). takes_from sender row.block)) (rows-under parts.last_prio parts.sched.threads t parts.ids.live rising ∙ ap (row_under parts.last_prio parts.sched.threads t) e)
+    → option_map (λ (row : ThreadRow). takes_from sender row.block) (thread_of (state_of parts) t)
+    ≡ option_map (λ (row : ThreadRow). takes_from sender row.block) (row_under parts.last_prio parts.sched.threads t o)
+taking-under parts t sender o rising e = ap (option_map (λ (row : ThreadRow). takes_from sender row.block))
+    (rows-under parts.last_prio parts.sched.threads t parts.ids.live rising ∙ ap (row_under parts.last_prio parts.sched.threads t) e)
 
 -- what is asked of who is there, and that nobody is there
 module _ {A : Type 0} (q : A → Bool) where
@@ -89,7 +97,9 @@ row_kept t u away b (row ∷ rows) = by_test (is_number u row) refl (row_kept t 
     by_test false e rest = rest
 
 -- what another thread takes is what it took before the caller waited
-pub taken-still : (s : State) (t u : ℕ) → eqb t u ≡ false → (b : Block) → passes (λ (row : ThreadRow). takes_from t row.block) (thread_of (after_block s t b) u) ≡ passes (λ (row : ThreadRow). takes_from t row.block) (thread_of s u)
+pub taken-still : (s : State) (t u : ℕ) → eqb t u ≡ false → (b : Block)
+    → passes (λ (row : ThreadRow). takes_from t row.block) (thread_of (after_block s t b) u)
+    ≡ passes (λ (row : ThreadRow). takes_from t row.block) (thread_of s u)
 taken-still s t u away b = ap (passes (λ (row : ThreadRow). takes_from t row.block)) (row_kept t u away b s.threads)
 
 -- who takes a letter waits
@@ -117,15 +127,18 @@ module _ (s : State) (t to room : ℕ) (text : List ℕ) where
   unfolding unless
   send-self there same = rw (there, same) refl
 
-  pub send-made : is_thread s to ≡ true → eqb t to ≡ false → send s t to room text ≡ silent_case (post (record { from = t; to = to; text = text; room = room; received = false }) (after_block s t block.Sending))
+  pub send-made : is_thread s to ≡ true → eqb t to ≡ false
+      → send s t to room text ≡ silent_case (post (record { from = t; to = to; text = text; room = room; received = false }) (after_block s t block.Sending))
   unfolding unless
   send-made there other = rw (there, other) refl
 
 -- a letter that finds its taker, and one that doesn't
-pub post-taken : (s : State) (letter : Letter) → passes (λ row. takes_from letter.from row.block) (thread_of s letter.to) ≡ true → post letter s ≡ unblock (as_answer letter) letter.to (record s { letters = s.letters ++ as_received letter ∷ [] })
+pub post-taken : (s : State) (letter : Letter) → passes (λ row. takes_from letter.from row.block) (thread_of s letter.to) ≡ true
+    → post letter s ≡ unblock (as_answer letter) letter.to (record s { letters = s.letters ++ as_received letter ∷ [] })
 post-taken s letter taken = rw taken refl
 
-pub post-kept : (s : State) (letter : Letter) → passes (λ row. takes_from letter.from row.block) (thread_of s letter.to) ≡ false → post letter s ≡ still (record s { letters = s.letters ++ letter ∷ [] })
+pub post-kept : (s : State) (letter : Letter) → passes (λ row. takes_from letter.from row.block) (thread_of s letter.to) ≡ false
+    → post letter s ≡ still (record s { letters = s.letters ++ letter ∷ [] })
 post-kept s letter kept = rw kept refl
 
 -- how many letters there are
@@ -144,21 +157,26 @@ module _ (s : State) (was : NineParts s None) where
   times-senders : (n : ℕ) → times_in senders n ≡ sendings_of s n
   times-senders n = omega (
     arith,
-    count-append (λ m. eqb m n) (numbers (filter (λ (row : ThreadRow). is_sending row.block) s.threads)) (agent_numbers (filter (λ (row : AgentRow). row.holding) s.agents)),
+    count-append (λ m. eqb m n) (numbers (filter (λ (row : ThreadRow). is_sending row.block) s.threads))
+        (agent_numbers (filter (λ (row : AgentRow). row.holding) s.agents)),
     times-keys (λ (row : ThreadRow). row.number) (filter (λ (row : ThreadRow). is_sending row.block) s.threads) n,
     times-keys (λ (row : AgentRow). row.number) (filter (λ (row : AgentRow). row.holding) s.agents) n,
     count-filter (λ (row : ThreadRow). is_number n row) (λ (row : ThreadRow). is_sending row.block) s.threads,
     count-filter (λ (row : AgentRow). is_agent_row n row) (λ (row : AgentRow). row.holding) s.agents,
-    count_agree (λ (row : ThreadRow). is_sending row.block && is_number n row) (λ (row : ThreadRow). is_number n row && is_sending row.block) (λ row. swap (is_sending row.block) (is_number n row)) s.threads,
-    count_agree (λ (row : AgentRow). row.holding && is_agent_row n row) (λ (row : AgentRow). is_agent_row n row && row.holding) (λ row. swap row.holding (is_agent_row n row)) s.agents,
+    count_agree (λ (row : ThreadRow). is_sending row.block && is_number n row)
+        (λ (row : ThreadRow). is_number n row && is_sending row.block) (λ row. swap (is_sending row.block) (is_number n row)) s.threads,
+    count_agree (λ (row : AgentRow). row.holding && is_agent_row n row) (λ (row : AgentRow). is_agent_row n row && row.holding)
+        (λ row. swap row.holding (is_agent_row n row)) s.agents,
   )
 
   -- as many letters as senders
-  pub letters-count : length s.letters ≡ length (filter (λ (row : ThreadRow). is_sending row.block) s.threads) + length (filter (λ (row : AgentRow). row.holding) s.agents)
+  pub letters-count : length s.letters
+      ≡ length (filter (λ (row : ThreadRow). is_sending row.block) s.threads) + length (filter (λ (row : AgentRow). row.holding) s.agents)
   letters-count = omega (
     arith,
     length-keys (λ (letter : Letter). letter.from) s.letters,
-    as_long (map (λ (letter : Letter). letter.from) s.letters) senders (λ n. times-keys (λ (letter : Letter). letter.from) s.letters n ∙ was.blocks.1 n ∙ sym (times-senders n)),
+    as_long (map (λ (letter : Letter). letter.from) s.letters) senders
+        (λ n. times-keys (λ (letter : Letter). letter.from) s.letters n ∙ was.blocks.1 n ∙ sym (times-senders n)),
     length-append (numbers (filter (λ (row : ThreadRow). is_sending row.block) s.threads)) (agent_numbers (filter (λ (row : AgentRow). row.holding) s.agents)),
     length-keys (λ (row : ThreadRow). row.number) (filter (λ (row : ThreadRow). is_sending row.block) s.threads),
     length-keys (λ (row : AgentRow). row.number) (filter (λ (row : AgentRow). row.holding) s.agents),
@@ -181,7 +199,8 @@ filter-less p q (y ∷ ys) x found fails = by_head (q y) found (λ later. filter
     by_test true rest = omega (arith, rest)
     by_test false rest = omega (arith, rest)
 
-    by_head : (c : Bool) → cond c (Some y) (find q ys) ≡ Some x → (find q ys ≡ Some x → length (filter p ys) < length ys) → length (filter p (y ∷ ys)) < length (y ∷ ys)
+    by_head : (c : Bool) → cond c (Some y) (find q ys) ≡ Some x → (find q ys ≡ Some x → length (filter p ys) < length ys)
+        → length (filter p (y ∷ ys)) < length (y ∷ ys)
     by_head true here rest =
         let same : y ≡ x = cc in
         let out : p y ≡ false = ap p same ∙ fails in
@@ -224,7 +243,8 @@ module _ (s : State) (was : NineParts s None) (t : ℕ) (row : ThreadRow) (known
   no_letter = none_there (is_letter_of t) s.letters (omega (
     arith,
     was.blocks.1 t,
-    count_found_and (is_number t) (λ (r : ThreadRow). is_sending r.block) s.threads row known (omega (arith, once_rising (numbers s.threads) was.numbers.0.0 t, times-keys (λ (r : ThreadRow). r.number) s.threads t)),
+    count_found_and (is_number t) (λ (r : ThreadRow). is_sending r.block) s.threads row known
+        (omega (arith, once_rising (numbers s.threads) was.numbers.0.0 t, times-keys (λ (r : ThreadRow). r.number) s.threads t)),
     ap one not_sending,
     count_and-le (is_agent_row t) (λ (r : AgentRow). r.holding) s.agents,
     count_not_found (is_agent_row t) s.agents no_agent,
@@ -255,7 +275,8 @@ module _ (s : State) (was : NineParts s None) (row : AgentRow) (own : find (is_a
     was.blocks.1 row.number,
     count_and-le (is_number row.number) (λ (r : ThreadRow). is_sending r.block) s.threads,
     count_not_found (is_number row.number) s.threads no_thread,
-    count_found_and (is_agent_row row.number) (λ (r : AgentRow). r.holding) s.agents row own (omega (arith, once_rising (agent_numbers s.agents) was.numbers.0.1 row.number, times-keys (λ (r : AgentRow). r.number) s.agents row.number)),
+    count_found_and (is_agent_row row.number) (λ (r : AgentRow). r.holding) s.agents row own
+        (omega (arith, once_rising (agent_numbers s.agents) was.numbers.0.1 row.number, times-keys (λ (r : AgentRow). r.number) s.agents row.number)),
     ap one free,
   ))
 
@@ -268,7 +289,8 @@ module _ (parts : Parts) (t : ℕ) (from : Option ℕ) where
   after = record parts { mail = after_take parts.mail t from }
 
   pub received-is : (how : Mode) (letter : Letter) → option_map as_received (next_letter s.letters t from) ≡ Some letter
-      → receive_by s t from how (next_letter s.letters t from) ≡ record { after = state_of after; others = []; own = Some (answer.Letter letter.from letter.text letter.room) }
+      → receive_by s t from how (next_letter s.letters t from)
+      ≡ record { after = state_of after; others = []; own = Some (answer.Letter letter.from letter.text letter.room) }
   received-is how letter given = by_found (next_letter s.letters t from) refl given
     where
       by_found : (o : Option Letter) → next_letter s.letters t from ≡ o → option_map as_received o ≡ Some letter
@@ -276,8 +298,15 @@ module _ (parts : Parts) (t : ℕ) (from : Option ℕ) where
       by_found None e h = absurd (cc)
       by_found (Some l) e h =
           let same : as_received l ≡ letter = (let k : Some (as_received l) ≡ Some letter = h in cc) in
-          ap (λ (x : Letter). record { after = record s { letters = with_reception l.from s.letters }; others = []; own = Some (answer.Letter x.from x.text x.room) }) same
-          ∙ ap (λ o. record { after = record s { letters = with_found_received o s.letters }; others = []; own = Some (answer.Letter letter.from letter.text letter.room) }) (sym e)
+          ap (λ (x : Letter).
+          record { after = record s { letters = with_reception l.from s.letters }; others = []; own = Some (answer.Letter x.from x.text x.room) })
+          same
+          ∙ ap (λ o. record {
+            after = record s { letters = with_found_received o s.letters };
+            others = [];
+            own = Some (answer.Letter letter.from letter.text letter.room);
+          })
+          (sym e)
 
   nothing : option_map as_received (next_letter s.letters t from) ≡ None → next_letter s.letters t from ≡ None
   nothing given = by_found (next_letter s.letters t from) given
@@ -290,17 +319,22 @@ module _ (parts : Parts) (t : ℕ) (from : Option ℕ) where
   pub untouched : option_map as_received (next_letter s.letters t from) ≡ None → after_take parts.mail t from ≡ parts.mail
   untouched given = ap (λ o. record parts.mail { letters = with_found_received o parts.mail.letters }) (nothing given)
 
-  pub polled-is : option_map as_received (next_letter s.letters t from) ≡ None → receive_by s t from mode.Poll (next_letter s.letters t from) ≡ refusal_case s error.Timeout
+  pub polled-is : option_map as_received (next_letter s.letters t from) ≡ None
+      → receive_by s t from mode.Poll (next_letter s.letters t from) ≡ refusal_case s error.Timeout
   polled-is given = ap (receive_by s t from mode.Poll) (nothing given)
 
-  pub awaited-is : option_map as_received (next_letter s.letters t from) ≡ None → receive_by s t from mode.Block (next_letter s.letters t from) ≡ silent_case (still (after_block s t (block.Receiving from)))
+  pub awaited-is : option_map as_received (next_letter s.letters t from) ≡ None
+      → receive_by s t from mode.Block (next_letter s.letters t from) ≡ silent_case (still (after_block s t (block.Receiving from)))
   awaited-is given = ap (receive_by s t from mode.Block) (nothing given)
 
   timed-is : (ticks : ℕ) (b : Bool) → (ticks == 0) ≡ b → option_map as_received (next_letter s.letters t from) ≡ None
-      → receive_by s t from (mode.Until ticks) (next_letter s.letters t from) ≡ cond b (refusal_case s error.Timeout) (silent_case (still (after_block_for s t (block.Receiving from) ticks)))
-  timed-is ticks b test given = ap (receive_by s t from (mode.Until ticks)) (nothing given) ∙ ap (λ (x : Bool). cond x (refusal_case s error.Timeout) (silent_case (still (after_block_for s t (block.Receiving from) ticks)))) test
+      → receive_by s t from (mode.Until ticks) (next_letter s.letters t from)
+      ≡ cond b (refusal_case s error.Timeout) (silent_case (still (after_block_for s t (block.Receiving from) ticks)))
+  timed-is ticks b test given = ap (receive_by s t from (mode.Until ticks)) (nothing given)
+      ∙ ap (λ (x : Bool). cond x (refusal_case s error.Timeout) (silent_case (still (after_block_for s t (block.Receiving from) ticks)))) test
 
-  pub timed_out-is : (ticks : ℕ) → ticks ≡ 0 → option_map as_received (next_letter s.letters t from) ≡ None → receive_by s t from (mode.Until ticks) (next_letter s.letters t from) ≡ refusal_case s error.Timeout
+  pub timed_out-is : (ticks : ℕ) → ticks ≡ 0 → option_map as_received (next_letter s.letters t from) ≡ None
+      → receive_by s t from (mode.Until ticks) (next_letter s.letters t from) ≡ refusal_case s error.Timeout
   timed_out-is ticks none given = timed-is ticks true (eq-eqb ticks 0 none) given
 
   pub timed_await-is : (ticks : ℕ) → (ticks ≡ 0 → ⊥) → option_map as_received (next_letter s.letters t from) ≡ None
@@ -317,7 +351,9 @@ pub awaited_comes : (parts new : Parts) (t : ℕ) (from : Option ℕ) (mail : Me
     → made ≡ silent_case (still (after_block (state_of parts) t (block.Receiving from))) → ComesTo parts new [] [] made None
 awaited_comes parts new t from mail made same came is =
     let there : CameTo parts new [] [] (still (after_block (state_of parts) t (block.Receiving from))) =
-    subst (λ (m : MessageTable). CameTo (record parts { mail = m }) new [] [] (still (after_block (state_of (record parts { mail = m })) t (block.Receiving from)))) same came in
+    subst (λ (m : MessageTable).
+    CameTo (record parts { mail = m }) new [] [] (still (after_block (state_of (record parts { mail = m })) t (block.Receiving from))))
+    same came in
     rw is (record { came = there; own = refl })
 
 -- and for no more than so many ticks
@@ -326,5 +362,7 @@ pub timed_comes : (parts new : Parts) (t : ℕ) (from : Option ℕ) (ticks : ℕ
     → made ≡ silent_case (still (after_block_for (state_of parts) t (block.Receiving from) ticks)) → ComesTo parts new [] [] made None
 timed_comes parts new t from ticks mail made same came is =
     let there : CameTo parts new [] [] (still (after_block_for (state_of parts) t (block.Receiving from) ticks)) =
-    subst (λ (m : MessageTable). CameTo (record parts { mail = m }) new [] [] (still (after_block_for (state_of (record parts { mail = m })) t (block.Receiving from) ticks))) same came in
+    subst (λ (m : MessageTable).
+    CameTo (record parts { mail = m }) new [] [] (still (after_block_for (state_of (record parts { mail = m })) t (block.Receiving from) ticks)))
+    same came in
     rw is (record { came = there; own = refl })

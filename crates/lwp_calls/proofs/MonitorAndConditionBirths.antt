@@ -25,14 +25,24 @@ module _ (parts : Parts) (step : InStep parts) where
   pub InStep-monitor : InStep with_monitor
   InStep-monitor = by_full (mon.is_full parts.mons)
     where
-      by_full : (b : Bool) → InStep (record parts { mons = cond b parts.mons (record parts.mons { monitors = parts.mons.monitors ++ parts.mons.births ∷ []; births = parts.mons.births + 1 }) })
+      by_full : (b : Bool)
+          → InStep (record parts {
+            mons = cond b parts.mons (record parts.mons { monitors = parts.mons.monitors ++ parts.mons.births ∷ []; births = parts.mons.births + 1 });
+          })
       by_full true = step
-      by_full false = InStep-monitors parts step (record parts.mons { monitors = parts.mons.monitors ++ parts.mons.births ∷ []; births = parts.mons.births + 1 }) step.ranked.requests refl refl
+      by_full false = InStep-monitors parts step
+          (record parts.mons { monitors = parts.mons.monitors ++ parts.mons.births ∷ []; births = parts.mons.births + 1 }) step.ranked.requests refl refl
 
   pub monitor-none : None ≡ mon.newborn parts.mons → monitor_create (state_of parts) ≡ refusal_case (state_of with_monitor) error.NoRoom
-  monitor-none none = births_agree parts.mons (state_of parts) step.monitors ∙ ap (λ o. birth_case o (state_of parts) (state_of with_monitor)) (sym none) ∙ ap (λ (s : State). refusal_case s error.NoRoom) (by_full (mon.is_full parts.mons) none)
+  monitor-none none = births_agree parts.mons (state_of parts) step.monitors
+      ∙ ap (λ o. birth_case o (state_of parts) (state_of with_monitor)) (sym none)
+      ∙ ap (λ (s : State). refusal_case s error.NoRoom) (by_full (mon.is_full parts.mons) none)
     where
-      by_full : (b : Bool) → None ≡ cond b None (Some parts.mons.births) → state_of parts ≡ state_of (record parts { mons = cond b parts.mons (record parts.mons { monitors = parts.mons.monitors ++ parts.mons.births ∷ []; births = parts.mons.births + 1 }) })
+      by_full : (b : Bool) → None ≡ cond b None (Some parts.mons.births)
+          → state_of parts
+          ≡ state_of (record parts {
+            mons = cond b parts.mons (record parts.mons { monitors = parts.mons.monitors ++ parts.mons.births ∷ []; births = parts.mons.births + 1 });
+          })
       by_full true e = refl
       by_full false e = absurd (cc)
 
@@ -59,7 +69,8 @@ module _ (parts : Parts) (step : InStep parts) (m : ℕ) where
 
   module _ (live : member m parts.mons.monitors ≡ true) where
     abbrev tried : Bool → Bool → Case
-    tried full last = cond full (refusal_case (state_of parts) error.NoRoom) (cond last (refusal_case (state_of parts) error.NoRoom) (answer_case (state_of (record parts { conds = one_more })) (answer.Cond parts.conds.births)))
+    tried full last = cond full (refusal_case (state_of parts) error.NoRoom)
+        (cond last (refusal_case (state_of parts) error.NoRoom) (answer_case (state_of (record parts { conds = one_more })) (answer.Cond parts.conds.births)))
 
     is-tried : condition_create (state_of parts) m ≡ tried (nat_le 256 (length parts.conds.conditions)) (nat_le parts.conds.limit parts.conds.births)
     unfolding unless
@@ -68,15 +79,19 @@ module _ (parts : Parts) (step : InStep parts) (m : ℕ) where
     pub condition-none : None ≡ table.newborn parts.conds → condition_create (state_of parts) m ≡ refusal_case (state_of with_condition) error.NoRoom
     condition-none none = is-tried ∙ by_tests (nat_le 256 (length parts.conds.conditions)) (nat_le parts.conds.limit parts.conds.births) none
       where
-        by_tests : (full last : Bool) → None ≡ cond (full || last) None (Some parts.conds.births) → tried full last ≡ refusal_case (state_of (record parts { conds = cond (full || last) parts.conds one_more })) error.NoRoom
+        by_tests : (full last : Bool) → None ≡ cond (full || last) None (Some parts.conds.births)
+            → tried full last ≡ refusal_case (state_of (record parts { conds = cond (full || last) parts.conds one_more })) error.NoRoom
         by_tests true last e = refl
         by_tests false true e = refl
         by_tests false false e = absurd (cc)
 
-    pub condition-some : (n : ℕ) → Some n ≡ table.newborn parts.conds → condition_create (state_of parts) m ≡ answer_case (state_of with_condition) (answer.Cond n)
+    pub condition-some : (n : ℕ) → Some n ≡ table.newborn parts.conds
+        → condition_create (state_of parts) m ≡ answer_case (state_of with_condition) (answer.Cond n)
     condition-some n some = is-tried ∙ by_tests (nat_le 256 (length parts.conds.conditions)) (nat_le parts.conds.limit parts.conds.births) some
       where
-        by_tests : (full last : Bool) → Some n ≡ cond (full || last) None (Some parts.conds.births) → tried full last ≡ answer_case (state_of (record parts { conds = cond (full || last) parts.conds one_more })) (answer.Cond n)
+        by_tests : (full last : Bool) → Some n ≡ cond (full || last) None (Some parts.conds.births)
+            → tried full last ≡ answer_case (state_of (record parts { conds = cond (full || last) parts.conds one_more })) (answer.Cond n)
         by_tests true last e = absurd (cc)
         by_tests false true e = absurd (cc)
-        by_tests false false e = ap (λ k. answer_case (state_of (record parts { conds = one_more })) (answer.Cond k)) (let same : n ≡ parts.conds.births = cc in sym same)
+        by_tests false false e =
+            ap (λ k. answer_case (state_of (record parts { conds = one_more })) (answer.Cond k)) (let same : n ≡ parts.conds.births = cc in sym same)

@@ -27,24 +27,38 @@ grown parts i s m q w n = record parts {
   named = record parts.named { places = n };
 }
 
-pub InStep-grown : (parts : Parts) → InStep parts → (i s m q w n : ℕ) → parts.sched.places ≤ s → parts.mail.places ≤ m → parts.mons.places ≤ q → parts.conds.places ≤ w → parts.named.places ≤ n → InStep (grown parts i s m q w n)
+pub InStep-grown : (parts : Parts) → InStep parts → (i s m q w n : ℕ) → parts.sched.places ≤ s → parts.mail.places ≤ m
+    → parts.mons.places ≤ q → parts.conds.places ≤ w → parts.named.places ≤ n → InStep (grown parts i s m q w n)
 InStep-grown parts step i s m q w n more-s more-m more-q more-w more-n = record {
   tied = record { known = step.tied.known; waits = step.tied.waits };
   ranked = record { requests = step.ranked.requests; waits = step.ranked.waits };
-  roomy = record { letters = omega (arith, more-m, step.roomy.letters); threads = omega (arith, more-s, step.roomy.threads); requests = omega (arith, more-q, step.roomy.requests); waits = omega (arith, more-w, step.roomy.waits) };
+  roomy = record {
+    letters = omega (arith, more-m, step.roomy.letters);
+    threads = omega (arith, more-s, step.roomy.threads);
+    requests = omega (arith, more-q, step.roomy.requests);
+    waits = omega (arith, more-w, step.roomy.waits);
+  };
   monitors = step.monitors;
   conditions = step.conditions;
   noted = noted-roomier parts.named n parts.ids.live more-n step.noted;
 }
 
-pub came_grown : (parts : Parts) → InStep parts → (i s m q w n : ℕ) → parts.sched.places ≤ s → parts.mail.places ≤ m → parts.mons.places ≤ q → parts.conds.places ≤ w → parts.named.places ≤ n → CameTo parts (grown parts i s m q w n) [] [] (still (state_of parts))
-came_grown parts step i s m q w n more-s more-m more-q more-w more-n = record { state = refl; effects = refl; step = InStep-grown parts step i s m q w n more-s more-m more-q more-w more-n; dying = refl }
+pub came_grown : (parts : Parts) → InStep parts → (i s m q w n : ℕ) → parts.sched.places ≤ s → parts.mail.places ≤ m → parts.mons.places ≤ q
+    → parts.conds.places ≤ w → parts.named.places ≤ n → CameTo parts (grown parts i s m q w n) [] [] (still (state_of parts))
+came_grown parts step i s m q w n more-s more-m more-q more-w more-n = record {
+  state = refl;
+  effects = refl;
+  step = InStep-grown parts step i s m q w n more-s more-m more-q more-w more-n;
+  dying = refl;
+}
 
 -- each that lives was born, so that no more live than were born
-born_from : (low births : ℕ) (living : List (ℕ × Kind)) → low ≤ births → AllByRecursion (λ (p : ℕ × Kind). low ≤ p.0) living → AreRising living → AreBorn births living → length living + low ≤ births
+born_from : (low births : ℕ) (living : List (ℕ × Kind)) → low ≤ births → AllByRecursion (λ (p : ℕ × Kind). low ≤ p.0) living
+    → AreRising living → AreBorn births living → length living + low ≤ births
 born_from low births [] least lows rising born = omega arith
 born_from low births (p ∷ living) least lows rising born =
-    let later = born_from (p.0 + 1) births living (let less : p.0 < births = born.0 in omega arith) (All-weaker (λ (q : ℕ × Kind). p.0 < q.0) (λ (q : ℕ × Kind). p.0 + 1 ≤ q.0) (λ q less. omega arith) living rising.0) rising.1 born.1 in
+    let later = born_from (p.0 + 1) births living (let less : p.0 < births = born.0 in omega arith)
+    (All-weaker (λ (q : ℕ × Kind). p.0 < q.0) (λ (q : ℕ × Kind). p.0 + 1 ≤ q.0) (λ q less. omega arith) living rising.0) rising.1 born.1 in
     let above : low ≤ p.0 = lows.0 in
     omega (arith, later, above)
 
@@ -66,14 +80,20 @@ agents_grown parts i a m = record parts {
   mail = record parts.mail { places = m };
 }
 
-pub came_agents_grown : (parts : Parts) → InStep parts → (i a m : ℕ) → parts.mail.places ≤ m → CameTo parts (agents_grown parts i a m) [] [] (still (state_of parts))
+pub came_agents_grown : (parts : Parts) → InStep parts → (i a m : ℕ) → parts.mail.places ≤ m
+    → CameTo parts (agents_grown parts i a m) [] [] (still (state_of parts))
 came_agents_grown parts step i a m more = record {
   state = refl;
   effects = refl;
   step = record {
     tied = record { known = step.tied.known; waits = step.tied.waits };
     ranked = record { requests = step.ranked.requests; waits = step.ranked.waits };
-    roomy = record { letters = omega (arith, more, step.roomy.letters); threads = step.roomy.threads; requests = step.roomy.requests; waits = step.roomy.waits };
+    roomy = record {
+      letters = omega (arith, more, step.roomy.letters);
+      threads = step.roomy.threads;
+      requests = step.roomy.requests;
+      waits = step.roomy.waits;
+    };
     monitors = step.monitors;
     conditions = step.conditions;
     noted = step.noted;

@@ -18,7 +18,8 @@ use Rattle.pod_laws.proofs.Died.{the_dead_are_forgotten}
 use Rattle.pod_laws.proofs.EveryStep.{Lawful-step}
 use Rattle.pod_laws.proofs.OnceCalls.{exits_run_once}
 use Rattle.pod_laws.proofs.Refusals.{refused_step}
-use Rattle.std.proofs.Common.{Bool, List, None, Option, Some, [], ap, append_assoc, arith, cond, eqb, false, inl, inr, refl, subst, sym, true, ℕ, ◌&&◌, ◌++◌, ◌<◌, ◌∙◌, ◌∷◌, ◌≡◌, ◌≤◌}
+use Rattle.std.proofs.Common.{Bool, List, None, Option, Some, [], ap, append_assoc, arith, cond, eqb, false}
+use Rattle.std.proofs.Common.{inl, inr, refl, subst, sym, true, ℕ, ◌&&◌, ◌++◌, ◌<◌, ◌∙◌, ◌∷◌, ◌≡◌, ◌≤◌}
 use Rattle.std.proofs.lemmas.Bool.{cases_lt, eq-eqb, ne_eqb}
 use Rattle.std.specs.Prelude.{IfNone, IfSome, IsTrue, is_some}
 use Rattle.std.specs.Slice.Scan.{HoldsNowhere, IsFirstPlace}
@@ -33,7 +34,8 @@ pub first-known : {A B : Type 0} (c : Bool) (a : A) (b : B) → is_some (cond c 
 first-known true a b = refl
 first-known false a b = refl
 
-pub first-waits : {A B : Type 0} (f : A → Bool) (g : B → Bool) (c : Bool) (a : A) (b : B) → f a ≡ false → g b ≡ false → passes f (cond c (Some a) None) ≡ passes g (cond c (Some b) None)
+pub first-waits : {A B : Type 0} (f : A → Bool) (g : B → Bool) (c : Bool) (a : A) (b : B) → f a ≡ false → g b ≡ false
+    → passes f (cond c (Some a) None) ≡ passes g (cond c (Some b) None)
 first-waits f g true a b free unblocked = free ∙ sym unblocked
 first-waits f g false a b free unblocked = refl
 
@@ -87,10 +89,13 @@ module _ (s : State) (lawful : Lawful s None) (c : Call) (t : ℕ) (turn : curre
     stepped = ap (λ (out : Outcome). out.after) (step-chosen s t c turn) ∙ ap (λ (now : State). record now { ended = ends now }) (sym carried)
 
     -- and its effects, after the call itself
-    pub told : (before after last : List Effect) → before ≡ [] → after ≡ before ++ ((case_of s t c).others ++ own_effects t (case_of s t c).own) → last ≡ after ++ end_effects (state_of parts) → call_effects (current_of s) c ++ last ≡ (step s c).effects
+    pub told : (before after last : List Effect) → before ≡ []
+        → after ≡ before ++ ((case_of s t c).others ++ own_effects t (case_of s t c).own) → last ≡ after ++ end_effects (state_of parts)
+        → call_effects (current_of s) c ++ last ≡ (step s c).effects
     told before after last none tells ends =
         ap (λ o. call_effects o c ++ last) turn
-        ∙ ap (λ es. effect.Called t c ∷ es) (ends ∙ ap (λ es. es ++ end_effects (state_of parts)) (tells ∙ ap (λ es. es ++ ((case_of s t c).others ++ own_effects t (case_of s t c).own)) none))
+        ∙ ap (λ es. effect.Called t c ∷ es)
+        (ends ∙ ap (λ es. es ++ end_effects (state_of parts)) (tells ∙ ap (λ es. es ++ ((case_of s t c).others ++ own_effects t (case_of s t c).own)) none))
         ∙ ap (λ es. effect.Called t c ∷ es) (append_assoc (case_of s t c).others (own_effects t (case_of s t c).own) (end_effects (state_of parts)))
         ∙ ap (λ now. effect.Called t c ∷ ((case_of s t c).others ++ (own_effects t (case_of s t c).own ++ end_effects now))) carried
         ∙ sym (ap (λ (out : Outcome). out.effects) (step-chosen s t c turn))
@@ -108,16 +113,19 @@ runs-behind : (s now : State) (o : Option ℕ) (c : Call) (es : List Effect) →
 runs-behind s now None c es h = h
 runs-behind s now (Some t) c es h = h
 
-module _ (s now : State) (lawful : Lawful s None) (c : Call) (es : List Effect) (after : now ≡ (step s c).after) (effects : call_effects (current_of s) c ++ es ≡ (step s c).effects) where
+module _ (s now : State) (lawful : Lawful s None) (c : Call) (es : List Effect) (after : now ≡ (step s c).after)
+    (effects : call_effects (current_of s) c ++ es ≡ (step s c).effects) where
   -- one that died is forgotten
   pub forgets : ForgetsTheDead now es
   forgets = forgets-behind now (current_of s) c es
-      (subst (λ (x : State). ForgetsTheDead x (call_effects (current_of s) c ++ es)) (sym after) (subst (λ (told : List Effect). ForgetsTheDead (step s c).after told) (sym effects) (the_dead_are_forgotten s lawful c)))
+      (subst (λ (x : State). ForgetsTheDead x (call_effects (current_of s) c ++ es)) (sym after)
+      (subst (λ (told : List Effect). ForgetsTheDead (step s c).after told) (sym effects) (the_dead_are_forgotten s lawful c)))
 
   -- exit procedures ran once
   pub runs : RunsExitsOnce s c now es
   runs = runs-behind s now (current_of s) c es
-      (subst (λ (x : State). RunsExitsOnce s c x (call_effects (current_of s) c ++ es)) (sym after) (subst (λ (told : List Effect). RunsExitsOnce s c (step s c).after told) (sym effects) (exits_run_once s lawful c)))
+      (subst (λ (x : State). RunsExitsOnce s c x (call_effects (current_of s) c ++ es)) (sym after)
+      (subst (λ (told : List Effect). RunsExitsOnce s c (step s c).after told) (sym effects) (exits_run_once s lawful c)))
 
 -- the clock, and all other events
 

@@ -25,14 +25,18 @@ abbrev row_suspended : Bool → ThreadRow → ThreadRow
 row_suspended c row = record row { suspended = cond c true row.suspended }
 
 module _ (parts : Parts) (t : ℕ) where
-  rows-suspended : sched.knows parts.sched t ≡ true → (state_of (record parts { sched = sched.after_suspend parts.sched t })).threads ≡ machine.with_suspension t true (state_of parts).threads
-  rows-suspended known = rows-changed parts.last_prio t known_suspended row_suspended (λ c k. refl) (λ k. refl) (λ c k n rec. refl) parts.sched.threads known parts.ids.live
+  rows-suspended : sched.knows parts.sched t ≡ true
+      → (state_of (record parts { sched = sched.after_suspend parts.sched t })).threads ≡ machine.with_suspension t true (state_of parts).threads
+  rows-suspended known = rows-changed parts.last_prio t known_suspended row_suspended (λ c k. refl) (λ k. refl) (λ c k n rec. refl)
+      parts.sched.threads known parts.ids.live
 
-  pub suspended-is : sched.knows parts.sched t ≡ true → threads.after_suspend (state_of parts) t ≡ state_of (record parts { sched = sched.after_suspend parts.sched t })
+  pub suspended-is : sched.knows parts.sched t ≡ true
+      → threads.after_suspend (state_of parts) t ≡ state_of (record parts { sched = sched.after_suspend parts.sched t })
   suspended-is known = rw (rows-suspended known) refl
 
   pub InStep-suspended : InStep parts → sched.knows parts.sched t ≡ true → InStep (record parts { sched = sched.after_suspend parts.sched t })
-  InStep-suspended step known = InStep-moved parts t known_suspended row_suspended (λ c k. refl) (λ c row. refl) step (machine.without t parts.sched.order) (rows-suspended known) (λ c k. refl) (λ c row. refl) (λ c row. refl)
+  InStep-suspended step known = InStep-moved parts t known_suspended row_suspended (λ c k. refl) (λ c row. refl) step
+      (machine.without t parts.sched.order) (rows-suspended known) (λ c k. refl) (λ c row. refl) (λ c row. refl)
 
 module _ (t p : ℕ) where
   abbrev known_ranked : Bool → Known → Known
@@ -51,32 +55,48 @@ module _ (t p : ℕ) where
   waits-shown (w ∷ ws) = ap (λ ms. cv.machine_row w ∷ ms) (waits-shown ws)
 
   -- all that had their threads' priorities have them again
-  requests-ranked : (was now : ℕ → ℕ) → ((u : ℕ) → now u ≡ cond (eqb u t) p (was u)) → (rs : List EntryRequest) → AllByRecursion (λ (r : EntryRequest). r.prio ≡ was r.tid) rs → AllByRecursion (λ (r : EntryRequest). r.prio ≡ now r.tid) (mon.with_priority t p rs)
+  requests-ranked : (was now : ℕ → ℕ) → ((u : ℕ) → now u ≡ cond (eqb u t) p (was u)) → (rs : List EntryRequest)
+      → AllByRecursion (λ (r : EntryRequest). r.prio ≡ was r.tid) rs → AllByRecursion (λ (r : EntryRequest). r.prio ≡ now r.tid) (mon.with_priority t p rs)
   requests-ranked was now is [] all = tt
   requests-ranked was now is (r ∷ rs) all = (ap (λ n. cond (eqb r.tid t) p n) all.0 ∙ sym (is r.tid), requests-ranked was now is rs all.1)
 
-  waits-ranked : (was now : ℕ → ℕ) → ((u : ℕ) → now u ≡ cond (eqb u t) p (was u)) → (ws : List WaitRec) → AllByRecursion (λ (w : WaitRec). w.prio ≡ was w.tid) ws → AllByRecursion (λ (w : WaitRec). w.prio ≡ now w.tid) (cv.with_priority t p ws)
+  waits-ranked : (was now : ℕ → ℕ) → ((u : ℕ) → now u ≡ cond (eqb u t) p (was u)) → (ws : List WaitRec)
+      → AllByRecursion (λ (w : WaitRec). w.prio ≡ was w.tid) ws → AllByRecursion (λ (w : WaitRec). w.prio ≡ now w.tid) (cv.with_priority t p ws)
   waits-ranked was now is [] all = tt
   waits-ranked was now is (w ∷ ws) all = (ap (λ n. cond (eqb w.tid t) p n) all.0 ∙ sym (is w.tid), waits-ranked was now is ws all.1)
 
   module _ (parts : Parts) where
     -- the parts once t has priority p
     abbrev pub prioritized : Parts
-    prioritized = record parts { sched = sched.after_set_priority parts.sched t p; mons = mon.after_requeue parts.mons t p; conds = cv.after_requeue parts.conds t p }
+    prioritized = record parts {
+      sched = sched.after_set_priority parts.sched t p;
+      mons = mon.after_requeue parts.mons t p;
+      conds = cv.after_requeue parts.conds t p;
+    }
 
     rows-ranked : sched.knows parts.sched t ≡ true → (state_of prioritized).threads ≡ machine.with_priority t p (state_of parts).threads
-    rows-ranked known = rows-changed parts.last_prio t known_ranked row_ranked (λ c k. refl) (λ k. refl) (λ c k n rec. refl) parts.sched.threads known parts.ids.live
+    rows-ranked known = rows-changed parts.last_prio t known_ranked row_ranked (λ c k. refl) (λ k. refl) (λ c k n rec. refl)
+        parts.sched.threads known parts.ids.live
 
     module _ (step : InStep parts) (alone : parts.dying ≡ None) (known : sched.knows parts.sched t ≡ true) where
       pub prioritized-is : threads.after_set_priority (state_of parts) t p ≡ state_of prioritized
-      prioritized-is = rw (rows-ranked known, requests-shown parts.mons.requests, waits-shown parts.conds.waits, eligible-same parts step.tied alone t, priority-same parts step.tied alone t) refl
+      prioritized-is = rw (
+        rows-ranked known,
+        requests-shown parts.mons.requests,
+        waits-shown parts.conds.waits,
+        eligible-same parts step.tied alone t,
+        priority-same parts step.tied alone t,
+      )
+          refl
 
       ranks : (u : ℕ) → machine.priority_in (state_of prioritized) u ≡ cond (eqb u t) p (machine.priority_in (state_of parts) u)
       ranks u = ap (λ rows. priority_of parts t known_ranked row_ranked (λ c k. refl) (λ c row. refl) (find (is_number u) rows)) (rows-ranked known)
           ∙ ap (priority_of parts t known_ranked row_ranked (λ c k. refl) (λ c row. refl)) (find-row t row_ranked (λ c row. refl) u (state_of parts).threads)
           ∙ by_row (machine.thread_of (state_of parts) u) (sym (known-same parts step.tied alone u))
         where
-          by_row : (o : Option ThreadRow) → is_some o ≡ sched.knows parts.sched u → unwrap_or (option_map (λ (row : ThreadRow). row.priority) (option_map (row_ranked (eqb u t)) o)) 0 ≡ cond (eqb u t) p (unwrap_or (option_map (λ (row : ThreadRow). row.priority) o) 0)
+          by_row : (o : Option ThreadRow) → is_some o ≡ sched.knows parts.sched u
+              → unwrap_or (option_map (λ (row : ThreadRow). row.priority) (option_map (row_ranked (eqb u t)) o)) 0
+              ≡ cond (eqb u t) p (unwrap_or (option_map (λ (row : ThreadRow). row.priority) o) 0)
           by_row (Some row) is = refl
           by_row None is = elim (cases_eq u t) [
             | inl e ↦ absurd (let no : false ≡ true = is ∙ ap (sched.knows parts.sched) e ∙ known in cc)
@@ -87,12 +107,15 @@ module _ (t p : ℕ) where
       InStep-prioritized =
           let order : List ℕ = (sched.after_set_priority parts.sched t p).order in
           let tied = IsTied-moved parts t known_ranked row_ranked (λ c k. refl) (λ c row. refl) step order (rows-ranked known) (λ c k. refl) (λ c row. refl) in
-          let roomy = IsRoomy-moved parts t known_ranked row_ranked (λ c k. refl) (λ c row. refl) step order (rows-ranked known) (λ c k. refl) (λ c row. refl) in
+          let roomy = IsRoomy-moved parts t known_ranked row_ranked (λ c k. refl) (λ c row. refl) step order (rows-ranked known)
+          (λ c k. refl) (λ c row. refl) in
           record {
             tied = record { known = tied.known; waits = tied.waits };
             ranked = record {
-              requests = requests-ranked (machine.priority_in (state_of parts)) (machine.priority_in (state_of prioritized)) ranks parts.mons.requests step.ranked.requests;
-              waits = waits-ranked (machine.priority_in (state_of parts)) (machine.priority_in (state_of prioritized)) ranks parts.conds.waits step.ranked.waits;
+              requests = requests-ranked (machine.priority_in (state_of parts)) (machine.priority_in (state_of prioritized)) ranks
+                  parts.mons.requests step.ranked.requests;
+              waits = waits-ranked (machine.priority_in (state_of parts)) (machine.priority_in (state_of prioritized)) ranks
+                  parts.conds.waits step.ranked.waits;
             };
             roomy = record { letters = roomy.letters; threads = roomy.threads; requests = roomy.requests; waits = roomy.waits };
             monitors = step.monitors;

@@ -57,7 +57,8 @@ module _ (s : State) (t : ℕ) (row : ThreadRow) (known : thread_of s t ≡ Some
 
 -- the timer is set, and the thread waits for no more than so many ticks
 module _ (old mid new : Parts) (t : ℕ) (why : Block) (ticks due : ℕ) (came : CameTo old mid [] [] (still (after_block (state_of old) t why))) where
-  pub came_timed : new ≡ record mid { sched = sched.after_set_timer mid.sched t due } → due ≡ (state_of old).now + ticks → CameTo old new [] [] (still (after_block_for (state_of old) t why ticks))
+  pub came_timed : new ≡ record mid { sched = sched.after_set_timer mid.sched t due } → due ≡ (state_of old).now + ticks
+      → CameTo old new [] [] (still (after_block_for (state_of old) t why ticks))
   came_timed is later = rw is (record {
     state = ap (λ (s : State). record s { timers = s.timers ++ record { tid = t; due = due } ∷ [] }) came.state
         ∙ ap (λ n. record (after_block (state_of old) t why) { timers = (state_of old).timers ++ record { tid = t; due = n } ∷ [] }) later;

@@ -8,7 +8,8 @@ use Rattle.lwp_types.specs.State.{priority_in}
 use Rattle.std.proofs.Common.{◌∙◌, ◌≡◌}
 
 -- other conditions, whose waits are ranked, and with as many places
-pub InStep-conditions : (parts : Parts) → InStep parts → (t : ConditionTable) → conds.AreRanked (priority_in (state_of parts)) t.waits → t.places ≡ parts.conds.places → t.limit ≡ parts.conds.limit → InStep (record parts { conds = t })
+pub InStep-conditions : (parts : Parts) → InStep parts → (t : ConditionTable) → conds.AreRanked (priority_in (state_of parts)) t.waits
+    → t.places ≡ parts.conds.places → t.limit ≡ parts.conds.limit → InStep (record parts { conds = t })
 InStep-conditions parts step t ranked places limit = record {
   tied = record { known = step.tied.known; waits = step.tied.waits };
   ranked = record { requests = step.ranked.requests; waits = ranked };

@@ -29,7 +29,8 @@ use Rattle.pod_sched.specs.Schedule as sched
 use Rattle.pod_sched.specs.Schedule.{newcomer}
 use Rattle.pod_sched.specs.declared.rows.Known.{Known}
 use Rattle.stale_ids.specs.Register.{AreBorn, after_insert}
-use Rattle.std.proofs.Common.{Bool, List, None, Option, Some, [], ap, arith, cond, count_by, eqb, false, length, length-append, map, not, refl, sym, true, ℕ, ◌&&◌, ◌+◌, ◌++◌, ◌<◌, ◌∙◌, ◌∷◌, ◌≡◌, ◌≢◌, ◌||◌}
+use Rattle.std.proofs.Common.{Bool, List, None, Option, Some, [], ap, arith, cond, count_by, eqb, false, length, length-append}
+use Rattle.std.proofs.Common.{map, not, refl, sym, true, ℕ, ◌&&◌, ◌+◌, ◌++◌, ◌<◌, ◌∙◌, ◌∷◌, ◌≡◌, ◌≢◌, ◌||◌}
 use Rattle.std.proofs.lemmas.Bool.{eq-eqb, ne_eqb}
 use Rattle.std.specs.List.{AllByRecursion, find}
 use Rattle.std.specs.Prelude.{is_some, option_map, unwrap_or}
@@ -44,7 +45,8 @@ some_push f [] x = by_test (f x)
     by_test false = refl
 some_push f (y ∷ ys) x = by_test (f y) (some_push f ys x)
   where
-    by_test : (b : Bool) → is_some (find f (ys ++ x ∷ [])) ≡ (is_some (find f ys) || f x) → is_some (cond b (Some y) (find f (ys ++ x ∷ []))) ≡ (is_some (cond b (Some y) (find f ys)) || f x)
+    by_test : (b : Bool) → is_some (find f (ys ++ x ∷ [])) ≡ (is_some (find f ys) || f x)
+        → is_some (cond b (Some y) (find f (ys ++ x ∷ []))) ≡ (is_some (cond b (Some y) (find f ys)) || f x)
     by_test true rest = refl
     by_test false rest = rest
 
@@ -57,15 +59,20 @@ passes_push test f [] x fails = by_test (f x)
     by_test false = refl
 passes_push test f (y ∷ ys) x fails = by_test (f y) (passes_push test f ys x fails)
   where
-    by_test : (b : Bool) → passes test (find f (ys ++ x ∷ [])) ≡ passes test (find f ys) → passes test (cond b (Some y) (find f (ys ++ x ∷ []))) ≡ passes test (cond b (Some y) (find f ys))
+    by_test : (b : Bool) → passes test (find f (ys ++ x ∷ [])) ≡ passes test (find f ys)
+        → passes test (cond b (Some y) (find f (ys ++ x ∷ []))) ≡ passes test (cond b (Some y) (find f ys))
     by_test true rest = refl
     by_test false rest = rest
 
 -- a list of which none has this key
-requests-other : (n : ℕ) (was now : ℕ → ℕ) → ((u : ℕ) → n ≢ u → now u ≡ was u) → (rs : List EntryRequest) → count_by (λ r. eqb r.tid n) (map mon.machine_row rs) ≡ 0
+requests-other : (n : ℕ) (was now : ℕ → ℕ) → ((u : ℕ) → n ≢ u → now u ≡ was u) → (rs : List EntryRequest)
+    → count_by (λ r. eqb r.tid n) (map mon.machine_row rs) ≡ 0
     → AllByRecursion (λ (r : EntryRequest). r.prio ≡ was r.tid) rs → AllByRecursion (λ (r : EntryRequest). r.prio ≡ now r.tid) rs
 requests-other n was now same [] none all = tt
-requests-other n was now same (r ∷ rs) none all = (all.0 ∙ sym (same r.tid away), requests-other n was now same rs (omega (arith, none, count-cons (λ q. eqb q.tid n) (mon.machine_row r) (map mon.machine_row rs))) all.1)
+requests-other n was now same (r ∷ rs) none all = (
+  all.0 ∙ sym (same r.tid away),
+  requests-other n was now same rs (omega (arith, none, count-cons (λ q. eqb q.tid n) (mon.machine_row r) (map mon.machine_row rs))) all.1,
+)
   where
     away : n ≢ r.tid
     away e = absurd (omega (arith, none, count-cons (λ q. eqb q.tid n) (mon.machine_row r) (map mon.machine_row rs), ap one (eq-eqb r.tid n (sym e))))
@@ -73,7 +80,10 @@ requests-other n was now same (r ∷ rs) none all = (all.0 ∙ sym (same r.tid a
 waits-other : (n : ℕ) (was now : ℕ → ℕ) → ((u : ℕ) → n ≢ u → now u ≡ was u) → (ws : List WaitRec) → count_by (λ w. eqb w.tid n) (map cv.machine_row ws) ≡ 0
     → AllByRecursion (λ (w : WaitRec). w.prio ≡ was w.tid) ws → AllByRecursion (λ (w : WaitRec). w.prio ≡ now w.tid) ws
 waits-other n was now same [] none all = tt
-waits-other n was now same (w ∷ ws) none all = (all.0 ∙ sym (same w.tid away), waits-other n was now same ws (omega (arith, none, count-cons (λ q. eqb q.tid n) (cv.machine_row w) (map cv.machine_row ws))) all.1)
+waits-other n was now same (w ∷ ws) none all = (
+  all.0 ∙ sym (same w.tid away),
+  waits-other n was now same ws (omega (arith, none, count-cons (λ q. eqb q.tid n) (cv.machine_row w) (map cv.machine_row ws))) all.1,
+)
   where
     away : n ≢ w.tid
     away e = absurd (omega (arith, none, count-cons (λ q. eqb q.tid n) (cv.machine_row w) (map cv.machine_row ws), ap one (eq-eqb w.tid n (sym e))))
@@ -85,12 +95,18 @@ module _ (p : ℕ) (known : List Known) (n prio : ℕ) (begins : Bool) (unknown 
   known-new : known_of p (known ++ newcomer n prio begins ∷ []) n ≡ newcomer n prio begins
   known-new = ap (λ o. unwrap_or o (newcomer n p false)) (find_push_new (sched.is_of n) known (newcomer n prio begins) (eq-eqb n n refl) unknown)
 
-  pub rows-born : (rec : ThreadRec) (living : List (ℕ × Kind)) → AreBorn n living → rows_of p (known ++ newcomer n prio begins ∷ []) (living ++ (n, kind.Thread rec) ∷ []) ≡ rows_of p known living ++ row_of (newcomer n prio begins) n rec ∷ []
+  pub rows-born : (rec : ThreadRec) (living : List (ℕ × Kind)) → AreBorn n living
+      → rows_of p (known ++ newcomer n prio begins ∷ []) (living ++ (n, kind.Thread rec) ∷ [])
+      ≡ rows_of p known living ++ row_of (newcomer n prio begins) n rec ∷ []
   rows-born rec [] below = ap (λ k. row_of k n rec ∷ []) known-new
   rows-born rec (live ∷ living) below = by_kind live.0 live.1 below.0 (rows-born rec living below.1)
     where
-      by_kind : (u : ℕ) (k : Kind) → u < n → rows_of p (known ++ newcomer n prio begins ∷ []) (living ++ (n, kind.Thread rec) ∷ []) ≡ rows_of p known living ++ row_of (newcomer n prio begins) n rec ∷ []
-          → row_onto (known_of p (known ++ newcomer n prio begins ∷ []) u) u k (rows_of p (known ++ newcomer n prio begins ∷ []) (living ++ (n, kind.Thread rec) ∷ [])) ≡ row_onto (known_of p known u) u k (rows_of p known living) ++ row_of (newcomer n prio begins) n rec ∷ []
+      by_kind : (u : ℕ) (k : Kind) → u < n
+          → rows_of p (known ++ newcomer n prio begins ∷ []) (living ++ (n, kind.Thread rec) ∷ [])
+          ≡ rows_of p known living ++ row_of (newcomer n prio begins) n rec ∷ []
+          → row_onto (known_of p (known ++ newcomer n prio begins ∷ []) u) u k
+          (rows_of p (known ++ newcomer n prio begins ∷ []) (living ++ (n, kind.Thread rec) ∷ []))
+          ≡ row_onto (known_of p known u) u k (rows_of p known living) ++ row_of (newcomer n prio begins) n rec ∷ []
       by_kind u kind.Agent less rest = rest
       by_kind u (kind.Thread other) less rest = rw (known-push u (λ e. omega (arith, less, e)), rest) refl
 
@@ -99,7 +115,8 @@ pub rows-agent : (p n : ℕ) (known : List Known) (living : List (ℕ × Kind)) 
 rows-agent p n known [] = refl
 rows-agent p n known (live ∷ living) = by_kind live.0 live.1 (rows-agent p n known living)
   where
-    by_kind : (u : ℕ) (k : Kind) → rows_of p known (living ++ (n, kind.Agent) ∷ []) ≡ rows_of p known living → row_onto (known_of p known u) u k (rows_of p known (living ++ (n, kind.Agent) ∷ [])) ≡ row_onto (known_of p known u) u k (rows_of p known living)
+    by_kind : (u : ℕ) (k : Kind) → rows_of p known (living ++ (n, kind.Agent) ∷ []) ≡ rows_of p known living
+        → row_onto (known_of p known u) u k (rows_of p known (living ++ (n, kind.Agent) ∷ [])) ≡ row_onto (known_of p known u) u k (rows_of p known living)
     by_kind u kind.Agent rest = rest
     by_kind u (kind.Thread rec) rest = ap (λ rows. row_of (known_of p known u) u rec ∷ rows) rest
 
@@ -150,7 +167,8 @@ module _ (parts : Parts) (lawful : LawfulParts parts) (alone : parts.dying ≡ N
 
       priority-other : (u : ℕ) → n ≢ u → priority_in (state_of begun) u ≡ priority_in (state_of parts) u
       priority-other u away = ap (λ rs. unwrap_or (option_map (λ (row : ThreadRow). row.priority) (find (is_number u) rs)) 0) same
-          ∙ ap (λ o. unwrap_or (option_map (λ (row : ThreadRow). row.priority) o) 0) (find_push_other (is_number u) rows (new_thread n prio flags) (ne_eqb n u away))
+          ∙ ap (λ o. unwrap_or (option_map (λ (row : ThreadRow). row.priority) o) 0)
+          (find_push_other (is_number u) rows (new_thread n prio flags) (ne_eqb n u away))
 
       no_dying : (b : Bool) (u : ℕ) → b ≡ (b && not (is_same_option parts.dying u))
       no_dying b u = rw alone (by_test b)
@@ -166,18 +184,28 @@ module _ (parts : Parts) (lawful : LawfulParts parts) (alone : parts.dying ≡ N
         pub InStep-begun : InStep begun
         InStep-begun = record {
           tied = record {
-            known = λ u. knows-born u ∙ ap (λ b. b || eqb n u) (known-same parts lawful.step.tied alone u) ∙ sym (thread-born u) ∙ no_dying (is_thread (state_of begun) u) u;
-            waits = λ u. passes_push (λ (k : Known). k.blocked) (sched.is_of u) parts.sched.threads (newcomer n prio flags.suspended) refl ∙ lawful.step.tied.waits u
+            known = λ u. knows-born u ∙ ap (λ b. b || eqb n u) (known-same parts lawful.step.tied alone u) ∙ sym (thread-born u)
+                ∙ no_dying (is_thread (state_of begun) u) u;
+            waits = λ u. passes_push (λ (k : Known). k.blocked) (sched.is_of u) parts.sched.threads (newcomer n prio flags.suspended) refl
+                ∙ lawful.step.tied.waits u
                 ∙ sym (ap (λ rs. passes waits (find (is_number u) rs)) same ∙ passes_push waits (is_number u) rows (new_thread n prio flags) refl);
           };
           ranked = record {
-            requests = requests-other n (priority_in (state_of parts)) (priority_in (state_of begun)) priority-other parts.mons.requests (unnamed (state_of parts) (nine parts lawful alone) n nobody).requests lawful.step.ranked.requests;
-            waits = waits-other n (priority_in (state_of parts)) (priority_in (state_of begun)) priority-other parts.conds.waits (unnamed (state_of parts) (nine parts lawful alone) n nobody).waits lawful.step.ranked.waits;
+            requests = requests-other n (priority_in (state_of parts)) (priority_in (state_of begun)) priority-other parts.mons.requests
+                (unnamed (state_of parts) (nine parts lawful alone) n nobody).requests lawful.step.ranked.requests;
+            waits = waits-other n (priority_in (state_of parts)) (priority_in (state_of begun)) priority-other parts.conds.waits
+                (unnamed (state_of parts) (nine parts lawful alone) n nobody).waits lawful.step.ranked.waits;
           };
-          roomy = record { letters = omega (arith, longer, places.letters); threads = omega (arith, longer, places.threads); requests = omega (arith, longer, places.requests); waits = omega (arith, longer, places.waits) };
+          roomy = record {
+            letters = omega (arith, longer, places.letters);
+            threads = omega (arith, longer, places.threads);
+            requests = omega (arith, longer, places.requests);
+            waits = omega (arith, longer, places.waits);
+          };
           monitors = lawful.step.monitors;
           conditions = lawful.step.conditions;
-          noted = noted-born parts.named n (kind.Thread rec) refl parts.ids.live lawful.step.noted (omega (arith, places.names, threads-rows parts.last_prio parts.sched.threads parts.ids.live));
+          noted = noted-born parts.named n (kind.Thread rec) refl parts.ids.live lawful.step.noted
+              (omega (arith, places.names, threads-rows parts.last_prio parts.sched.threads parts.ids.live));
         }
 
         pub came_begun : CameTo parts begun [] [] (still (after_create (state_of parts) prio flags))

@@ -24,14 +24,16 @@ use Rattle.pod_laws.proofs.Ticks.{Before, TimedRow, time_out_first, timed_row}
 use Rattle.pod_sched.specs.Schedule as sched
 use Rattle.pod_sched.specs.Schedule.{Schedule, first_due, without_found}
 use Rattle.stale_ids.specs.Register.{AreRising, value_of}
-use Rattle.std.proofs.Common.{Bool, List, None, Option, Some, [], ap, arith, cond, eqb, false, length, length-append, not, refl, true, ℕ, ◌++◌, ◌+◌, ◌<◌, ◌∙◌, ◌∷◌, ◌≡◌, ◌≤◌}
+use Rattle.std.proofs.Common.{Bool, List, None, Option, Some, [], ap, arith, cond, eqb, false, length}
+use Rattle.std.proofs.Common.{length-append, not, refl, true, ℕ, ◌++◌, ◌+◌, ◌<◌, ◌∙◌, ◌∷◌, ◌≡◌, ◌≤◌}
 use Rattle.std.proofs.lemmas.Bool.{eq-eqb}
 use Rattle.std.specs.Prelude.{option_map}
 
 -- whether a thread sleeps is asked of who lives under its number
 pub asleep-under : (parts : Parts) (t : ℕ) (o : Option Kind) → AreRising parts.ids.live → value_of t parts.ids.live ≡ o
     → is_asleep_in (state_of parts) t ≡ passes (λ (row : ThreadRow). is_sleeping row.block) (row_under parts.last_prio parts.sched.threads t o)
-asleep-under parts t o rising e = ap (passes (λ (row : ThreadRow). is_sleeping row.block)) (rows-under parts.last_prio parts.sched.threads t parts.ids.live rising ∙ ap (row_under parts.last_prio parts.sched.threads t) e)
+asleep-under parts t o rising e = ap (passes (λ (row : ThreadRow). is_sleeping row.block))
+    (rows-under parts.last_prio parts.sched.threads t parts.ids.live rising ∙ ap (row_under parts.last_prio parts.sched.threads t) e)
 
 -- the thread of a timer waits
 
@@ -48,7 +50,13 @@ due_row : (n t : ℕ) (ts : List ℕ) (s : State) → Before n s → due_threads
 due_row n t ts s was listed = timed_row (record s { now = n }) None was.nine t some
   where
     some : 1 ≤ timers_of s.timers t
-    some = omega (arith, ap (λ ns. times_in ns t) listed, count-cons (λ k. eqb k t) t ts, ap one (eq-eqb t t refl), keys_times (λ (row : TimerRow). row.tid) (is_due s.now) t s.timers)
+    some = omega (
+      arith,
+      ap (λ ns. times_in ns t) listed,
+      count-cons (λ k. eqb k t) t ts,
+      ap one (eq-eqb t t refl),
+      keys_times (λ (row : TimerRow). row.tid) (is_due s.now) t s.timers,
+    )
 
 -- each answer is paid by a thread that waits no more
 spends_time_out : (n t : ℕ) (ts : List ℕ) (s : State) → Before n s → due_threads s ≡ t ∷ ts → Spends 0 s (time_out t s)
@@ -57,14 +65,20 @@ spends_time_out n t ts s was listed =
     record { few = (spends_unblock (record s { now = n }) None was.nine t who.row who.known (timed_waits who.row.block who.timed) (cond (is_asleep_in s t) zero_answer timeout_answer)).few }
 
 few_due : (n : ℕ) (s : State) → Before n s → length (for_each time_out (due_threads s) s).effects ≤ 1024
-few_due n s was = omega (arith, (spends_drain (Before n) due_threads time_out (time_out_first n) (spends_time_out n) (due_threads s) s was refl).few, sum-most s.threads, was.nine.numbers.3.0)
+few_due n s was = omega (
+  arith,
+  (spends_drain (Before n) due_threads time_out (time_out_first n) (spends_time_out n) (due_threads s) s was refl).few,
+  sum-most s.threads,
+  was.nine.numbers.3.0,
+)
 
 -- a timer that is gone can be taken out once more
 twice_out : (t : ℕ) (rows : List TimerRow) → without_timer t (without_timer t rows) ≡ without_timer t rows
 twice_out t [] = refl
 twice_out t (row ∷ rows) = by_test (is_timer_of t row) refl (twice_out t rows)
   where
-    by_test : (b : Bool) → is_timer_of t row ≡ b → without_timer t (without_timer t rows) ≡ without_timer t rows → without_timer t (cond (not b) (row ∷ without_timer t rows) (without_timer t rows)) ≡ cond (not b) (row ∷ without_timer t rows) (without_timer t rows)
+    by_test : (b : Bool) → is_timer_of t row ≡ b → without_timer t (without_timer t rows) ≡ without_timer t rows
+        → without_timer t (cond (not b) (row ∷ without_timer t rows) (without_timer t rows)) ≡ cond (not b) (row ∷ without_timer t rows) (without_timer t rows)
     by_test true e rest = rest
     by_test false e rest = rw e (ap (λ later. row ∷ later) rest)
 
@@ -86,7 +100,8 @@ popped-none rows now h = by_found (first_due rows now) h
     by_found (Some row) h = absurd (cc)
 
 -- other timers, and another time, change nothing that the parts agree on
-InStep-clock : (parts : Parts) (timers : List TimerRow) (now : ℕ) → InStep parts → InStep (record parts { sched = record parts.sched { timers = timers; now = now } })
+InStep-clock : (parts : Parts) (timers : List TimerRow) (now : ℕ) → InStep parts
+    → InStep (record parts { sched = record parts.sched { timers = timers; now = now } })
 InStep-clock parts timers now step = record {
   tied = record { known = step.tied.known; waits = step.tied.waits };
   ranked = record { requests = step.ranked.requests; waits = step.ranked.waits };
@@ -109,8 +124,14 @@ module _ (start : Parts) (before : List Effect) where
   Ticking parts after = Draining (Before start.sched.now) due_threads time_out 0 begun tells parts after
 
   pub tick_starts : NineParts (state_of start) None → InStep start → before ≡ [] → Ticking begun tells
-  tick_starts nine step none = starts (Before start.sched.now) due_threads time_out 0 begun tells (record { nine = nine }) (InStep-clock start start.sched.timers (start.sched.now + 1) step)
-      (omega (arith, few_due start.sched.now (state_of begun) (record { nine = nine }), length-append before (effect.Ticked (start.sched.now + 1) ∷ []), ap length none))
+  tick_starts nine step none = starts (Before start.sched.now) due_threads time_out 0 begun tells (record { nine = nine })
+      (InStep-clock start start.sched.timers (start.sched.now + 1) step)
+      (omega (
+        arith,
+        few_due start.sched.now (state_of begun) (record { nine = nine }),
+        length-append before (effect.Ticked (start.sched.now + 1) ∷ []),
+        ap length none,
+      ))
 
   module _ (parts : Parts) (after : List Effect) (h : Ticking parts after) where
     -- the parts without the timer that was found
@@ -130,13 +151,17 @@ module _ (start : Parts) (before : List Effect) where
           ap (λ o. passes (λ (row : ThreadRow). not (is_not_blocked row.block)) o) who.known ∙ ap not (timed_waits who.row.block who.timed)
 
       pub due_room : length after < 2048
-      due_room = omega (arith, first_room (Before start.sched.now) due_threads time_out (time_out_first start.sched.now) 0 begun tells parts after h x front.rest front.is)
+      due_room = omega (
+        arith,
+        first_room (Before start.sched.now) due_threads time_out (time_out_first start.sched.now) 0 begun tells parts after h x front.rest front.is,
+      )
 
       module _ (new : Parts) (now : List Effect) (woken : CameTo lighter new after now (time_out x (state_of lighter))) where
         came : CameTo parts new after now (time_out x (state_of parts))
         came = record {
           state = woken.state
-              ∙ ap (λ rows. record (after_unblock (state_of parts) x) { timers = without_timer x rows }) (popped-some parts.sched.timers parts.sched.now x found)
+              ∙ ap (λ rows. record (after_unblock (state_of parts) x) { timers = without_timer x rows })
+              (popped-some parts.sched.timers parts.sched.now x found)
               ∙ ap (λ rows. record (after_unblock (state_of parts) x) { timers = rows }) (twice_out x parts.sched.timers);
           effects = woken.effects;
           step = woken.step;
@@ -144,15 +169,20 @@ module _ (start : Parts) (before : List Effect) where
         }
 
         pub due_fewer : length (due_threads (state_of new)) < length (due_threads (state_of parts))
-        due_fewer = fewer (Before start.sched.now) due_threads time_out (time_out_first start.sched.now) 0 begun tells parts after h x front.rest front.is new now came
+        due_fewer = fewer (Before start.sched.now) due_threads time_out (time_out_first start.sched.now) 0 begun tells parts after h x
+            front.rest front.is new now came
 
         pub due_on : Ticking new now
-        due_on = goes_on (Before start.sched.now) due_threads time_out (time_out_first start.sched.now) 0 begun tells parts after h x front.rest front.is new now came
+        due_on = goes_on (Before start.sched.now) due_threads time_out (time_out_first start.sched.now) 0 begun tells parts after h x
+            front.rest front.is new now came
 
     pub due_over : InStep start → first parts.sched.timers parts.sched.now ≡ None → CameTo start lighter before after (tick (state_of start))
     due_over step none =
-        let all = done (Before start.sched.now) due_threads time_out (time_out_first start.sched.now) 0 begun tells parts after h (found_none (λ (row : TimerRow). row.tid) (is_due parts.sched.now) parts.sched.timers none) in
-        let whole = came_then start begun parts before tells after (record { after = after_tick (state_of start); effects = effect.Ticked (start.sched.now + 1) ∷ [] }) (λ now. for_each time_out (due_threads now) now)
+        let all = done (Before start.sched.now) due_threads time_out (time_out_first start.sched.now) 0 begun tells parts after h
+        (found_none (λ (row : TimerRow). row.tid) (is_due parts.sched.now) parts.sched.timers none) in
+        let whole = came_then start begun parts before tells after
+        (record { after = after_tick (state_of start); effects = effect.Ticked (start.sched.now + 1) ∷ [] })
+        (λ now. for_each time_out (due_threads now) now)
         (record { state = refl; effects = refl; step = InStep-clock start start.sched.timers (start.sched.now + 1) step; dying = refl }) all in
         record {
           state = ap (λ rows. record (state_of parts) { timers = rows }) (popped-none parts.sched.timers parts.sched.now none) ∙ whole.state;

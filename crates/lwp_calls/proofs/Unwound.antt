@@ -28,7 +28,8 @@ use Rattle.lwp_types.specs.declared.rows.Mark.{Mark}
 use Rattle.lwp_types.specs.declared.rows.Mark.TheVariants as mark
 use Rattle.pod_laws.proofs.MarkLists.{frames_split, stack_from}
 use Rattle.stale_ids.specs.Register.{AreRising, value_of, with_value}
-use Rattle.std.proofs.Common.{List, None, Some, [], ap, arith, length, length-append, refl, reverse, subst, suc, sym, true, zero, ℕ, ◌++◌, ◌+◌, ◌<◌, ◌∙◌, ◌∷◌, ◌≡◌, ◌≤◌}
+use Rattle.std.proofs.Common.{List, None, Some, [], ap, arith, length, length-append, refl, reverse}
+use Rattle.std.proofs.Common.{subst, suc, sym, true, zero, ℕ, ◌++◌, ◌+◌, ◌<◌, ◌∙◌, ◌∷◌, ◌≡◌, ◌≤◌}
 use Rattle.std.proofs.lemmas.List.{length-reverse}
 use Rattle.std.specs.List.{filter_map}
 use Rattle.std.specs.Prelude.{unwrap_or}
@@ -36,12 +37,21 @@ use Rattle.std.specs.Prelude.{unwrap_or}
 -- an exit procedure tells one other at most, and its own result
 
 run_few : (t : ℕ) (x : ExitMark) (s : State) → length (run_exit t x s).effects ≤ 2
-run_few t x s = omega (arith, few_others s t x.call, length-append (exit_case s t x.call).others (effect.Exited t x.reg x.call (unwrap_or (exit_case s t x.call).own zero_answer) ∷ []))
+run_few t x s = omega (
+  arith,
+  few_others s t x.call,
+  length-append (exit_case s t x.call).others (effect.Exited t x.reg x.call (unwrap_or (exit_case s t x.call).own zero_answer) ∷ []),
+)
 
 each_few : (t : ℕ) (xs : List ExitMark) (s : State) → length (for_each (run_exit t) xs s).effects ≤ length xs + length xs
 unfolding for_each and_then
 each_few t [] s = omega arith
-each_few t (x ∷ xs) s = omega (arith, run_few t x s, each_few t xs (run_exit t x s).after, length-append (run_exit t x s).effects (for_each (run_exit t) xs (run_exit t x s).after).effects)
+each_few t (x ∷ xs) s = omega (
+  arith,
+  run_few t x s,
+  each_few t xs (run_exit t x s).after,
+  length-append (run_exit t x s).effects (for_each (run_exit t) xs (run_exit t x s).after).effects,
+)
 
 filter_few : (ms : List Mark) → length (filter_map exit_of ms) ≤ length ms
 filter_few [] = omega arith
@@ -61,12 +71,14 @@ unwind_few t depth kept ms s few = omega (
 )
 
 -- of a live thread: as many at most, and so there is room for them
-module _ (parts : Parts) (lawful : LawfulParts parts) (alone : parts.dying ≡ None) (t : ℕ) (may : is_eligible_in (state_of parts) t ≡ true) (depth : ℕ) (kept : List Mark) where
+module _ (parts : Parts) (lawful : LawfulParts parts) (alone : parts.dying ≡ None) (t : ℕ) (may : is_eligible_in (state_of parts) t ≡ true)
+    (depth : ℕ) (kept : List Mark) where
   abbrev going : Outcome
   going = unwind t kept (later_frames depth (marks_in (state_of parts) t)) (state_of parts)
 
   pub leave-few : length going.effects ≤ 512
-  leave-few = unwind_few t depth kept (marks_in (state_of parts) t) (state_of parts) (stack_from (marks_in (state_of parts) t) (stack-fine parts lawful alone t may)).few
+  leave-few = unwind_few t depth kept (marks_in (state_of parts) t) (state_of parts)
+      (stack_from (marks_in (state_of parts) t) (stack-fine parts lawful alone t may)).few
 
   pub came-few : (new : Parts) (before now : List Effect) → CameTo parts new before now going → before ≡ [] → length now ≤ 1279
   came-few new before now came none = omega (arith, ap length none, leave-few, ap length came.effects, length-append before going.effects)
@@ -77,11 +89,21 @@ first-count : (depth : ℕ) (ms : List Mark) → depth ≤ frames ms → frames 
 first-count zero [] most = refl
 first-count (suc d) [] most = absurd (omega (arith, most))
 first-count zero (mark.Frame ∷ ms) most = refl
-first-count (suc d) (mark.Frame ∷ ms) most = omega (arith, count-cons is_frame mark.Frame (first_frames d ms), first-count d ms (omega (arith, most, count-cons is_frame mark.Frame ms)))
-first-count zero (mark.Handler pat func arg ∷ ms) most = omega (arith, count-cons is_frame (mark.Handler pat func arg) (first_frames zero ms), first-count zero ms (omega arith))
-first-count (suc d) (mark.Handler pat func arg ∷ ms) most = omega (arith, count-cons is_frame (mark.Handler pat func arg) (first_frames (suc d) ms), first-count (suc d) ms (omega (arith, most, count-cons is_frame (mark.Handler pat func arg) ms)))
+first-count (suc d) (mark.Frame ∷ ms) most =
+    omega (arith, count-cons is_frame mark.Frame (first_frames d ms), first-count d ms (omega (arith, most, count-cons is_frame mark.Frame ms)))
+first-count zero (mark.Handler pat func arg ∷ ms) most =
+    omega (arith, count-cons is_frame (mark.Handler pat func arg) (first_frames zero ms), first-count zero ms (omega arith))
+first-count (suc d) (mark.Handler pat func arg ∷ ms) most = omega (
+  arith,
+  count-cons is_frame (mark.Handler pat func arg) (first_frames (suc d) ms),
+  first-count (suc d) ms (omega (arith, most, count-cons is_frame (mark.Handler pat func arg) ms)),
+)
 first-count zero (mark.Exit reg x ∷ ms) most = omega (arith, count-cons is_frame (mark.Exit reg x) (first_frames zero ms), first-count zero ms (omega arith))
-first-count (suc d) (mark.Exit reg x ∷ ms) most = omega (arith, count-cons is_frame (mark.Exit reg x) (first_frames (suc d) ms), first-count (suc d) ms (omega (arith, most, count-cons is_frame (mark.Exit reg x) ms)))
+first-count (suc d) (mark.Exit reg x ∷ ms) most = omega (
+  arith,
+  count-cons is_frame (mark.Exit reg x) (first_frames (suc d) ms),
+  first-count (suc d) ms (omega (arith, most, count-cons is_frame (mark.Exit reg x) ms)),
+)
 
 -- exit procedures run as well under other marks, and who lives lives
 
@@ -92,7 +114,8 @@ module _ (t : ℕ) where
   each_so : (ms : List Mark) (xs : List ExitMark) (s : State) → for_each (run_exit t) xs (with_marks_of s t ms) ≡ remarked_out t ms (for_each (run_exit t) xs s)
   unfolding for_each and_then
   each_so ms [] s = refl
-  each_so ms (x ∷ xs) s = ap (λ (o : Outcome). told o.effects (for_each (run_exit t) xs o.after)) (run_exit_so t ms t x s) ∙ ap (told (run_exit t x s).effects) (each_so ms xs (run_exit t x s).after)
+  each_so ms (x ∷ xs) s = ap (λ (o : Outcome). told o.effects (for_each (run_exit t) xs o.after)) (run_exit_so t ms t x s)
+      ∙ ap (told (run_exit t x s).effects) (each_so ms xs (run_exit t x s).after)
 
   there_after : (xs : List ExitMark) (s : State) → is_thread (for_each (run_exit t) xs s).after t ≡ is_thread s t
   unfolding for_each and_then
@@ -100,8 +123,10 @@ module _ (t : ℕ) where
   there_after (x ∷ xs) s = there_after xs (run_exit t x s).after ∙ same_case t s t x.call
 
 -- the frames above the handler's went, and then the handler goes
-module _ (parts mid : Parts) (before now : List Effect) (t : ℕ) (f : Found) (lives : is_thread (state_of parts) t ≡ true) (reach : IsInReach (marks_in (state_of parts) t) f)
-    (came : CameTo parts mid before now (unwind t (first_frames f.depth (marks_in (state_of parts) t)) (later_frames f.depth (marks_in (state_of parts) t)) (state_of parts))) where
+module _ (parts mid : Parts) (before now : List Effect) (t : ℕ) (f : Found) (lives : is_thread (state_of parts) t ≡ true)
+    (reach : IsInReach (marks_in (state_of parts) t) f)
+    (came : CameTo parts mid before now
+    (unwind t (first_frames f.depth (marks_in (state_of parts) t)) (later_frames f.depth (marks_in (state_of parts) t)) (state_of parts))) where
   abbrev kept : List Mark
   kept = first_frames f.depth (marks_in (state_of parts) t)
 
@@ -112,7 +137,8 @@ module _ (parts mid : Parts) (before now : List Effect) (t : ℕ) (f : Found) (l
   mid-is = came.state ∙ ap (λ (o : Outcome). o.after) (each_so t kept (exits_of (later_frames f.depth (marks_in (state_of parts) t))) (state_of parts))
 
   marks-mid : marks_in (state_of mid) t ≡ kept
-  marks-mid = ap (λ (s : State). marks_in s t) mid-is ∙ marks_now t kept ran.after (there_after t (exits_of (later_frames f.depth (marks_in (state_of parts) t))) (state_of parts) ∙ lives)
+  marks-mid = ap (λ (s : State). marks_in s t) mid-is
+      ∙ marks_now t kept ran.after (there_after t (exits_of (later_frames f.depth (marks_in (state_of parts) t))) (state_of parts) ∙ lives)
 
   as_deep : frames kept ≡ f.depth
   as_deep = first-count f.depth (marks_in (state_of parts) t) reach.most
@@ -134,16 +160,20 @@ module _ (parts mid : Parts) (before now : List Effect) (t : ℕ) (f : Found) (l
     caught_by p out = record { after = out.after; others = out.effects; own = Some (answer.Caught f.depth f.mark p) }
 
     pub caught-comes : (p : ℕ) (v : Kind) → v ≡ kind_with_marks (after_settle_at f.mark (kind_marks (Some k))) k
-        → Answers parts (record mid { ids = record mid.ids { live = with_value t v mid.ids.live } }) before now (catch_case (state_of parts) t p f) (answer.Caught f.depth f.mark p)
-    caught-comes p v e = subst (λ (new : Parts). Answers parts new before now (catch_case (state_of parts) t p f) (answer.Caught f.depth f.mark p)) (sym put) (record {
-      came = record {
-        state = stacked-is mid t left ∙ ap (λ (s : State). with_marks_of s t left) mid-is ∙ marked_again t left ran.after kept ∙ sym (ap (λ (o : Outcome). o.after) out);
-        effects = came.effects ∙ ap (λ (o : Outcome). before ++ o.effects) (each_so t kept gone (state_of parts)) ∙ sym (ap (λ (o : Outcome). before ++ o.effects) out);
-        step = InStep-stacked mid t left came.step;
-        dying = came.dying;
-      };
-      own = refl;
-    })
+        → Answers parts (record mid { ids = record mid.ids { live = with_value t v mid.ids.live } }) before now
+        (catch_case (state_of parts) t p f) (answer.Caught f.depth f.mark p)
+    caught-comes p v e =
+        subst (λ (new : Parts). Answers parts new before now (catch_case (state_of parts) t p f) (answer.Caught f.depth f.mark p)) (sym put) (record {
+          came = record {
+            state = stacked-is mid t left ∙ ap (λ (s : State). with_marks_of s t left) mid-is ∙ marked_again t left ran.after kept
+                ∙ sym (ap (λ (o : Outcome). o.after) out);
+            effects = came.effects ∙ ap (λ (o : Outcome). before ++ o.effects) (each_so t kept gone (state_of parts))
+                ∙ sym (ap (λ (o : Outcome). before ++ o.effects) out);
+            step = InStep-stacked mid t left came.step;
+            dying = came.dying;
+          };
+          own = refl;
+        })
       where
         left : List Mark
         left = caught_marks f (marks_in (state_of parts) t)
@@ -151,7 +181,8 @@ module _ (parts mid : Parts) (before now : List Effect) (t : ℕ) (f : Found) (l
         gone : List ExitMark
         gone = exits_of (later_frames f.depth (marks_in (state_of parts) t))
 
-        out : unwind t left (later_frames f.depth (marks_in (state_of parts) t)) (state_of parts) ≡ remarked_out t left (for_each (run_exit t) gone (state_of parts))
+        out : unwind t left (later_frames f.depth (marks_in (state_of parts) t)) (state_of parts)
+            ≡ remarked_out t left (for_each (run_exit t) gone (state_of parts))
         out = each_so t left gone (state_of parts)
 
         put : record mid { ids = record mid.ids { live = with_value t v mid.ids.live } } ≡ after_set_stack mid t left

@@ -17,7 +17,8 @@ use Rattle.lwp_types.specs.Counts.{is_waiting, requests_by}
 use Rattle.lwp_types.specs.Lawful.{NineParts}
 use Rattle.lwp_types.specs.Monitors.{depth_in}
 use Rattle.lwp_types.specs.MonitorRelease.{grant, is_lock, is_owned_by, last_lock, lock_of, locks_on, next_owner, release, without_lock}
-use Rattle.lwp_types.specs.State.{Outcome, State, ThreadRow, row_with_block, is_not_blocked, is_number, member, passes, priority_in, still, thread_of, with_block}
+use Rattle.lwp_types.specs.State.{Outcome, State, ThreadRow, row_with_block, is_not_blocked, is_number}
+use Rattle.lwp_types.specs.State.{member, passes, priority_in, still, thread_of, with_block}
 use Rattle.lwp_types.specs.Unblock.{after_block, zero_answer}
 use Rattle.lwp_types.specs.Conditions.{after_wait, condition_of, is_condition, wait}
 use Rattle.lwp_types.specs.declared.call.Effect.{Effect}
@@ -33,7 +34,8 @@ use Rattle.pod_laws.proofs.LetterMoves.{not_apart}
 use Rattle.pod_laws.proofs.LockMoves.{next, requester_enters, waiter_waits}
 use Rattle.pod_laws.proofs.Rows.{find_rowed}
 use Rattle.pod_laws.proofs.WaitMove.{grant_still, next_still, priority_still, waits_now}
-use Rattle.std.proofs.Common.{Bool, List, None, Option, Some, [], ap, arith, cond, count_by, eqb, false, length, map, not, refl, reverse, sym, true, ℕ, ◌&&◌, ◌++◌, ◌<◌, ◌∙◌, ◌∷◌, ◌≡◌, ◌≢◌, ◌≤◌}
+use Rattle.std.proofs.Common.{Bool, List, None, Option, Some, [], ap, arith, cond, count_by, eqb, false, length}
+use Rattle.std.proofs.Common.{map, not, refl, reverse, sym, true, ℕ, ◌&&◌, ◌++◌, ◌<◌, ◌∙◌, ◌∷◌, ◌≡◌, ◌≢◌, ◌≤◌}
 use Rattle.std.proofs.lemmas.Bool.{and_from, and_parts, eq-eqb, eqb-true}
 use Rattle.std.proofs.lemmas.List.{length-map, map-append}
 use Rattle.std.specs.List.{find}
@@ -64,7 +66,8 @@ later w s m differs = ap (λ o. grant o (waits_now w.cond w dropped)) (next_stil
     told : ℕ → State → Outcome
     told u after = record { after = after; effects = effect.Answered u zero_answer ∷ [] }
 
-    by_next : (o : Option Request) → next_owner s m ≡ o → grant o (waits_now w.cond w dropped) ≡ record { after = waits_now w.cond w (grant o dropped).after; effects = (grant o dropped).effects }
+    by_next : (o : Option Request) → next_owner s m ≡ o
+        → grant o (waits_now w.cond w dropped) ≡ record { after = waits_now w.cond w (grant o dropped).after; effects = (grant o dropped).effects }
     by_next None e = refl
     by_next (Some r) e = ap (told r.tid) (grant_still w.cond w dropped r (differs r e))
 
@@ -126,8 +129,11 @@ waits_not block.Sleeping e = refl
 waits_stand : (s : State) (d : Option ℕ) → NineParts s d → Stand (λ (w : WaitRow). w.tid) (λ w. w.cond) is_to_wait spot_of s.threads s.waits
 waits_stand s d was = record { here = λ t k. by_row t k (thread_of s t) refl }
   where
-    by_row : (t k : ℕ) (o : Option ThreadRow) → thread_of s t ≡ o → count_by (λ (w : WaitRow). eqb w.tid t && eqb w.cond k) s.waits ≤ one (passes (λ (row : ThreadRow). is_to_wait row.block && eqb (spot_of row.block) k) (thread_of s t))
-    by_row t k None e = omega (arith, was.blocks.3 t k, count_and-le (is_number t) (λ row. is_waiting k row.block) s.threads, count_not_found (is_number t) s.threads e)
+    by_row : (t k : ℕ) (o : Option ThreadRow) → thread_of s t ≡ o
+        → count_by (λ (w : WaitRow). eqb w.tid t && eqb w.cond k) s.waits
+        ≤ one (passes (λ (row : ThreadRow). is_to_wait row.block && eqb (spot_of row.block) k) (thread_of s t))
+    by_row t k None e =
+        omega (arith, was.blocks.3 t k, count_and-le (is_number t) (λ row. is_waiting k row.block) s.threads, count_not_found (is_number t) s.threads e)
     by_row t k (Some row) e = rw e (omega (arith, waiter_waits s d was t row e k, ap one (waiting-is k row.block)))
 
 -- the lock that was acquired last, where it is that of m
@@ -147,7 +153,8 @@ depth-last locks t m lock once found here = by_found (lock_of locks m) refl
     counted : 1 ≤ count_by (λ l. is_lock m l && eqb l.depth lock.depth) locks
     counted = omega (
       arith,
-      count_found_by (is_owned_by t) (λ l. is_lock m l && eqb l.depth lock.depth) (reverse locks) lock found (and_from _ _ (eq-eqb lock.mon m here) (eq-eqb lock.depth lock.depth refl)),
+      count_found_by (is_owned_by t) (λ l. is_lock m l && eqb l.depth lock.depth) (reverse locks) lock found
+          (and_from _ _ (eq-eqb lock.mon m here) (eq-eqb lock.depth lock.depth refl)),
       count-reverse (λ l. is_lock m l && eqb l.depth lock.depth) locks,
     )
 
@@ -161,8 +168,10 @@ depth-last locks t m lock once found here = by_found (lock_of locks m) refl
         ∙ by_test l (eqb l.depth lock.depth) refl (omega (arith, counted, count_found_and (is_lock m) (λ k. eqb k.depth lock.depth) locks l e once))
 
 -- a condition's monitor lives, and one that is owned is held
-pub monitor-lives : (parts : Parts) → LawfulParts parts → (c m : ℕ) → condition_of parts.conds.conditions c ≡ Some (record { number = c; mon = m }) → member m parts.mons.monitors ≡ true
-monitor-lives parts lawful c m found = all_found (is_condition c) (λ (row : CondRow). member row.mon parts.mons.monitors) parts.conds.conditions (record { number = c; mon = m }) lawful.nine.owners.0 found
+pub monitor-lives : (parts : Parts) → LawfulParts parts → (c m : ℕ)
+    → condition_of parts.conds.conditions c ≡ Some (record { number = c; mon = m }) → member m parts.mons.monitors ≡ true
+monitor-lives parts lawful c m found = all_found (is_condition c) (λ (row : CondRow). member row.mon parts.mons.monitors)
+    parts.conds.conditions (record { number = c; mon = m }) lawful.nine.owners.0 found
 
 pub held-of : (t : ℕ) (o : Option Lock) → passes (is_owned_by t) o ≡ true → is_none o ≡ false
 held-of t None e = absurd (let no : false ≡ true = e in cc)
@@ -179,16 +188,20 @@ module _ (parts mid : Parts) (before told : List Effect) (lawful : LawfulParts p
   stand = waits_stand (state_of parts) parts.dying lawful.nine
 
   pub still-live : (c : ℕ) → condition_of parts.conds.conditions c ≡ Some (record { number = c; mon = m }) → table.is_live mid.conds c ≡ true
-  still-live c found = ap (λ rows. is_some (condition_of rows c)) (ap (λ (s : State). s.conditions) came.state ∙ conditions-kept (state_of parts) m) ∙ ap is_some found
+  still-live c found = ap (λ rows. is_some (condition_of rows c)) (ap (λ (s : State). s.conditions) came.state ∙ conditions-kept (state_of parts) m)
+      ∙ ap is_some found
 
   -- the caller waits nowhere, and there is a place for it
   counted : (ws : List WaitRec) → count_by (table.is_wait_of t) ws ≡ count_by (λ (w : WaitRow). eqb w.tid t) (map table.machine_row ws)
   counted [] = refl
-  counted (w ∷ ws) = omega (arith, counted ws, count-cons (table.is_wait_of t) w ws, count-cons (λ (w : WaitRow). eqb w.tid t) (table.machine_row w) (map table.machine_row ws))
+  counted (w ∷ ws) = omega
+      (arith, counted ws, count-cons (table.is_wait_of t) w ws, count-cons (λ (w : WaitRow). eqb w.tid t) (table.machine_row w) (map table.machine_row ws))
 
   pub waits_nowhere : table.is_waiting mid.conds t ≡ false
   waits_nowhere = none_there (table.is_wait_of t) mid.conds.waits
-      (counted mid.conds.waits ∙ ap (count_by (λ (w : WaitRow). eqb w.tid t)) waits-same ∙ nowhere (λ (w : WaitRow). w.tid) (λ w. w.cond) is_to_wait spot_of (state_of parts).threads (state_of parts).waits stand t row known (waits_not row.block free))
+      (counted mid.conds.waits ∙ ap (count_by (λ (w : WaitRow). eqb w.tid t)) waits-same
+      ∙ nowhere (λ (w : WaitRow). w.tid) (λ w. w.cond) is_to_wait spot_of (state_of parts).threads (state_of parts).waits stand t row
+      known (waits_not row.block free))
 
   pub waits_room : length mid.conds.waits < mid.conds.places
   waits_room = omega (
@@ -198,12 +211,19 @@ module _ (parts mid : Parts) (before told : List Effect) (lawful : LawfulParts p
     count-kept (state_of parts) m,
     length-map mid.conds.waits table.machine_row,
     ap length waits-same,
-    a_place (λ (w : WaitRow). w.tid) (λ w. w.cond) is_to_wait spot_of (state_of parts).threads (state_of parts).waits stand t row known (waits_not row.block free),
+    a_place (λ (w : WaitRow). w.tid) (λ w. w.cond) is_to_wait spot_of (state_of parts).threads (state_of parts).waits stand t row known
+        (waits_not row.block free),
   )
 
   -- who enters next is another
   differs : (r : Request) → next_owner (state_of parts) m ≡ Some r → t ≢ r.tid
-  differs r e same = absurd (omega (arith, (next (state_of parts) parts.dying lawful.nine m r e).some, ap (λ n. requests_by (state_of parts) n r.mon) same, requester_enters (state_of parts) parts.dying lawful.nine t row known r.mon, ap one ((not_apart row.block free).enters r.mon)))
+  differs r e same = absurd (omega (
+    arith,
+    (next (state_of parts) parts.dying lawful.nine m r e).some,
+    ap (λ n. requests_by (state_of parts) n r.mon) same,
+    requester_enters (state_of parts) parts.dying lawful.nine t row known r.mon,
+    ap one ((not_apart row.block free).enters r.mon),
+  ))
 
   module _ (c prio depth : ℕ) where
     abbrev pub then_waits : Parts
@@ -211,13 +231,15 @@ module _ (parts mid : Parts) (before told : List Effect) (lawful : LawfulParts p
 
     pub InStep-then : prio ≡ priority_in (state_of parts) t → InStep then_waits
     InStep-then ranked = InStep-conditions mid came.step (table.after_wait mid.conds (record { cond = c; tid = t; prio = prio; depth = depth }))
-        (ranked_waited (priority_in (state_of mid)) mid.conds came.step.ranked.waits (record { cond = c; tid = t; prio = prio; depth = depth }) (ranked ∙ sym (ap (λ (s : State). priority_in s t) came.state ∙ priority-kept (state_of parts) m t)))
+        (ranked_waited (priority_in (state_of mid)) mid.conds came.step.ranked.waits (record { cond = c; tid = t; prio = prio; depth = depth }) (ranked
+        ∙ sym (ap (λ (s : State). priority_in s t) came.state ∙ priority-kept (state_of parts) m t)))
         refl refl
 
     pub may-then : is_eligible_in (state_of then_waits) t ≡ true
     may-then = ap (λ (s : State). is_eligible_in s t) came.state ∙ may-kept (state_of parts) m t may
 
-    module _ (found : condition_of parts.conds.conditions c ≡ Some (record { number = c; mon = m })) (last : passes (λ lock. eqb m lock.mon) (last_lock parts.mons.locks t) ≡ true) (deep : depth ≡ depth_in parts.mons.locks m) where
+    module _ (found : condition_of parts.conds.conditions c ≡ Some (record { number = c; mon = m }))
+        (last : passes (λ lock. eqb m lock.mon) (last_lock parts.mons.locks t) ≡ true) (deep : depth ≡ depth_in parts.mons.locks m) where
       made : wait (state_of parts) t c ≡ silent_case (after_wait t c (last_lock parts.mons.locks t) (state_of parts))
       unfolding unless
       made = rw (found, last) refl
@@ -231,16 +253,24 @@ module _ (parts mid : Parts) (before told : List Effect) (lawful : LawfulParts p
           made
           ∙ ap (λ o. silent_case (after_wait t c o (state_of parts))) h.is
           ∙ ap (λ k. silent_case (release k (waits_now c (record { cond = c; tid = t; depth = h.lock.depth }) (state_of parts)))) h.here
-          ∙ ap (λ d. silent_case (release m (waits_now c (record { cond = c; tid = t; depth = d }) (state_of parts)))) (sym (deep ∙ depth-last parts.mons.locks t m h.lock (lawful.nine.locks.0 m) h.is h.here))
+          ∙ ap (λ d. silent_case (release m (waits_now c (record { cond = c; tid = t; depth = d }) (state_of parts))))
+          (sym (deep ∙ depth-last parts.mons.locks t m h.lock (lawful.nine.locks.0 m) h.is h.here))
           ∙ ap silent_case (later its (state_of parts) m differs)
 
       state-then : state_of then_waits ≡ record (release m (state_of parts)).after { waits = (release m (state_of parts)).after.waits ++ its ∷ [] }
       state-then =
-          ap (λ ws. record (state_of mid) { waits = ws }) (map-append table.machine_row mid.conds.waits (record { cond = c; tid = t; prio = prio; depth = depth } ∷ []))
+          ap (λ ws. record (state_of mid) { waits = ws })
+          (map-append table.machine_row mid.conds.waits (record { cond = c; tid = t; prio = prio; depth = depth } ∷ []))
           ∙ ap (λ (s : State). record s { waits = s.waits ++ its ∷ [] }) came.state
 
-      pub wait-comes : (new : Parts) → CameTo then_waits new [] [] (still (after_block (state_of then_waits) t (block.Waiting c))) → ComesTo parts new before told (wait (state_of parts) t c) None
+      pub wait-comes : (new : Parts) → CameTo then_waits new [] [] (still (after_block (state_of then_waits) t (block.Waiting c)))
+          → ComesTo parts new before told (wait (state_of parts) t c) None
       wait-comes new comes = rw made-is (record {
-        came = record { state = comes.state ∙ ap (λ (s : State). after_block s t (block.Waiting c)) state-then; effects = came.effects; step = comes.step; dying = comes.dying ∙ came.dying };
+        came = record {
+          state = comes.state ∙ ap (λ (s : State). after_block s t (block.Waiting c)) state-then;
+          effects = came.effects;
+          step = comes.step;
+          dying = comes.dying ∙ came.dying;
+        };
         own = refl;
       })

@@ -84,25 +84,37 @@ module _ (parts : Parts) (t : ℕ) (why : Block) where
     waits-same u (Some k) None is as_before = absurd (cc)
 
     priority-kept : (u : ℕ) → priority_in (state_of (waiting parts t why)) u ≡ priority_in (state_of parts) u
-    priority-kept u = ap (λ rs. change.priority_of parts t f h (λ c k. refl) (λ c row. refl) (find (is_number u) rs)) same ∙ change.priority-changed parts t f h (λ c k. refl) (λ c row. refl) (λ c row. refl) u
+    priority-kept u = ap (λ rs. change.priority_of parts t f h (λ c k. refl) (λ c row. refl) (find (is_number u) rs)) same
+        ∙ change.priority-changed parts t f h (λ c k. refl) (λ c row. refl) (λ c row. refl) u
 
     -- a thread that waits by name then is in this note
-    pub InStep-waiting : (named : NameNote) → IsNoteOf named (map (pair_with_block t why) parts.ids.live) → InStep (record (waiting parts t why) { named = named })
+    pub InStep-waiting : (named : NameNote) → IsNoteOf named (map (pair_with_block t why) parts.ids.live)
+        → InStep (record (waiting parts t why) { named = named })
     InStep-waiting named noted =
         let count : length (state_of (waiting parts t why)).threads ≡ length rows = ap length same ∙ as_many t why rows in
         record {
           tied = record {
             known = λ u. change.knows-changed parts t f h (λ c k. refl) (λ c row. refl) u ∙ step.tied.known u
-                ∙ ap (λ b. b && not (is_same_option parts.dying u)) (sym (ap (λ rs. is_some (find (is_number u) rs)) same ∙ change.thread-changed parts t f h (λ c k. refl) (λ c row. refl) u));
+                ∙ ap (λ b. b && not (is_same_option parts.dying u))
+                (sym (ap (λ rs. is_some (find (is_number u) rs)) same ∙ change.thread-changed parts t f h (λ c k. refl) (λ c row. refl) u));
             waits = λ u. ap (passes (λ (r : Known). r.blocked)) (change.find-known t f (λ c k. refl) u parts.sched.threads)
-                ∙ waits-same u (find (sched.is_of u) parts.sched.threads) (thread_of (state_of parts) u) (known-same parts step.tied alone u) (step.tied.waits u)
+                ∙ waits-same u (find (sched.is_of u) parts.sched.threads) (thread_of (state_of parts) u)
+                (known-same parts step.tied alone u) (step.tied.waits u)
                 ∙ sym (ap (λ rs. passes waits (find (is_number u) rs)) same ∙ ap (passes waits) (change.find-row t h (λ c row. refl) u rows));
           };
           ranked = record {
-            requests = All-weaker (λ (r : EntryRequest). r.prio ≡ priority_in (state_of parts) r.tid) (λ r. r.prio ≡ priority_in (state_of (waiting parts t why)) r.tid) (λ r e. e ∙ sym (priority-kept r.tid)) parts.mons.requests step.ranked.requests;
-            waits = All-weaker (λ (w : WaitRec). w.prio ≡ priority_in (state_of parts) w.tid) (λ w. w.prio ≡ priority_in (state_of (waiting parts t why)) w.tid) (λ w e. e ∙ sym (priority-kept w.tid)) parts.conds.waits step.ranked.waits;
+            requests = All-weaker (λ (r : EntryRequest). r.prio ≡ priority_in (state_of parts) r.tid)
+                (λ r. r.prio ≡ priority_in (state_of (waiting parts t why)) r.tid) (λ r e. e ∙ sym (priority-kept r.tid))
+                parts.mons.requests step.ranked.requests;
+            waits = All-weaker (λ (w : WaitRec). w.prio ≡ priority_in (state_of parts) w.tid)
+                (λ w. w.prio ≡ priority_in (state_of (waiting parts t why)) w.tid) (λ w e. e ∙ sym (priority-kept w.tid)) parts.conds.waits step.ranked.waits;
           };
-          roomy = record { letters = omega (arith, count, step.roomy.letters); threads = omega (arith, count, step.roomy.threads); requests = omega (arith, count, step.roomy.requests); waits = omega (arith, count, step.roomy.waits) };
+          roomy = record {
+            letters = omega (arith, count, step.roomy.letters);
+            threads = omega (arith, count, step.roomy.threads);
+            requests = omega (arith, count, step.roomy.requests);
+            waits = omega (arith, count, step.roomy.waits);
+          };
           monitors = step.monitors;
           conditions = step.conditions;
           noted = noted;

@@ -24,7 +24,8 @@ use Rattle.pod_runner.specs.declared.session.Took.{Took}
 use Rattle.replay.proofs.Moves.{gone-calls, gone-takes}
 use Rattle.replay.specs.Recorded.{line_count}
 use Rattle.replay.specs.Walk.{DueAll, Moment, Move, Reaches, after_move, after_moves, lines_until, session_of, took_at}
-use Rattle.std.proofs.Common.{Bool, Err, List, None, Ok, OnOk, Option, Result, Some, [], ap, arith, false, get_or, inl, inr, length, length-append, length-take, refl, slice_get, subst, suc, sym, take, take_all, true, zero, ℕ, ◌++◌, ◌+◌, ◌-◌, ◌<◌, ◌∙◌, ◌∷◌, ◌≡◌, ◌≤◌}
+use Rattle.std.proofs.Common.{Bool, Err, List, None, Ok, OnOk, Option, Result, Some, [], ap, arith, false, get_or, inl, inr, length, length-append, length-take}
+use Rattle.std.proofs.Common.{refl, slice_get, subst, suc, sym, take, take_all, true, zero, ℕ, ◌++◌, ◌+◌, ◌-◌, ◌<◌, ◌∙◌, ◌∷◌, ◌≡◌, ◌≤◌}
 use Rattle.std.proofs.Math.Seq.{take-append_seam, take-nil}
 use Rattle.std.proofs.lemmas.Bool.{lt-ltb, ltb-true, ltb-false}
 use Rattle.std.proofs.lemmas.Option.{slice_get_past, slice_get_read}
@@ -39,10 +40,12 @@ none-past : {X : Type 0} (xs : List X) (x : X) → slice_get xs (length xs) ≡ 
 none-past xs x is = let no : ◌≡◌ {A = Option _} (Some x) None = sym is ∙ slice_get_past xs (length xs) (omega arith) in cc no
 
 -- the take after a move that is one
-next-is : (ms : List Move) (at : Moment) (t : ℕ × Line) (took : Took) → slice_get (after_moves (after_move at (Some t)) ms).takes (length at.takes) ≡ Some took → took_at at t ≡ took
+next-is : (ms : List Move) (at : Moment) (t : ℕ × Line) (took : Took)
+    → slice_get (after_moves (after_move at (Some t)) ms).takes (length at.takes) ≡ Some took → took_at at t ≡ took
 next-is ms at t took is =
     let w = gone-takes ms (after_move at (Some t)) in
-    let some : ◌≡◌ {A = Option Took} (Some (took_at at t)) (Some took) = sym (at-end at.takes (took_at at t) w.0) ∙ ap (λ ts. slice_get ts (length at.takes)) (sym w.1) ∙ is in
+    let some : ◌≡◌ {A = Option Took} (Some (took_at at t)) (Some took) = sym (at-end at.takes (took_at at t) w.0)
+    ∙ ap (λ ts. slice_get ts (length at.takes)) (sym w.1) ∙ is in
     cc some
 
 -- later takes have later turns
@@ -52,7 +55,8 @@ later-turn (None ∷ ms) at took is = omega (arith, later-turn ms (after_move at
 later-turn (Some t ∷ ms) at took is = omega (arith, ap (λ (x : Took). x.turn) (next-is ms at t took is))
 
 module _ {B : Type 0} (setting : Setting B) where
-  takes-by : (ms : List Move) (to at : Moment) (took : Took) → DueAll setting at ms → after_moves at ms ≡ to → slice_get to.takes (length at.takes) ≡ Some took → took.turn ≡ at.calls → TakesNext setting to at took
+  takes-by : (ms : List Move) (to at : Moment) (took : Took) → DueAll setting at ms → after_moves at ms ≡ to
+      → slice_get to.takes (length at.takes) ≡ Some took → took.turn ≡ at.calls → TakesNext setting to at took
   takes-by [] to at took due comes is turn = absurd (none-past at.takes took (ap (λ (m : Moment). slice_get m.takes (length at.takes)) comes ∙ is))
   takes-by (None ∷ ms) to at took due comes is turn =
       absurd (omega (arith, later-turn ms (after_move at None) took (ap (λ (m : Moment). slice_get m.takes (length at.takes)) comes ∙ is), turn))
@@ -63,10 +67,12 @@ module _ {B : Type 0} (setting : Setting B) where
         way = subst (λ (p : ℕ × Line). Reaches setting (after_move at (Some p)) to) pair (record { moves = ms; due = due.1; comes = comes });
       }
 
-  pub takes-next : (to at : Moment) (took : Took) → Reaches setting at to → slice_get to.takes (length at.takes) ≡ Some took → took.turn ≡ at.calls → TakesNext setting to at took
+  pub takes-next : (to at : Moment) (took : Took) → Reaches setting at to → slice_get to.takes (length at.takes) ≡ Some took
+      → took.turn ≡ at.calls → TakesNext setting to at took
   takes-next to at took way is turn = takes-by way.moves to at took way.due way.comes is turn
 
-  calls-by : (ms : List Move) (to at : Moment) → DueAll setting at ms → after_moves at ms ≡ to → (at ≡ to → ⊥) → ((took : Took) → slice_get to.takes (length at.takes) ≡ Some took → took.turn ≡ at.calls → ⊥) → CallsNext setting to at
+  calls-by : (ms : List Move) (to at : Moment) → DueAll setting at ms → after_moves at ms ≡ to → (at ≡ to → ⊥)
+      → ((took : Took) → slice_get to.takes (length at.takes) ≡ Some took → took.turn ≡ at.calls → ⊥) → CallsNext setting to at
   calls-by [] to at due comes more other = absurd (more comes)
   calls-by (None ∷ ms) to at due comes more other = record {
     due = due.0;
@@ -75,9 +81,11 @@ module _ {B : Type 0} (setting : Setting B) where
   }
   calls-by (Some t ∷ ms) to at due comes more other =
       let w = gone-takes ms (after_move at (Some t)) in
-      absurd (other (took_at at t) (ap (λ (m : Moment). slice_get m.takes (length at.takes)) (sym comes) ∙ ap (λ ts. slice_get ts (length at.takes)) w.1 ∙ at-end at.takes (took_at at t) w.0) refl)
+      absurd (other (took_at at t) (ap (λ (m : Moment). slice_get m.takes (length at.takes)) (sym comes)
+      ∙ ap (λ ts. slice_get ts (length at.takes)) w.1 ∙ at-end at.takes (took_at at t) w.0) refl)
 
-  pub calls-next : (to at : Moment) → Reaches setting at to → (at ≡ to → ⊥) → ((took : Took) → slice_get to.takes (length at.takes) ≡ Some took → took.turn ≡ at.calls → ⊥) → CallsNext setting to at
+  pub calls-next : (to at : Moment) → Reaches setting at to → (at ≡ to → ⊥)
+      → ((took : Took) → slice_get to.takes (length at.takes) ≡ Some took → took.turn ≡ at.calls → ⊥) → CallsNext setting to at
   calls-next to at way more other = calls-by way.moves to at way.due way.comes more other
 
   -- a moment on the way has the first takes
@@ -107,13 +115,17 @@ pub at-place : (takes : List Took) (n i : ℕ) (took : Took) → n ≤ length ta
 at-place takes n i took most low is = slice_get-take takes n i low ∙ slice_get_read takes (length takes) i took refl (omega (arith, most, low)) is
 
 pub none-at : (takes : List Took) (n i : ℕ) (took : Took) → n ≤ i → slice_get (take n takes) i ≡ Some took → ⊥
-none-at takes n i took past is = let no : ◌≡◌ {A = Option Took} (Some took) None = sym is ∙ slice_get_past (take n takes) i (omega (arith, length-take n takes, past)) in cc no
+none-at takes n i took past is = let no : ◌≡◌ {A = Option Took} (Some took) None = sym is
+    ∙ slice_get_past (take n takes) i (omega (arith, length-take n takes, past)) in
+    cc no
 
 -- ---- a step that was made
 
 module _ {B P : Type 0} (next : Next B) (bodies : P → List B) (proc_names : P → List (List ℕ)) where
-  pub taken-on : (to : Moment) (sink : Stream) (old new : Played P) (took : Took) (result : Result (Unit {0}) RunErr) → IsOnWay next bodies to old → TakesNext (run.setting_of next bodies old) to (moment_now old) took
-      → new ≡ after_step old (with_took old took.event took.line) result → Tells sink (run.trace_of next bodies proc_names old) (run.trace_of next bodies proc_names old) (run.trace_of next bodies proc_names new) result
+  pub taken-on : (to : Moment) (sink : Stream) (old new : Played P) (took : Took) (result : Result (Unit {0}) RunErr)
+      → IsOnWay next bodies to old → TakesNext (run.setting_of next bodies old) to (moment_now old) took
+      → new ≡ after_step old (with_took old took.event took.line) result
+      → Tells sink (run.trace_of next bodies proc_names old) (run.trace_of next bodies proc_names old) (run.trace_of next bodies proc_names new) result
       → IsDefined (run.setting_of next bodies new) new.takes new.calls → OnOk result (IsStep next bodies proc_names to sink old new)
   taken-on to sink old new took (Err e) on takes is told made = tt
   taken-on to sink old new took (Ok x) on takes is told made = subst (λ (n : Played P). IsStep next bodies proc_names to sink old n) (sym is) (record {
@@ -130,8 +142,10 @@ module _ {B P : Type 0} (next : Next B) (bodies : P → List B) (proc_names : P 
     told = subst (λ (n : Played P). Writes sink.old sink.new (run.trace_of next bodies proc_names old) (run.trace_of next bodies proc_names n)) is told.0;
   })
 
-  pub called-on : (to : Moment) (sink : Stream) (old new : Played P) (result : Result (Unit {0}) RunErr) → IsOnWay next bodies to old → CallsNext (run.setting_of next bodies old) to (moment_now old)
-      → new ≡ after_step old (with_call old) result → Tells sink (run.trace_of next bodies proc_names old) (run.trace_of next bodies proc_names old) (run.trace_of next bodies proc_names new) result
+  pub called-on : (to : Moment) (sink : Stream) (old new : Played P) (result : Result (Unit {0}) RunErr) → IsOnWay next bodies to old
+      → CallsNext (run.setting_of next bodies old) to (moment_now old)
+      → new ≡ after_step old (with_call old) result
+      → Tells sink (run.trace_of next bodies proc_names old) (run.trace_of next bodies proc_names old) (run.trace_of next bodies proc_names new) result
       → IsDefined (run.setting_of next bodies new) new.takes new.calls → OnOk result (IsStep next bodies proc_names to sink old new)
   called-on to sink old new (Err e) on calls is told made = tt
   called-on to sink old new (Ok x) on calls is told made = subst (λ (n : Played P). IsStep next bodies proc_names to sink old n) (sym is) (record {
@@ -152,7 +166,8 @@ module _ {B P : Type 0} (next : Next B) (bodies : P → List B) (proc_names : P 
 pub turn-of : (s : State) (turns calls : ℕ) → IsTrue (has_turn s) → calls < turns → phase_of s turns calls ≡ phase.Turn
 turn-of s turns calls due room = by s.ended (choice s) due (lt-ltb calls turns room)
   where
-    by : (ended : Bool) (c : Option ℕ) → IsTrue (not ended && is_some c) → nat_lt calls turns ≡ true → (if ended then phase.Ended s.status else phase_by turns calls c) ≡ phase.Turn
+    by : (ended : Bool) (c : Option ℕ) → IsTrue (not ended && is_some c) → nat_lt calls turns ≡ true
+        → (if ended then phase.Ended s.status else phase_by turns calls c) ≡ phase.Turn
     by true c h low = absurd (cc h)
     by false None h low = absurd (cc h)
     by false (Some t) h low = rw low refl
@@ -179,10 +194,17 @@ module _ {B P : Type 0} (next : Next B) (bodies : P → List B) where
     pub takes : here.takes ≡ length now.takes
     pub calls : here.calls ≡ now.calls
 
-  pub going-first : (to : Moment) (old : Played P) (here : Reach) → IsOnWay next bodies to old → here.takes ≡ length old.takes → here.calls ≡ old.calls → Going to old old here
-  going-first to old here on takes calls = record { on = on; same = record { program = refl; params = refl; names = refl; turns = refl }; takes = takes; calls = calls }
+  pub going-first : (to : Moment) (old : Played P) (here : Reach) → IsOnWay next bodies to old → here.takes ≡ length old.takes
+      → here.calls ≡ old.calls → Going to old old here
+  going-first to old here on takes calls = record {
+    on = on;
+    same = record { program = refl; params = refl; names = refl; turns = refl };
+    takes = takes;
+    calls = calls;
+  }
 
-  pub going-on : (proc_names : P → List (List ℕ)) (to : Moment) (sink : Stream) (old now new : Played P) (here after : Reach) → Going to old now here → IsStep next bodies proc_names to sink now new → after.takes ≡ length new.takes
+  pub going-on : (proc_names : P → List (List ℕ)) (to : Moment) (sink : Stream) (old now new : Played P) (here after : Reach)
+      → Going to old now here → IsStep next bodies proc_names to sink now new → after.takes ≡ length new.takes
       → after.calls ≡ new.calls → Going to old new after
   going-on proc_names to sink old now new here after g step takes calls = record {
     on = step.on;
@@ -197,7 +219,8 @@ module _ {B P : Type 0} (next : Next B) (bodies : P → List B) where
   }
 
   -- it is not past the moment
-  pub not-past : (takes : List Took) (end : Reach) (now : Played P) → end.takes ≤ length takes → IsOnWay next bodies (moment_at takes end) now → (length now.takes ≤ end.takes) × (now.calls ≤ end.calls)
+  pub not-past : (takes : List Took) (end : Reach) (now : Played P) → end.takes ≤ length takes
+      → IsOnWay next bodies (moment_at takes end) now → (length now.takes ≤ end.takes) × (now.calls ≤ end.calls)
   not-past takes end now most on =
       let w = gone-takes on.way.moves (moment_now now) in
       let whole : length (take end.takes takes) ≡ length (now.takes ++ w.0) = ap (λ (m : Moment). length m.takes) (sym on.way.comes) ∙ ap length w.1 in (
@@ -206,28 +229,35 @@ module _ {B P : Type 0} (next : Next B) (bodies : P → List B) where
       )
 
   -- a step brings it nearer
-  pub nearer : (proc_names : P → List (List ℕ)) (takes : List Took) (end : Reach) (sink : Stream) (old now new : Played P) (here after : Reach) → end.takes ≤ length takes → Going (moment_at takes end) old now here
+  pub nearer : (proc_names : P → List (List ℕ)) (takes : List Took) (end : Reach) (sink : Stream) (old now new : Played P) (here after : Reach)
+      → end.takes ≤ length takes → Going (moment_at takes end) old now here
       → IsStep next bodies proc_names (moment_at takes end) sink now new → after.takes ≡ length new.takes → after.calls ≡ new.calls
       → (end.takes - after.takes) + (end.calls - after.calls) < (end.takes - here.takes) + (end.calls - here.calls)
   nearer proc_names takes end sink old now new here after most g step took made =
       let past = not-past takes end new most step.on in
       by step.step (ap (λ (m : Moment). length m.takes) step.comes) (ap (λ (m : Moment). m.calls) step.comes) past
     where
-      by : (m : Move) → length new.takes ≡ length (after_move (moment_now now) m).takes → new.calls ≡ (after_move (moment_now now) m).calls → (length new.takes ≤ end.takes) × (new.calls ≤ end.calls)
+      by : (m : Move) → length new.takes ≡ length (after_move (moment_now now) m).takes → new.calls ≡ (after_move (moment_now now) m).calls
+          → (length new.takes ≤ end.takes) × (new.calls ≤ end.calls)
           → (end.takes - after.takes) + (end.calls - after.calls) < (end.takes - here.takes) + (end.calls - here.calls)
       by None longer more past = omega (arith, longer, more, past.0, past.1, took, made, g.takes, g.calls)
-      by (Some t) longer more past = omega (arith, longer, more, past.0, past.1, took, made, g.takes, g.calls, length-append now.takes (took_at (moment_now now) t ∷ []))
+      by (Some t) longer more past =
+          omega (arith, longer, more, past.0, past.1, took, made, g.takes, g.calls, length-append now.takes (took_at (moment_now now) t ∷ []))
 
   -- where it is, as so many of all takes
-  pub moment-here : (takes : List Took) (end here : Reach) (now : Played P) → end.takes ≤ length takes → IsOnWay next bodies (moment_at takes end) now → here.takes ≡ length now.takes → here.calls ≡ now.calls
+  pub moment-here : (takes : List Took) (end here : Reach) (now : Played P) → end.takes ≤ length takes
+      → IsOnWay next bodies (moment_at takes end) now → here.takes ≡ length now.takes → here.calls ≡ now.calls
       → moment_at takes here ≡ moment_now now
   moment-here takes end here now most on took made =
       let past = not-past takes end now most on in
-      let same : now.takes ≡ take (length now.takes) takes = first-takes (run.setting_of next bodies now) (moment_at takes end) (moment_now now) on.way ∙ take-first (length now.takes) end.takes takes past.0 in
+      let same : now.takes
+      ≡ take (length now.takes) takes = first-takes (run.setting_of next bodies now) (moment_at takes end) (moment_now now) on.way
+      ∙ take-first (length now.takes) end.takes takes past.0 in
       ap (λ n. moment_of (take n takes) here.calls) took ∙ ap (λ ts. moment_of ts here.calls) (sym same) ∙ ap (moment_of now.takes) made
 
   -- it is there
-  pub arrived : (takes : List Took) (end here : Reach) (old now : Played P) → end.takes ≤ length takes → Going (moment_at takes end) old now here → here ≡ end → IsThere (moment_at takes end) old now
+  pub arrived : (takes : List Took) (end here : Reach) (old now : Played P) → end.takes ≤ length takes
+      → Going (moment_at takes end) old now here → here ≡ end → IsThere (moment_at takes end) old now
   arrived takes end here old now most g is = record {
     sound = g.on.sound;
     same = g.same;
@@ -250,7 +280,8 @@ module _ {B P : Type 0} (next : Next B) (bodies : P → List B) where
       pub bytes : held.bytes ≡ run.trace_of next bodies proc_names now
       pub few : line_count held.bytes ≤ most
 
-    pub counting-first : (to : Moment) (old : Played P) (here : Reach) (most : ℕ) (held : Counted) → IsNew old → IsOnWay next bodies to old → here.takes ≡ length old.takes → here.calls ≡ old.calls
+    pub counting-first : (to : Moment) (old : Played P) (here : Reach) (most : ℕ) (held : Counted) → IsNew old → IsOnWay next bodies to old
+        → here.takes ≡ length old.takes → here.calls ≡ old.calls
         → held.bytes ≡ [] → Counting to old old here most held
     counting-first to old here most held new on takes calls empty = record {
       going = going-first to old here on takes calls;
@@ -269,12 +300,15 @@ module _ {B P : Type 0} (next : Next B) (bodies : P → List B) where
 
     -- what the sink has after a step
     told-now : (to : Moment) (now new : Played P) (faults more_faults : ℕ) (bytes more : List ℕ) → bytes ≡ run.trace_of next bodies proc_names now
-        → IsStep next bodies proc_names to (record { old = Some bytes; new = Some more; faults_old = faults; faults_new = more_faults }) now new → more ≡ run.trace_of next bodies proc_names new
+        → IsStep next bodies proc_names to (record { old = Some bytes; new = Some more; faults_old = faults; faults_new = more_faults }) now new
+        → more ≡ run.trace_of next bodies proc_names new
     told-now to now new faults more_faults bytes more is step =
-        let told : ◌≡◌ {A = Option (List ℕ)} (Some more) (Some (run.trace_of next bodies proc_names new)) = step.told (Some []) (ap (λ ls. Some ls) is) in cc told
+        let told : ◌≡◌ {A = Option (List ℕ)} (Some more) (Some (run.trace_of next bodies proc_names new)) = step.told (Some []) (ap (λ ls. Some ls) is) in
+        cc told
 
     pub counting-on : (to : Moment) (old now new : Played P) (here after : Reach) (most : ℕ) (held more : Counted) → Counting to old now here most held
-        → IsStep next bodies proc_names to (record { old = Some held.bytes; new = Some more.bytes; faults_old = held.faults; faults_new = more.faults }) now new → after.takes ≡ length new.takes → after.calls ≡ new.calls
+        → IsStep next bodies proc_names to (record { old = Some held.bytes; new = Some more.bytes; faults_old = held.faults; faults_new = more.faults }) now new
+        → after.takes ≡ length new.takes → after.calls ≡ new.calls
         → nat_lt most (line_count more.bytes) ≡ false → Counting to old new after most more
     counting-on to old now new here after most held more g step takes calls under = record {
       going = going-on proc_names to _ old now new here after g.going step takes calls;
@@ -286,12 +320,14 @@ module _ {B P : Type 0} (next : Next B) (bodies : P → List B) where
         → IsLastWithin (run.setting_of next bodies now) (proc_names now.program) most (moment_at takes end) (moment_now now)
         → IsLastWithin (run.setting_of next bodies old) (proc_names old.program) most (moment_at takes end) (moment_at takes here)
     moved takes end here old now most fits g h =
-        subst (λ (m : Moment). IsLastWithin (run.setting_of next bodies old) (proc_names old.program) most (moment_at takes end) m) (sym (moment-here takes end here now fits g.on g.takes g.calls))
+        subst (λ (m : Moment). IsLastWithin (run.setting_of next bodies old) (proc_names old.program) most (moment_at takes end) m)
+        (sym (moment-here takes end here now fits g.on g.takes g.calls))
         (subst (λ (s : Setting B). IsLastWithin s (proc_names old.program) most (moment_at takes end) (moment_now now)) (setting-on old now g.same)
         (subst (λ (p : P). IsLastWithin (run.setting_of next bodies now) (proc_names p) most (moment_at takes end) (moment_now now)) g.same.program h))
 
     -- how many lines were written by then
-    pub told-here : (takes : List Took) (end here : Reach) (old now : Played P) (most : ℕ) (held : Counted) → end.takes ≤ length takes → Counting (moment_at takes end) old now here most held
+    pub told-here : (takes : List Took) (end here : Reach) (old now : Played P) (most : ℕ) (held : Counted) → end.takes ≤ length takes
+        → Counting (moment_at takes end) old now here most held
         → line_count held.bytes ≡ lines_by (run.setting_of next bodies old) (proc_names old.program) (moment_at takes here)
     told-here takes end here old now most held fits g =
         subst (λ (m : Moment). line_count held.bytes ≡ lines_by (run.setting_of next bodies old) (proc_names old.program) m)
@@ -301,7 +337,8 @@ module _ {B P : Type 0} (next : Next B) (bodies : P → List B) where
         (ap line_count g.bytes)))
 
     -- it stops at the end of the way
-    pub stops-there : (takes : List Took) (end here : Reach) (old now : Played P) (most : ℕ) (held : Counted) → end.takes ≤ length takes → Counting (moment_at takes end) old now here most held → here ≡ end
+    pub stops-there : (takes : List Took) (end here : Reach) (old now : Played P) (most : ℕ) (held : Counted) → end.takes ≤ length takes
+        → Counting (moment_at takes end) old now here most held → here ≡ end
         → IsLastWithin (run.setting_of next bodies old) (proc_names old.program) most (moment_at takes end) (moment_at takes here)
     stops-there takes end here old now most held fits g is =
         moved takes end here old now most fits g.going (record {
@@ -312,8 +349,11 @@ module _ {B P : Type 0} (next : Next B) (bodies : P → List B) where
         })
 
     -- it stops since the next step writes too many lines
-    pub stops-before : (takes : List Took) (end here : Reach) (old now new : Played P) (most : ℕ) (held more : Counted) → end.takes ≤ length takes → Counting (moment_at takes end) old now here most held
-        → IsStep next bodies proc_names (moment_at takes end) (record { old = Some held.bytes; new = Some more.bytes; faults_old = held.faults; faults_new = more.faults }) now new
+    pub stops-before : (takes : List Took) (end here : Reach) (old now new : Played P) (most : ℕ) (held more : Counted)
+        → end.takes ≤ length takes → Counting (moment_at takes end) old now here most held
+        → IsStep next bodies proc_names (moment_at takes end)
+        (record { old = Some held.bytes; new = Some more.bytes; faults_old = held.faults; faults_new = more.faults })
+        now new
         → nat_lt most (line_count more.bytes) ≡ true
         → IsLastWithin (run.setting_of next bodies old) (proc_names old.program) most (moment_at takes end) (moment_at takes here)
     stops-before takes end here old now new most held more fits g step over =

@@ -18,8 +18,10 @@ few-lines (b ∷ bytes) = by (is_newline b) (line_count bytes) (few-lines bytes)
     by true n h = omega (arith, h)
     by false n h = omega (arith, h)
 
-pub fits : (lines more most : ℕ) (old new extra : List ℕ) → lines ≡ line_count old → more ≡ line_count extra → new ≡ old ++ extra → most ≡ length new → lines + more ≤ most
+pub fits : (lines more most : ℕ) (old new extra : List ℕ) → lines ≡ line_count old → more ≡ line_count extra → new ≡ old ++ extra
+    → most ≡ length new → lines + more ≤ most
 fits lines more most old new extra had has is count = omega (arith, had, has, count, few-lines new, ap line_count is, count-append old extra)
 
-pub adds : (lines more all : ℕ) (old new extra : List ℕ) → lines ≡ line_count old → more ≡ line_count extra → new ≡ old ++ extra → all ≡ lines + more → all ≡ line_count new
+pub adds : (lines more all : ℕ) (old new extra : List ℕ) → lines ≡ line_count old → more ≡ line_count extra → new ≡ old ++ extra
+    → all ≡ lines + more → all ≡ line_count new
 adds lines more all old new extra had has is sum = omega (arith, had, has, sum, ap line_count is, count-append old extra)

@@ -50,11 +50,13 @@ goes-on-from script turns o r h g = record {
 pub shows-of : (script : Script) (r : Played Script) (n : ℕ) (snap : Snapshot) → GoesOn (opening_run script r.turns) r
     → IsSnapshot n r.takes r.calls (run.session_of body_next bodies_of r).live snap → IsSnapshot n r.takes r.calls (session_at script r.takes r.calls).live snap
 shows-of script r n snap g h =
-    subst (λ (s : Sessions.Session ThreadBody). IsSnapshot n r.takes r.calls s.live snap) (session-is script r.turns r (plays script r.turns (opening_run script r.turns) r refl g)) h
+    subst (λ (s : Sessions.Session ThreadBody). IsSnapshot n r.takes r.calls s.live snap)
+    (session-is script r.turns r (plays script r.turns (opening_run script r.turns) r refl g)) h
 
 plan-of : (calls : ℕ) (source sink : Stream) (e : SessionEnd) (takes : List Took) (made : ℕ) (session : Session) → session ≡ outcome_of e takes made
     → PlanSays calls source sink (outcome_of e takes made) e → IsStateAfterPlan calls source sink session
-plan-of calls source sink e takes made session is says = subst (λ (x : Session). IsStateAfterPlan calls source sink x) (sym is) (record { status = refl; says = says })
+plan-of calls source sink e takes made session is says =
+    subst (λ (x : Session). IsStateAfterPlan calls source sink x) (sym is) (record { status = refl; says = says })
 
 unread-says : (calls : ℕ) (source sink : Stream) (e : SessionEnd) → IsQuiet sink → IsNotRead source e → PlanSays calls source sink (outcome_of e [] 0) e
 unread-says calls source sink end.ReadFault quiet h = (h.0, h.1, record { quiet = quiet; taken = refl; calls = refl })
@@ -71,16 +73,23 @@ unread-says calls source sink end.Same quiet h = absurd h
 unread-says calls source sink (end.Differs line) quiet h = absurd h
 
 -- no script was read
-pub plan-unread : (calls : ℕ) (source sink : Stream) (e : SessionEnd) (session : Session) → session ≡ outcome_of e [] 0 → IsQuiet sink → IsNotRead source e → IsStateAfterPlan calls source sink session
+pub plan-unread : (calls : ℕ) (source sink : Stream) (e : SessionEnd) (session : Session) → session ≡ outcome_of e [] 0 → IsQuiet sink
+    → IsNotRead source e → IsStateAfterPlan calls source sink session
 plan-unread calls source sink e session is quiet h = plan-of calls source sink e [] 0 session is (unread-says calls source sink e quiet h)
 
 -- one was, and then memory ran out
-plan-refused : (calls : ℕ) (source sink : Stream) (script : Script) (session : Session) → session ≡ outcome_of end.NoMemory [] 0 → IsQuiet sink → IsRead source script → IsStateAfterPlan calls source sink session
+plan-refused : (calls : ℕ) (source sink : Stream) (script : Script) (session : Session) → session ≡ outcome_of end.NoMemory [] 0
+    → IsQuiet sink → IsRead source script → IsStateAfterPlan calls source sink session
 plan-refused calls source sink script session is quiet h =
-    plan-of calls source sink end.NoMemory [] 0 session is (h.faultless, read-of source script end.NoMemory h tt, record { quiet = quiet; taken = refl; calls = refl })
+    plan-of calls source sink end.NoMemory [] 0 session is (
+      h.faultless,
+      read-of source script end.NoMemory h tt,
+      record { quiet = quiet; taken = refl; calls = refl },
+    )
 
 -- a script was read, and shown
-pub plan-shown : (calls : ℕ) (source sink : Stream) (script : Script) (session : Session) → IsRead source script → IsShown calls script sink session → IsStateAfterPlan calls source sink session
+pub plan-shown : (calls : ℕ) (source sink : Stream) (script : Script) (session : Session) → IsRead source script
+    → IsShown calls script sink session → IsStateAfterPlan calls source sink session
 plan-shown calls source sink script session h (inl refused) = plan-refused calls source sink script session refused.0 refused.1 h
 plan-shown calls source sink script session h (inr shown) = by shown.0 shown.1 shown.2
   where
@@ -93,12 +102,21 @@ plan-shown calls source sink script session h (inr shown) = by shown.0 shown.1 s
     planned : (ends : SessionEnd) (text : List ℕ) → IsStateOf true script takes made text → IsPlanned calls script (outcome_of ends takes made) text
     planned ends text state = record { made = refl; taken = refl; state = state }
 
-    by : (text : List ℕ) → IsStateOf true script takes made text → IsToldBy end.Reported takes made text sink session → IsStateAfterPlan calls source sink session
+    by : (text : List ℕ) → IsStateOf true script takes made text → IsToldBy end.Reported takes made text sink session
+        → IsStateAfterPlan calls source sink session
     by text state (inl t) = plan-of calls source sink end.Reported takes made session t.0 (
       read-of source script end.Stuck h tt,
-      (h.faultless, says-all source.old script (λ (x : Script). IsWritten (IsPlanned calls x (outcome_of end.Reported takes made)) sink) h.holds (t.1, (text, planned end.Reported text state, t.2))),
+      (
+        h.faultless,
+        says-all source.old script (λ (x : Script). IsWritten (IsPlanned calls x (outcome_of end.Reported takes made)) sink) h.holds
+            (t.1, (text, planned end.Reported text state, t.2)),
+      ),
     )
     by text state (inr t) = plan-of calls source sink end.WriteFault takes made session t.0 (
       read-of source script end.Stuck h tt,
-      (h.faultless, says-all source.old script (λ (x : Script). IsCut (IsPlanned calls x (outcome_of end.WriteFault takes made)) sink) h.holds (t.1, (text, planned end.WriteFault text state, t.2))),
+      (
+        h.faultless,
+        says-all source.old script (λ (x : Script). IsCut (IsPlanned calls x (outcome_of end.WriteFault takes made)) sink) h.holds
+            (t.1, (text, planned end.WriteFault text state, t.2)),
+      ),
     )

@@ -1,5 +1,6 @@
 -- Each call keeps the invariant of the fields of `Monitors`, and has room for the lock that it adds.
-use Rattle.lwp_types.specs.CountLaws.{any_counted, count-failed, count-filter-le, count-map, count-push, count-reverse, count_any, count_found, count_found_by, count_not_found, find_none, length-failed, one, times-without_other}
+use Rattle.lwp_types.specs.CountLaws.{any_counted, count-failed, count-filter-le, count-map, count-push, count-reverse, count_any, count_found}
+use Rattle.lwp_types.specs.CountLaws.{count_found_by, count_not_found, find_none, length-failed, one, times-without_other}
 use Rattle.lwp_types.specs.FirstLaws.{best_passes}
 use Rattle.lwp_types.specs.MonitorRelease.{is_lock, is_owned_by, last_lock, lock_of, locks_on, without_lock}
 use Rattle.lwp_types.specs.Monitors.{lock_with_depth, with_depth}
@@ -10,7 +11,8 @@ use Rattle.monitors.proofs.Room.{length-locks-le, length-locks-lt}
 use Rattle.monitors.specs.Kept.{IsKept}
 use Rattle.monitors.specs.MonitorTable.{MonitorTable, after_destroy, after_give_up, is_free, is_live, next_request, with_grant}
 use Rattle.monitors.specs.declared.requests.EntryRequest.{EntryRequest}
-use Rattle.std.proofs.Common.{List, None, Option, Some, [], ap, arith, eqb, false, inl, inr, is_none, length, refl, reverse, sym, true, ℕ, ◌++◌, ◌+◌, ◌<◌, ◌∙◌, ◌∷◌, ◌≡◌, ◌≤◌}
+use Rattle.std.proofs.Common.{List, None, Option, Some, [], ap, arith, eqb, false, inl, inr, is_none, length}
+use Rattle.std.proofs.Common.{refl, reverse, sym, true, ℕ, ◌++◌, ◌+◌, ◌<◌, ◌∙◌, ◌∷◌, ◌≡◌, ◌≤◌}
 use Rattle.std.proofs.lemmas.Bool.{cases_eq, eq-eqb, eqb-true, ne_eqb}
 use Rattle.std.proofs.lemmas.List.{length_push}
 use Rattle.std.specs.Prelude.{option_map}
@@ -51,7 +53,8 @@ module _ {s : MonitorTable} {lock_room : ℕ} (was : IsKept s lock_room) where
   pub kept_requests : (rs : List EntryRequest) → IsKept (record s { requests = rs }) lock_room
   kept_requests rs = record { held_once = was.held_once; held_live = was.held_live; locks_fit = was.locks_fit; rising = was.rising; born = was.born }
 
-  kept_locks : (locks : List Lock) → ((m : ℕ) → locks_on locks m ≤ 1) → ((m : ℕ) → locks_on locks m ≤ times_in s.monitors m) → IsKept (record s { locks = locks }) lock_room
+  kept_locks : (locks : List Lock) → ((m : ℕ) → locks_on locks m ≤ 1) → ((m : ℕ) → locks_on locks m ≤ times_in s.monitors m)
+      → IsKept (record s { locks = locks }) lock_room
   kept_locks locks once live = record { held_once = once; held_live = live; locks_fit = was.locks_fit; rising = was.rising; born = was.born }
 
   pub length-kept_locks : length s.locks ≤ length s.monitors
@@ -61,7 +64,8 @@ module _ {s : MonitorTable} {lock_room : ℕ} (was : IsKept s lock_room) where
   pub is_live-held : (m : ℕ) → is_free s m ≡ false → is_live s m ≡ true
   is_live-held m taken = any_counted (λ k. eqb k m) s.monitors (omega (arith, held_not_free s m taken, was.held_live m))
 
-  pub IsKept-created : (births room : ℕ) → s.births < births → length s.monitors + 1 ≤ room → IsKept (record s { monitors = s.monitors ++ s.births ∷ []; births = births }) room
+  pub IsKept-created : (births room : ℕ) → s.births < births → length s.monitors + 1 ≤ room
+      → IsKept (record s { monitors = s.monitors ++ s.births ∷ []; births = births }) room
   IsKept-created births room later more = record {
     held_once = was.held_once;
     held_live = λ m. omega (arith, was.held_live m, count-push (λ k. eqb k m) s.monitors s.births);
@@ -96,7 +100,8 @@ module _ {s : MonitorTable} {lock_room : ℕ} (was : IsKept s lock_room) where
   is_free-freed m = ap is_none (find_none (is_lock m) (without_lock m s.locks) (count-failed (is_lock m) s.locks))
 
   pub IsKept-deepened : (m depth : ℕ) → IsKept (record s { locks = with_depth m depth s.locks }) lock_room
-  IsKept-deepened m depth = kept_locks (with_depth m depth s.locks) (λ k. omega (arith, was.held_once k, as_many k)) (λ k. omega (arith, was.held_live k, as_many k))
+  IsKept-deepened m depth =
+      kept_locks (with_depth m depth s.locks) (λ k. omega (arith, was.held_once k, as_many k)) (λ k. omega (arith, was.held_live k, as_many k))
     where
       as_many : (k : ℕ) → locks_on (with_depth m depth s.locks) k ≡ locks_on s.locks k
       as_many k = count-map (is_lock k) (lock_with_depth m depth) s.locks
@@ -104,7 +109,8 @@ module _ {s : MonitorTable} {lock_room : ℕ} (was : IsKept s lock_room) where
   module _ (m : ℕ) (live : is_live s m ≡ true) (free : is_free s m ≡ true) where
     -- there is room for the lock of a live monitor that is free
     pub room_free : length s.locks < lock_room
-    room_free = omega (arith, was.locks_fit, length-locks-lt s.locks s.monitors was.held_once was.held_live m (held_free s m free) (count_any (λ k. eqb k m) s.monitors live))
+    room_free = omega
+        (arith, was.locks_fit, length-locks-lt s.locks s.monitors was.held_once was.held_live m (held_free s m free) (count_any (λ k. eqb k m) s.monitors live))
 
     pub IsKept-taken : (lock : Lock) → lock.mon ≡ m → IsKept (record s { locks = s.locks ++ lock ∷ [] }) lock_room
     IsKept-taken lock its = kept_locks (s.locks ++ lock ∷ []) (λ k. omega (arith, once k)) (λ k. omega (arith, alive k))

@@ -17,7 +17,9 @@ same_prio : (ws : List Waiting) → AllByRecursion (λ (w : Waiting). w.prio ≡
 same_prio [] = tt
 same_prio (w ∷ ws) = (refl, same_prio ws)
 
-pub next-line : (m : ℕ) (ws : List Waiting) → best_by (λ (r : EntryRequest). r.prio) (filter (λ (r : EntryRequest). eqb r.mon m) (map request_of ws)) ≡ option_map request_of (best_by (λ (w : Waiting). w.prio) (filter (is_for m) ws))
+pub next-line : (m : ℕ) (ws : List Waiting)
+    → best_by (λ (r : EntryRequest). r.prio) (filter (λ (r : EntryRequest). eqb r.mon m) (map request_of ws))
+    ≡ option_map request_of (best_by (λ (w : Waiting). w.prio) (filter (is_for m) ws))
 next-line m ws =
     ap (best_by (λ (r : EntryRequest). r.prio)) (requests-line m ws)
     ∙ best-map request_of (λ (w : Waiting). w.prio) (λ (r : EntryRequest). r.prio) (filter (is_for m) ws) (same_prio (filter (is_for m) ws))
@@ -37,5 +39,6 @@ tids : (ws : List Waiting) → map (λ (w : Waiting). w.tid) ws ≡ map (λ (r :
 tids [] = refl
 tids (w ∷ ws) = ap (λ ts. w.tid ∷ ts) (tids ws)
 
-pub tids-line : (m : ℕ) (ws : List Waiting) → map (λ (w : Waiting). w.tid) (filter (is_for m) ws) ≡ map (λ (r : EntryRequest). r.tid) (filter (λ (r : EntryRequest). eqb r.mon m) (map request_of ws))
+pub tids-line : (m : ℕ) (ws : List Waiting)
+    → map (λ (w : Waiting). w.tid) (filter (is_for m) ws) ≡ map (λ (r : EntryRequest). r.tid) (filter (λ (r : EntryRequest). eqb r.mon m) (map request_of ws))
 tids-line m ws = tids (filter (is_for m) ws) ∙ ap (map (λ (r : EntryRequest). r.tid)) (sym (requests-line m ws))

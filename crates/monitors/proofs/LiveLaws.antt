@@ -3,7 +3,8 @@ use Rattle.lwp_types.specs.CountLaws.{any_counted, count-cons, count_any, one}
 use Rattle.lwp_types.specs.OnlyLaws.{count_at, filter_none, remove_only}
 use Rattle.lwp_types.specs.State.{member, times_in, without}
 use Rattle.monitors.specs.Kept.{AreRising, IsAt}
-use Rattle.std.proofs.Common.{Bool, List, None, Option, Some, [], ap, arith, cond, eqb, false, get_or, inl, inr, is_some, length, not, refl, suc, sym, true, zero, ℕ, ◌++◌, ◌<◌, ◌∷◌, ◌≡◌, ◌≤◌}
+use Rattle.std.proofs.Common.{Bool, List, None, Option, Some, [], ap, arith, cond, eqb, false, get_or, inl, inr}
+use Rattle.std.proofs.Common.{is_some, length, not, refl, suc, sym, true, zero, ℕ, ◌++◌, ◌<◌, ◌∷◌, ◌≡◌, ◌≤◌}
 use Rattle.std.proofs.lemmas.Bool.{cases_eq, eq-eqb, ne_eqb}
 use Rattle.std.specs.List.{AllByRecursion, remove}
 use Rattle.std.specs.List.Sorted.{IsNonDecreasingBy}
@@ -28,7 +29,8 @@ never_falls ns rising i j d le within = elim (cases_eq i j) [
 
 above_none : (n m : ℕ) (ns : List ℕ) → AllByRecursion (λ k. n < k) ns → m ≤ n → times_in ns m ≡ 0
 above_none n m [] all low = refl
-above_none n m (k ∷ ns) all low = omega (arith, count-cons (λ j. eqb j m) k ns, ap one (ne_eqb k m (λ e. absurd (omega (arith, e, all.0, low)))), above_none n m ns all.1 low)
+above_none n m (k ∷ ns) all low =
+    omega (arith, count-cons (λ j. eqb j m) k ns, ap one (ne_eqb k m (λ e. absurd (omega (arith, e, all.0, low)))), above_none n m ns all.1 low)
 
 pub at_most_once : (ns : List ℕ) (m : ℕ) → AreRising ns → times_in ns m ≤ 1
 at_most_once [] m rising = omega arith
@@ -48,7 +50,8 @@ not_member ns m none = by_any (member m ns) refl
 
 pub found_is_member : (ns : List ℕ) (m : ℕ) (o : Option ℕ) → IfNone o (times_in ns m ≡ 0) → IfSome o (IsAt m ns) → is_some o ≡ member m ns
 found_is_member ns m None none some = sym (not_member ns m none)
-found_is_member ns m (Some i) none some = sym (any_counted (λ n. eqb n m) ns (omega (arith, count_at (λ n. eqb n m) ns i 0 some.within (eq-eqb (get_or ns i 0) m (some.here 0)))))
+found_is_member ns m (Some i) none some =
+    sym (any_counted (λ n. eqb n m) ns (omega (arith, count_at (λ n. eqb n m) ns i 0 some.within (eq-eqb (get_or ns i 0) m (some.here 0)))))
 
 pub without_found : (ns : List ℕ) (m i : ℕ) → AreRising ns → IsAt m ns i → remove ns i ≡ without m ns
 without_found ns m i rising here = remove_only (λ n. eqb n m) ns i 0 (at_most_once ns m rising) here.within (eq-eqb (get_or ns i 0) m (here.here 0))

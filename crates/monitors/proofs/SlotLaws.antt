@@ -6,7 +6,8 @@ use Rattle.lwp_types.specs.OnlyLaws.{filter_none, map_none, remove_only, set_onl
 use Rattle.lwp_types.specs.State.{passes}
 use Rattle.lwp_types.specs.declared.rows.Lock.{Lock}
 use Rattle.monitors.specs.Slots.{IsLastIn, NoneIn, deeper, has_in, lock_in}
-use Rattle.std.proofs.Common.{Bool, List, None, Option, Some, [], ap, arith, cond, count_by, false, get_or, is_some, length, option_map, refl, reverse, set, suc, sym, take, true, zero, ℕ, ◌++◌, ◌<◌, ◌∙◌, ◌∷◌, ◌≡◌, ◌≢◌, ◌≤◌}
+use Rattle.std.proofs.Common.{Bool, List, None, Option, Some, [], ap, arith, cond, count_by, false, get_or, is_some, length, option_map}
+use Rattle.std.proofs.Common.{refl, reverse, set, suc, sym, take, true, zero, ℕ, ◌++◌, ◌<◌, ◌∙◌, ◌∷◌, ◌≡◌, ◌≢◌, ◌≤◌}
 use Rattle.std.proofs.lemmas.List.{get_or-set_other, get_or-take, get_or_append_left, get_or_past, get_or_push, reverse-append}
 use Rattle.std.specs.List.{filter, find, remove}
 use Rattle.lists.specs.Living.{living}
@@ -101,7 +102,8 @@ pub has_other : (p : Lock → Bool) (slots : List (Option Lock)) (i j : ℕ) (o 
 has_other p slots i j o away = ap (passes p) (get_or-set_other slots i j o None away)
 
 -- whether the last slot goes or is empty
-pub has_cut : (p : Lock → Bool) (slots : List (Option Lock)) (i : ℕ) → suc i ≡ length slots → (j : ℕ) → has_in p (take i slots) j ≡ has_in p (set slots i None) j
+pub has_cut : (p : Lock → Bool) (slots : List (Option Lock)) (i : ℕ) → suc i ≡ length slots → (j : ℕ)
+    → has_in p (take i slots) j ≡ has_in p (set slots i None) j
 has_cut p [] i last j = absurd (omega (arith, last))
 has_cut p (x ∷ []) zero last zero = refl
 has_cut p (x ∷ []) zero last (suc j) = refl
@@ -116,7 +118,8 @@ has_emptied p (x ∷ slots) zero = refl
 has_emptied p (x ∷ slots) (suc i) = has_emptied p slots i
 
 -- a lock at another depth is the same otherwise
-pub has_deepened : (p : Lock → Bool) → ((depth : ℕ) (lock : Lock) → p (deeper depth lock) ≡ p lock) → (depth : ℕ) (slots : List (Option Lock)) (i j : ℕ) → has_in p (set slots i (option_map (deeper depth) (get_or slots i None))) j ≡ has_in p slots j
+pub has_deepened : (p : Lock → Bool) → ((depth : ℕ) (lock : Lock) → p (deeper depth lock) ≡ p lock)
+    → (depth : ℕ) (slots : List (Option Lock)) (i j : ℕ) → has_in p (set slots i (option_map (deeper depth) (get_or slots i None))) j ≡ has_in p slots j
 has_deepened p alike depth [] i j = refl
 has_deepened p alike depth (None ∷ slots) zero zero = refl
 has_deepened p alike depth (Some x ∷ slots) zero zero = alike depth x
@@ -154,13 +157,15 @@ ranked (Some x ∷ slots) (suc i) lock is =
     }
 
 -- the lock of the monitor goes with its slot
-pub living_freed : (m : ℕ) (slots : List (Option Lock)) (i : ℕ) → locks_on (living slots) m ≤ 1 → has_in (is_lock m) slots i ≡ true → living (set slots i None) ≡ without_lock m (living slots)
+pub living_freed : (m : ℕ) (slots : List (Option Lock)) (i : ℕ) → locks_on (living slots) m ≤ 1 → has_in (is_lock m) slots i ≡ true
+    → living (set slots i None) ≡ without_lock m (living slots)
 living_freed m slots i few passed =
     let one = has_lock (is_lock m) (get_or slots i None) passed in
     let rank = ranked slots i one.lock one.is in
     rank.emptied ∙ remove_only (is_lock m) (living slots) rank.rank one.lock few rank.within (ap (is_lock m) (sym rank.here) ∙ one.passed)
 
-pub living_deepened : (m depth : ℕ) (slots : List (Option Lock)) (i : ℕ) → locks_on (living slots) m ≤ 1 → has_in (is_lock m) slots i ≡ true → living (set slots i (option_map (deeper depth) (get_or slots i None))) ≡ with_depth m depth (living slots)
+pub living_deepened : (m depth : ℕ) (slots : List (Option Lock)) (i : ℕ) → locks_on (living slots) m ≤ 1 → has_in (is_lock m) slots i ≡ true
+    → living (set slots i (option_map (deeper depth) (get_or slots i None))) ≡ with_depth m depth (living slots)
 living_deepened m depth slots i few passed =
     let one = has_lock (is_lock m) (get_or slots i None) passed in
     let rank = ranked slots i one.lock one.is in
@@ -168,16 +173,26 @@ living_deepened m depth slots i few passed =
     ap (λ o. living (set slots i (option_map (deeper depth) o))) one.is
     ∙ rank.written (deeper depth one.lock)
     ∙ ap (set (living slots) rank.rank) deep
-    ∙ set_only (is_lock m) (lock_with_depth m depth) (λ x other. ap (λ b. record x { depth = cond b depth x.depth }) other) (living slots) rank.rank one.lock few rank.within rank.here one.passed
+    ∙ set_only (is_lock m) (lock_with_depth m depth) (λ x other. ap (λ b. record x { depth = cond b depth x.depth }) other) (living slots)
+    rank.rank one.lock few rank.within rank.here one.passed
 
-pub count_deepened : (p : Lock → Bool) → ((depth : ℕ) (lock : Lock) → p (deeper depth lock) ≡ p lock) → (depth : ℕ) (slots : List (Option Lock)) (i : ℕ) → count_by p (living (set slots i (option_map (deeper depth) (get_or slots i None)))) ≡ count_by p (living slots)
+pub count_deepened : (p : Lock → Bool) → ((depth : ℕ) (lock : Lock) → p (deeper depth lock) ≡ p lock)
+    → (depth : ℕ) (slots : List (Option Lock)) (i : ℕ)
+    → count_by p (living (set slots i (option_map (deeper depth) (get_or slots i None)))) ≡ count_by p (living slots)
 count_deepened p alike depth [] i = refl
 count_deepened p alike depth (None ∷ slots) zero = refl
-count_deepened p alike depth (Some x ∷ slots) zero = omega (arith, count-cons p (deeper depth x) (living slots), count-cons p x (living slots), ap one (alike depth x))
+count_deepened p alike depth (Some x ∷ slots) zero =
+    omega (arith, count-cons p (deeper depth x) (living slots), count-cons p x (living slots), ap one (alike depth x))
 count_deepened p alike depth (None ∷ slots) (suc i) = count_deepened p alike depth slots i
-count_deepened p alike depth (Some x ∷ slots) (suc i) = omega (arith, count-cons p x (living (set slots i (option_map (deeper depth) (get_or slots i None)))), count-cons p x (living slots), count_deepened p alike depth slots i)
+count_deepened p alike depth (Some x ∷ slots) (suc i) = omega (
+  arith,
+  count-cons p x (living (set slots i (option_map (deeper depth) (get_or slots i None)))),
+  count-cons p x (living slots),
+  count_deepened p alike depth slots i,
+)
 
-pub length_deepened : (depth : ℕ) (slots : List (Option Lock)) (i : ℕ) → length (living (set slots i (option_map (deeper depth) (get_or slots i None)))) ≡ length (living slots)
+pub length_deepened : (depth : ℕ) (slots : List (Option Lock)) (i : ℕ)
+    → length (living (set slots i (option_map (deeper depth) (get_or slots i None)))) ≡ length (living slots)
 length_deepened depth [] i = refl
 length_deepened depth (None ∷ slots) zero = refl
 length_deepened depth (Some x ∷ slots) zero = refl
@@ -207,7 +222,8 @@ module _ (p : Lock → Bool) where
   counted_before (None ∷ slots) zero passed = absurd (cc)
   counted_before (None ∷ slots) (suc i) passed = counted_before slots i passed
   counted_before (Some x ∷ slots) zero passed = omega (arith, count-cons p x (living slots), ap one passed)
-  counted_before (Some x ∷ slots) (suc i) passed = omega (arith, count-cons p x (living slots), count-cons p x (living (take i slots)), counted_before slots i passed)
+  counted_before (Some x ∷ slots) (suc i) passed =
+      omega (arith, count-cons p x (living slots), count-cons p x (living (take i slots)), counted_before slots i passed)
 
   pub only_at : (slots : List (Option Lock)) (i : ℕ) → count_by p (living slots) ≤ 1 → has_in p slots i ≡ true → find p (living slots) ≡ get_or slots i None
   only_at [] i few passed = absurd (cc)
@@ -216,7 +232,8 @@ module _ (p : Lock → Bool) where
   only_at (Some x ∷ slots) zero few passed = rw passed refl
   only_at (Some x ∷ slots) (suc i) few passed = by_test (p x) refl (λ fewer. only_at slots i fewer passed)
     where
-      by_test : (b : Bool) → p x ≡ b → (count_by p (living slots) ≤ 1 → find p (living slots) ≡ get_or slots i None) → cond b (Some x) (find p (living slots)) ≡ get_or slots i None
+      by_test : (b : Bool) → p x ≡ b → (count_by p (living slots) ≤ 1 → find p (living slots) ≡ get_or slots i None)
+          → cond b (Some x) (find p (living slots)) ≡ get_or slots i None
       by_test true here rest = absurd (omega (arith, few, count-cons p x (living slots), ap one here, counted_at slots i passed))
       by_test false other rest = rest (omega (arith, few, count-cons p x (living slots), ap one other))
 
@@ -224,7 +241,8 @@ module _ (p : Lock → Bool) where
   pub none_counted : (slots : List (Option Lock)) → ((i : ℕ) → i < length slots → has_in p slots i ≡ false) → count_by p (living slots) ≡ 0
   none_counted [] none = refl
   none_counted (None ∷ slots) none = none_counted slots (λ i less. none (suc i) (omega (arith, less)))
-  none_counted (Some x ∷ slots) none = omega (arith, count-cons p x (living slots), ap one (none 0 (omega arith)), none_counted slots (λ i less. none (suc i) (omega (arith, less))))
+  none_counted (Some x ∷ slots) none =
+      omega (arith, count-cons p x (living slots), ap one (none 0 (omega arith)), none_counted slots (λ i less. none (suc i) (omega (arith, less))))
 
   -- the other way round
   pub counted_none : (slots : List (Option Lock)) → count_by p (living slots) ≡ 0 → (i : ℕ) → has_in p slots i ≡ false
@@ -248,7 +266,8 @@ module _ (p : Lock → Bool) where
   find_push [] x = refl
   find_push (y ∷ xs) x = by_test (p y) (find_push xs x)
     where
-      by_test : (b : Bool) → find p (xs ++ x ∷ []) ≡ or_else (find p xs) (cond (p x) (Some x) None) → cond b (Some y) (find p (xs ++ x ∷ [])) ≡ or_else (cond b (Some y) (find p xs)) (cond (p x) (Some x) None)
+      by_test : (b : Bool) → find p (xs ++ x ∷ []) ≡ or_else (find p xs) (cond (p x) (Some x) None)
+          → cond b (Some y) (find p (xs ++ x ∷ [])) ≡ or_else (cond b (Some y) (find p xs)) (cond (p x) (Some x) None)
       by_test true rest = refl
       by_test false rest = rest
 
@@ -265,7 +284,8 @@ module _ (p : Lock → Bool) where
   or_some None q passed = absurd (cc)
   or_some (Some x) q passed = refl
 
-  last_at : (slots : List (Option Lock)) (i : ℕ) → has_in p slots i ≡ true → NoneIn p slots (suc i) (length slots) → last_passing (living slots) ≡ get_or slots i None
+  last_at : (slots : List (Option Lock)) (i : ℕ) → has_in p slots i ≡ true → NoneIn p slots (suc i) (length slots)
+      → last_passing (living slots) ≡ get_or slots i None
   unfolding last_passing or_else
   last_at [] i passed none = absurd (cc)
   last_at (None ∷ slots) zero passed none = absurd (cc)

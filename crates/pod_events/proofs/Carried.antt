@@ -16,12 +16,14 @@ use Rattle.pod_events.specs.Events.{EventState, after_pass_on, after_take_trap, 
 use Rattle.pod_events.specs.Fates.{births_by}
 use Rattle.pod_events.specs.Rites.{after_first_report, after_rites, report_text, reports_after}
 use Rattle.pod_events.specs.Step.{event_step, event_step_by, event_step_if}
-use Rattle.pod_events.specs.Traps.{after_call, after_call_as, after_machine_step, after_refusal, after_trap, after_trap_and_call, agent_event_of, but_call, is_catch, is_given, notice, trap_of, trap_refusal}
+use Rattle.pod_events.specs.Traps.{after_call, after_call_as, after_machine_step, after_refusal, after_trap, after_trap_and_call}
+use Rattle.pod_events.specs.Traps.{agent_event_of, but_call, is_catch, is_given, notice, trap_of, trap_refusal}
 use Rattle.std.proofs.Common.{Bool, List, None, Option, Some, [], ap, cond, false, inl, refl, true, ℕ, ◌∙◌, ◌∷◌, ◌≡◌, ◌⊎◌}
 use Rattle.std.specs.List.{list_any}
 
 -- by a line
-pub take_keeps : (P : State → Type 0) (es : EventState) (e : ℕ) (text : List ℕ) → (is_trapped es.trapped e ≡ false → P (deliver es.state e text).after) → P es.state → P (take_event es e text).after.state
+pub take_keeps : (P : State → Type 0) (es : EventState) (e : ℕ) (text : List ℕ)
+    → (is_trapped es.trapped e ≡ false → P (deliver es.state e text).after) → P es.state → P (take_event es e text).after.state
 unfolding take_event
 take_keeps P es e text delivered holds = by_trapped (is_trapped es.trapped e) refl
   where
@@ -33,16 +35,19 @@ take_keeps P es e text delivered holds = by_trapped (is_trapped es.trapped e) re
 abbrev pub IsOwnCall : Call → Type 0
 IsOwnCall c = (agent_event_of c ≡ None) × (births_by c ≡ 0)
 
-module _ (P : State → Type 0) (reported : (s : State) → is_event_armed s rites_event ≡ true → (text : List ℕ) → P s → P (deliver s rites_event text).after) where
+module _ (P : State → Type 0) (reported : (s : State) → is_event_armed s rites_event ≡ true → (text : List ℕ) → P s
+    → P (deliver s rites_event text).after) where
   by_report : (s : State) (es : List Effect) (reports : List ℕ) → P s → P (after_rites s es reports).state
   by_report s es reports holds = by_armed (is_event_armed s rites_event) refl reports
     where
-      by_armed : (b : Bool) → is_event_armed s rites_event ≡ b → (rs : List ℕ) → P (cond b (after_first_report s es rs) (record { state = s; reports = rs; effects = es })).state
+      by_armed : (b : Bool) → is_event_armed s rites_event ≡ b → (rs : List ℕ)
+          → P (cond b (after_first_report s es rs) (record { state = s; reports = rs; effects = es })).state
       by_armed true arms [] = holds
       by_armed true arms (dead ∷ later) = reported s arms (report_text dead) holds
       by_armed false arms rs = holds
 
-  module _ (s : State) (trapped : List Bool) (t : ℕ) (c : Call) (holds : P s) (asked : passes (is_trapped trapped) (agent_event_of c) ≡ false → P (step s c).after) (unasked : (d : Call) → IsOwnCall d → P (step s d).after) where
+  module _ (s : State) (trapped : List Bool) (t : ℕ) (c : Call) (holds : P s)
+      (asked : passes (is_trapped trapped) (agent_event_of c) ≡ false → P (step s c).after) (unasked : (d : Call) → IsOwnCall d → P (step s d).after) where
     by_call : P (after_call s trapped t c).state
     by_call = by_trap (trap_of c)
       where
@@ -50,7 +55,8 @@ module _ (P : State → Type 0) (reported : (s : State) → is_event_armed s rit
         by_refusal e None = holds
         by_refusal e (Some why) = holds
 
-        by_agent : (b : Bool) → passes (is_trapped trapped) (agent_event_of c) ≡ b → P (cond b (after_refusal s trapped t c error.InUse) (after_machine_step trapped (step s c))).state
+        by_agent : (b : Bool) → passes (is_trapped trapped) (agent_event_of c) ≡ b
+            → P (cond b (after_refusal s trapped t c error.InUse) (after_machine_step trapped (step s c))).state
         by_agent true is = holds
         by_agent false is = asked is
 
@@ -62,13 +68,16 @@ module _ (P : State → Type 0) (reported : (s : State) → is_event_armed s rit
     by_trap_and_call None = by_call
     by_trap_and_call (Some e) = by_given (passes is_given (notice s t e)) (passes is_catch (notice s t e))
       where
-        by_given : (b d : Bool) → P (cond b (after_call s trapped t c) (cond d (after_machine_step trapped (but_call (step s (call.ExcNotify e)))) (after_machine_step trapped (but_call (step s (call.Destroy t)))))).state
+        by_given : (b d : Bool)
+            → P (cond b (after_call s trapped t c) (cond d (after_machine_step trapped (but_call (step s (call.ExcNotify e))))
+            (after_machine_step trapped (but_call (step s (call.Destroy t)))))).state
         by_given true d = by_call
         by_given false true = unasked (call.ExcNotify e) (refl, refl)
         by_given false false = unasked (call.Destroy t) (refl, refl)
 
   -- by a call
-  pub call_keeps : (es : EventState) (c : Call) → ((t : ℕ) → choice es.state ≡ Some t → passes (is_trapped es.trapped) (agent_event_of c) ≡ false → P (step es.state c).after)
+  pub call_keeps : (es : EventState) (c : Call)
+      → ((t : ℕ) → choice es.state ≡ Some t → passes (is_trapped es.trapped) (agent_event_of c) ≡ false → P (step es.state c).after)
       → ((t : ℕ) → choice es.state ≡ Some t → (d : Call) → IsOwnCall d → P (step es.state d).after) → P es.state → P (event_step es c).after.state
   unfolding event_step event_step_by
   call_keeps es c asked unasked holds = by_choice (choice es.state) refl
@@ -77,7 +86,8 @@ module _ (P : State → Type 0) (reported : (s : State) → is_event_armed s rit
       by_choice None nobody = holds
       by_choice (Some t) chosen =
           let out = after_trap_and_call es.state es.trapped t c es.pending in
-          by_report out.state out.effects (reports_after es.state out.state es.reports out.effects) (by_trap_and_call es.state es.trapped t c holds (asked t chosen) (unasked t chosen) es.pending)
+          by_report out.state out.effects (reports_after es.state out.state es.reports out.effects)
+          (by_trap_and_call es.state es.trapped t c holds (asked t chosen) (unasked t chosen) es.pending)
 
 -- no agent comes by a call but by an Agent of an event that isn't trapped: the caller's, and the next to be born
 pub call_unjoined : (p : AgentTest) (es : EventState) (c : Call)
@@ -88,12 +98,14 @@ call_unjoined p es c other none = call_keeps (NoSuchAgent p) (λ s arms text non
     (λ t chosen d own. step_unjoined es.state t chosen d p (ap (passes (λ e. p es.state.births e t)) own.0) none)
     none
   where
-    by_event : (t : ℕ) → choice es.state ≡ Some t → (o : Option ℕ) → agent_event_of c ≡ o → passes (is_trapped es.trapped) o ≡ false → passes (λ e. p es.state.births e t) o ≡ false
+    by_event : (t : ℕ) → choice es.state ≡ Some t → (o : Option ℕ) → agent_event_of c ≡ o → passes (is_trapped es.trapped) o ≡ false
+        → passes (λ e. p es.state.births e t) o ≡ false
     by_event t chosen None is free = refl
     by_event t chosen (Some e) is free = other t e chosen is free
 
 -- nor a thread but by a Create
-pub call_unborn : (q : ℕ → Bool) (es : EventState) (c : Call) → (births_by c ≡ 0) ⊎ (q es.state.births ≡ false) → NoSuchThread q es.state → NoSuchThread q (event_step es c).after.state
+pub call_unborn : (q : ℕ → Bool) (es : EventState) (c : Call) → (births_by c ≡ 0) ⊎ (q es.state.births ≡ false) → NoSuchThread q es.state
+    → NoSuchThread q (event_step es c).after.state
 call_unborn q es c pays none = call_keeps (NoSuchThread q) (λ s arms text none. ap (list_any q) (mild_deliver s rites_event text).lives ∙ none) es c
     (λ t chosen free. step_unborn es.state t chosen c q pays none)
     (λ t chosen d own. step_unborn es.state t chosen d q (inl (own.1)) none)

@@ -15,7 +15,8 @@ use Rattle.pod_events.specs.Events.{is_trapped, rites_event}
 use Rattle.pod_events.specs.Laws.{AsksForFates, CallsAreTheMachines, IsOfMoves, MachineMove, ToDeliver, ToStep, machine_after, machine_effects, machine_move}
 use Rattle.pod_events.specs.Rites.{after_first_report, as_rites, report_text, reports_after, after_rites}
 use Rattle.pod_events.specs.Step.{event_step, event_step_by, event_step_if}
-use Rattle.pod_events.specs.Traps.{after_call, after_call_as, after_machine_step, after_trap, after_trap_and_call, agent_event_of, but_call, is_catch, is_given, notice, after_refusal, trap_of, trap_refusal}
+use Rattle.pod_events.specs.Traps.{after_call, after_call_as, after_machine_step, after_trap, after_trap_and_call, agent_event_of}
+use Rattle.pod_events.specs.Traps.{but_call, is_catch, is_given, notice, after_refusal, trap_of, trap_refusal}
 use Rattle.std.proofs.Common.{Bool, List, None, Option, Some, [], ap, arith, cond, count_by, drop, false, map, refl, sym, true, ℕ, ◌++◌, ◌+◌, ◌∙◌, ◌∷◌, ◌≡◌}
 
 -- a state and effects are those of these moves, from a state
@@ -28,12 +29,19 @@ still-goes : (s : State) (es : List Effect) → ((p : Effect → Bool) → AsksF
 still-goes s es none = record { moves = []; state = refl; fates = none }
 
 -- one step of the machine, by effects that tell of the same
-one-goes : (s : State) (c : Call) (es : List Effect) → ((p : Effect → Bool) → AsksForFates p → count_by p es ≡ count_by p (step s c).effects) → Goes s (step s c).after es
+one-goes : (s : State) (c : Call) (es : List Effect)
+    → ((p : Effect → Bool) → AsksForFates p → count_by p es ≡ count_by p (step s c).effects) → Goes s (step s c).after es
 one-goes s c es same = record { moves = ToStep c ∷ []; state = refl; fates = λ p asks. omega (arith, same p asks, count-append p (step s c).effects []) }
 
 module _ (p : Effect → Bool) (asks : AsksForFates p) where
   refusal-none : (t : ℕ) (c : Call) (a : Answer) → count_by p (effect.Called t c ∷ effect.Answered t a ∷ []) ≡ 0
-  refusal-none t c a = omega (arith, count-cons p (effect.Called t c) (effect.Answered t a ∷ []), count-cons p (effect.Answered t a) [], ap one (asks.no_call t c), ap one (asks.no_answer t a))
+  refusal-none t c a = omega (
+    arith,
+    count-cons p (effect.Called t c) (effect.Answered t a ∷ []),
+    count-cons p (effect.Answered t a) [],
+    ap one (asks.no_call t c),
+    ap one (asks.no_answer t a),
+  )
 
   -- the call itself isn't asked for
   but_call-same : (s : State) (c : Call) → count_by p (but_call (step s c)).effects ≡ count_by p (step s c).effects
@@ -66,7 +74,9 @@ made-goes s trapped t c = by_trap (trap_of c)
     by_refusal e None = still-goes s _ (λ p asks. refusal-none p asks t c _)
     by_refusal e (Some why) = still-goes s _ (λ p asks. refusal-none p asks t c _)
 
-    by_agent : (b : Bool) → Goes s (cond b (after_refusal s trapped t c error.InUse) (after_machine_step trapped (step s c))).state (cond b (after_refusal s trapped t c error.InUse) (after_machine_step trapped (step s c))).effects
+    by_agent : (b : Bool)
+        → Goes s (cond b (after_refusal s trapped t c error.InUse) (after_machine_step trapped (step s c))).state
+        (cond b (after_refusal s trapped t c error.InUse) (after_machine_step trapped (step s c))).effects
     by_agent true = still-goes s _ (λ p asks. refusal-none p asks t c _)
     by_agent false = one-goes s c (step s c).effects (λ p asks. refl)
 
@@ -82,23 +92,30 @@ trapped-goes s after es t e goes = record {
   fates = λ p asks. omega (arith, count-cons p (effect.Trapped t e) es, ap one (asks.no_trap t e), goes.fates p asks);
 }
 
-called-goes : (s : State) (trapped : List Bool) (t : ℕ) (c : Call) (pending : Option ℕ) → Goes s (after_trap_and_call s trapped t c pending).state (after_trap_and_call s trapped t c pending).effects
+called-goes : (s : State) (trapped : List Bool) (t : ℕ) (c : Call) (pending : Option ℕ)
+    → Goes s (after_trap_and_call s trapped t c pending).state (after_trap_and_call s trapped t c pending).effects
 called-goes s trapped t c None = made-goes s trapped t c
 called-goes s trapped t c (Some e) = by_given (passes is_given (notice s t e)) (passes is_catch (notice s t e))
   where
     by_given : (b d : Bool) → Goes s
-        (cond b (after_call s trapped t c) (cond d (after_machine_step trapped (but_call (step s (call.ExcNotify e)))) (after_machine_step trapped (but_call (step s (call.Destroy t)))))).state
-        (effect.Trapped t e ∷ (cond b (after_call s trapped t c) (cond d (after_machine_step trapped (but_call (step s (call.ExcNotify e)))) (after_machine_step trapped (but_call (step s (call.Destroy t)))))).effects)
+        (cond b (after_call s trapped t c) (cond d (after_machine_step trapped (but_call (step s (call.ExcNotify e))))
+        (after_machine_step trapped (but_call (step s (call.Destroy t)))))).state
+        (effect.Trapped t e
+        ∷ (cond b (after_call s trapped t c) (cond d (after_machine_step trapped (but_call (step s (call.ExcNotify e))))
+        (after_machine_step trapped (but_call (step s (call.Destroy t)))))).effects)
     by_given true d = trapped-goes s _ _ t e (made-goes s trapped t c)
     by_given false true = trapped-goes s _ _ t e (one-goes s (call.ExcNotify e) _ (λ p asks. but_call-same p asks s (call.ExcNotify e)))
     by_given false false = trapped-goes s _ _ t e (one-goes s (call.Destroy t) _ (λ p asks. but_call-same p asks s (call.Destroy t)))
 
 -- moves, and then one more
-after-push : (moves : List MachineMove) (move : MachineMove) (s : State) → machine_after (moves ++ move ∷ []) s ≡ (machine_move (machine_after moves s) move).after
+after-push : (moves : List MachineMove) (move : MachineMove) (s : State)
+    → machine_after (moves ++ move ∷ []) s ≡ (machine_move (machine_after moves s) move).after
 after-push [] move s = refl
 after-push (first ∷ moves) move s = after-push moves move (machine_move s first).after
 
-effects-push : (p : Effect → Bool) (moves : List MachineMove) (move : MachineMove) (s : State) → count_by p (machine_effects (moves ++ move ∷ []) s) ≡ count_by p (machine_effects moves s) + count_by p (machine_move (machine_after moves s) move).effects
+effects-push : (p : Effect → Bool) (moves : List MachineMove) (move : MachineMove) (s : State)
+    → count_by p (machine_effects (moves ++ move ∷ []) s)
+    ≡ count_by p (machine_effects moves s) + count_by p (machine_move (machine_after moves s) move).effects
 effects-push p [] move s = omega (arith, count-append p (machine_move s move).effects [])
 effects-push p (first ∷ moves) move s = omega (
   arith,
@@ -107,14 +124,18 @@ effects-push p (first ∷ moves) move s = omega (
   effects-push p moves move (machine_move s first).after,
 )
 
-said-goes : (from s : State) (es : List Effect) (reports : List ℕ) → Goes from s es → Goes from (after_rites s es reports).state (after_rites s es reports).effects
+said-goes : (from s : State) (es : List Effect) (reports : List ℕ) → Goes from s es
+    → Goes from (after_rites s es reports).state (after_rites s es reports).effects
 said-goes from s es reports goes = by_armed (is_event_armed s rites_event) reports
   where
-    by_armed : (b : Bool) (rs : List ℕ) → Goes from (cond b (after_first_report s es rs) (record { state = s; reports = rs; effects = es })).state (cond b (after_first_report s es rs) (record { state = s; reports = rs; effects = es })).effects
+    by_armed : (b : Bool) (rs : List ℕ)
+        → Goes from (cond b (after_first_report s es rs) (record { state = s; reports = rs; effects = es })).state
+        (cond b (after_first_report s es rs) (record { state = s; reports = rs; effects = es })).effects
     by_armed true [] = goes
     by_armed true (dead ∷ later) = record {
       moves = goes.moves ++ ToDeliver rites_event (report_text dead) ∷ [];
-      state = ap (λ now. (deliver now rites_event (report_text dead)).after) goes.state ∙ sym (after-push goes.moves (ToDeliver rites_event (report_text dead)) from);
+      state = ap (λ now. (deliver now rites_event (report_text dead)).after) goes.state
+          ∙ sym (after-push goes.moves (ToDeliver rites_event (report_text dead)) from);
       fates = λ p asks. omega (
         arith,
         count-append p es (map (as_rites dead) (deliver s rites_event (report_text dead)).effects),
@@ -134,5 +155,6 @@ calls_are_the_machines es c = by_choice (choice es.state)
     by_choice None = record { moves = []; state = refl; fates = λ p asks. refl }
     by_choice (Some t) =
         let out = after_trap_and_call es.state es.trapped t c es.pending in
-        let goes = said-goes es.state out.state out.effects (reports_after es.state out.state es.reports out.effects) (called-goes es.state es.trapped t c es.pending) in
+        let goes = said-goes es.state out.state out.effects (reports_after es.state out.state es.reports out.effects)
+        (called-goes es.state es.trapped t c es.pending) in
         record { moves = goes.moves; state = goes.state; fates = goes.fates }

@@ -9,7 +9,8 @@ use Rattle.lwp_types.specs.Messages.{after_reply, as_answer, as_received, post, 
 use Rattle.lwp_types.specs.Monitors.{after_exit, depth_in, with_depth}
 use Rattle.lwp_types.specs.Exceptions.{exits_of}
 use Rattle.lwp_types.specs.MonitorRelease.{grant, next_owner, release, without_lock}
-use Rattle.lwp_types.specs.State.{Outcome, State, ThreadRow, and_then, for_each, is_agent, is_agent_row, marks_in, numbers, passes, priority_in, still, thread_of, with_block, with_marks, with_marks_of, with_priority, with_suspension}
+use Rattle.lwp_types.specs.State.{Outcome, State, ThreadRow, and_then, for_each, is_agent, is_agent_row, marks_in, numbers, passes, priority_in}
+use Rattle.lwp_types.specs.State.{still, thread_of, with_block, with_marks, with_marks_of, with_priority, with_suspension}
 use Rattle.lwp_types.specs.Time.{after_tick, due_threads, is_asleep_in, tick, time_out}
 use Rattle.lwp_types.specs.Unblock.{after_block, nonexist, timeout_answer, unblock, zero_answer}
 use Rattle.lwp_types.specs.Conditions.{after_wait, after_wake, after_wake_all, condition_of, waits_on, waking}
@@ -82,11 +83,17 @@ all-append (x ∷ xs) ys one two =
 pub mild_quiet : (s after : State) → numbers after.threads ≡ numbers s.threads → after.agents ≡ s.agents → Mild s after []
 mild_quiet s after same agents = record { tells = refl; lives = same; unjoined = comes_as s after agents }
 
-pub mild_then : (s : State) (first : Outcome) (more : State → Outcome) → Mild s first.after first.effects → Mild first.after (more first.after).after (more first.after).effects → Mild s (and_then first more).after (and_then first more).effects
+pub mild_then : (s : State) (first : Outcome) (more : State → Outcome) → Mild s first.after first.effects
+    → Mild first.after (more first.after).after (more first.after).effects → Mild s (and_then first more).after (and_then first more).effects
 unfolding and_then
-mild_then s first more one two = record { tells = all-append first.effects (more first.after).effects one.tells two.tells; lives = two.lives ∙ one.lives; unjoined = λ p none. two.unjoined p (one.unjoined p none) }
+mild_then s first more one two = record {
+  tells = all-append first.effects (more first.after).effects one.tells two.tells;
+  lives = two.lives ∙ one.lives;
+  unjoined = λ p none. two.unjoined p (one.unjoined p none);
+}
 
-pub mild_each : {A : Type 0} (change : A → State → Outcome) → ((x : A) (s : State) → Mild s (change x s).after (change x s).effects) → (xs : List A) (s : State) → Mild s (for_each change xs s).after (for_each change xs s).effects
+pub mild_each : {A : Type 0} (change : A → State → Outcome) → ((x : A) (s : State) → Mild s (change x s).after (change x s).effects)
+    → (xs : List A) (s : State) → Mild s (for_each change xs s).after (for_each change xs s).effects
 unfolding for_each
 mild_each change mild [] s = mild_quiet s s refl refl
 mild_each change mild (x ∷ xs) s = mild_then s (change x s) (for_each change xs) (mild x s) (mild_each change mild xs (change x s).after)
@@ -118,7 +125,8 @@ gone_kept : (p : AgentTest) (a : ℕ) (rows : List AgentRow) → list_any (is_su
 gone_kept p a [] none = refl
 gone_kept p a (row ∷ rows) none = by_test (is_agent_row a row) (gone_kept p a rows (or_parts (is_such p row) (list_any (is_such p) rows) none).1)
   where
-    by_test : (c : Bool) → list_any (is_such p) (without_agent a rows) ≡ false → list_any (is_such p) (cond (not c) (row ∷ without_agent a rows) (without_agent a rows)) ≡ false
+    by_test : (c : Bool) → list_any (is_such p) (without_agent a rows) ≡ false
+        → list_any (is_such p) (cond (not c) (row ∷ without_agent a rows) (without_agent a rows)) ≡ false
     by_test true rest = rest
     by_test false rest = rw ((or_parts (is_such p row) (list_any (is_such p) rows) none).0) rest
 
@@ -139,34 +147,44 @@ mild_release m s =
 pub mild_exited : (m : ℕ) (s : State) → Mild s (after_exit m s).after (after_exit m s).effects
 mild_exited m s = by_depth (nat_le (depth_in s.locks m) 1)
   where
-    by_depth : (b : Bool) → Mild s (cond b (release m s) (still (record s { locks = with_depth m (depth_in s.locks m - 1) s.locks }))).after (cond b (release m s) (still (record s { locks = with_depth m (depth_in s.locks m - 1) s.locks }))).effects
+    by_depth : (b : Bool)
+        → Mild s (cond b (release m s) (still (record s { locks = with_depth m (depth_in s.locks m - 1) s.locks }))).after
+        (cond b (release m s) (still (record s { locks = with_depth m (depth_in s.locks m - 1) s.locks }))).effects
     by_depth true = mild_release m s
     by_depth false = mild_quiet s _ refl refl
 
 pub mild_post : (letter : Letter) (s : State) → Mild s (post letter s).after (post letter s).effects
 mild_post letter s = by_test (passes (λ (row : ThreadRow). takes_from letter.from row.block) (thread_of s letter.to))
   where
-    by_test : (b : Bool) → Mild s (cond b (unblock (as_answer letter) letter.to (record s { letters = s.letters ++ as_received letter ∷ [] })) (still (record s { letters = s.letters ++ letter ∷ [] }))).after
-        (cond b (unblock (as_answer letter) letter.to (record s { letters = s.letters ++ as_received letter ∷ [] })) (still (record s { letters = s.letters ++ letter ∷ [] }))).effects
+    by_test : (b : Bool)
+        → Mild s (cond b (unblock (as_answer letter) letter.to (record s { letters = s.letters ++ as_received letter ∷ [] }))
+        (still (record s { letters = s.letters ++ letter ∷ [] }))).after
+        (cond b (unblock (as_answer letter) letter.to (record s { letters = s.letters ++ as_received letter ∷ [] }))
+        (still (record s { letters = s.letters ++ letter ∷ [] }))).effects
     by_test true = record { tells = refl; lives = block_numbers letter.to block.Not s.threads; unjoined = λ p none. none }
     by_test false = mild_quiet s _ refl refl
 
 pub mild_replied : (u : ℕ) (text : List ℕ) (s : State) → Mild s (after_reply u text s).after (after_reply u text s).effects
 mild_replied u text s = by_agent (is_agent s u)
   where
-    by_agent : (b : Bool) → Mild s (cond b (still (record s { letters = without_letter u s.letters; agents = with_holding u false s.agents })) (unblock (answer.Reply text) u (record s { letters = without_letter u s.letters }))).after
-        (cond b (still (record s { letters = without_letter u s.letters; agents = with_holding u false s.agents })) (unblock (answer.Reply text) u (record s { letters = without_letter u s.letters }))).effects
+    by_agent : (b : Bool)
+        → Mild s (cond b (still (record s { letters = without_letter u s.letters; agents = with_holding u false s.agents }))
+        (unblock (answer.Reply text) u (record s { letters = without_letter u s.letters }))).after
+        (cond b (still (record s { letters = without_letter u s.letters; agents = with_holding u false s.agents }))
+        (unblock (answer.Reply text) u (record s { letters = without_letter u s.letters }))).effects
     by_agent true = record { tells = refl; lives = refl; unjoined = λ p none. holding_kept p u false s.agents ∙ none }
     by_agent false = record { tells = refl; lives = block_numbers u block.Not s.threads; unjoined = λ p none. none }
 
 pub mild_waited : (t c : ℕ) (o : Option Lock) (s : State) → Mild s (after_wait t c o s).after (after_wait t c o s).effects
 mild_waited t c None s = mild_quiet s s refl refl
 mild_waited t c (Some lock) s =
-    let freed = mild_release lock.mon (after_block (record s { waits = s.waits ++ record { cond = c; tid = t; depth = lock.depth } ∷ [] }) t (block.Waiting c)) in
+    let freed = mild_release lock.mon
+    (after_block (record s { waits = s.waits ++ record { cond = c; tid = t; depth = lock.depth } ∷ [] }) t (block.Waiting c)) in
     record { tells = freed.tells; lives = freed.lives ∙ block_numbers t (block.Waiting c) s.threads; unjoined = freed.unjoined }
 
 pub mild_end_agent : (a : ℕ) (s : State) → Mild s (end_agent a s).after (end_agent a s).effects
-mild_end_agent a s = mild_then s (for_each (unblock nonexist) (receivers_of s a) s) (λ now. still (after_agent_end a now)) (mild_each (unblock nonexist) (mild_unblock nonexist) (receivers_of s a) s)
+mild_end_agent a s = mild_then s (for_each (unblock nonexist) (receivers_of s a) s) (λ now. still (after_agent_end a now))
+    (mild_each (unblock nonexist) (mild_unblock nonexist) (receivers_of s a) s)
     (record { tells = refl; lives = refl; unjoined = λ p none. gone_kept p a _ none })
 
 woken_numbers : (m : ℕ) (ws : List WaitRow) (s : State) → numbers (fold (λ now w. after_wake m w now) s ws).threads ≡ numbers s.threads
@@ -186,17 +204,20 @@ woken_all_agents None ws s = refl
 woken_all_agents (Some row) ws s = woken_agents row.mon ws s
 
 -- a case, by its checks
-pub unless_mild : (s : State) (checks : List Check) (otherwise : Case) → Mild s otherwise.after otherwise.others → Mild s (unless s checks otherwise).after (unless s checks otherwise).others
+pub unless_mild : (s : State) (checks : List Check) (otherwise : Case) → Mild s otherwise.after otherwise.others
+    → Mild s (unless s checks otherwise).after (unless s checks otherwise).others
 unfolding unless
 unless_mild s [] otherwise fine = fine
 unless_mild s (check ∷ checks) otherwise fine = by_test check.0 (unless_mild s checks otherwise fine)
   where
-    by_test : (b : Bool) → Mild s (unless s checks otherwise).after (unless s checks otherwise).others → Mild s (cond b (refusal_case s check.1) (unless s checks otherwise)).after (cond b (refusal_case s check.1) (unless s checks otherwise)).others
+    by_test : (b : Bool) → Mild s (unless s checks otherwise).after (unless s checks otherwise).others
+        → Mild s (cond b (refusal_case s check.1) (unless s checks otherwise)).after (cond b (refusal_case s check.1) (unless s checks otherwise)).others
     by_test true rest = mild_quiet s s refl refl
     by_test false rest = rest
 
 pub mild_waking : (s : State) (t c : ℕ) (more : List Check) (ws : List WaitRow) → Mild s (waking s t c more ws).after (waking s t c more ws).others
-mild_waking s t c more ws = unless_mild s _ _ (mild_quiet s _ (woken_all_numbers (condition_of s.conditions c) ws s) (woken_all_agents (condition_of s.conditions c) ws s))
+mild_waking s t c more ws =
+    unless_mild s _ _ (mild_quiet s _ (woken_all_numbers (condition_of s.conditions c) ws s) (woken_all_agents (condition_of s.conditions c) ws s))
 
 -- exit procedures
 
@@ -243,7 +264,9 @@ pub mild_deliver : (s : State) (e : ℕ) (text : List ℕ) → Mild s (deliver s
 unfolding deliver
 mild_deliver s e text = by_clock (eqb e 0)
   where
-    by_clock : (b : Bool) → Mild s (cond b (tick s) (for_each (deliver_to text) (event_agents s.agents e) s)).after (cond b (tick s) (for_each (deliver_to text) (event_agents s.agents e) s)).effects
+    by_clock : (b : Bool)
+        → Mild s (cond b (tick s) (for_each (deliver_to text) (event_agents s.agents e) s)).after
+        (cond b (tick s) (for_each (deliver_to text) (event_agents s.agents e) s)).effects
     by_clock true = mild_tick s
     by_clock false = mild_each (deliver_to text) (mild_deliver_to text) (event_agents s.agents e) s
 

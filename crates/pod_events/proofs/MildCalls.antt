@@ -2,7 +2,8 @@
 use Rattle.lwp_types.specs.Agents.{end_agent, new_agent}
 use Rattle.lwp_types.specs.Case.{Case, Check, answer_case, is_no_id, refusal_case, silent_case, unless, value_case, with_zero}
 use Rattle.lwp_types.specs.CountLaws.{count-cons, count_found, one, length-failed}
-use Rattle.lwp_types.specs.Death.{answer_joiners, bury, death, destroy, end_agents, refuse_receivers, refuse_senders, release_all, return_from, run_all_exits, withdraw}
+use Rattle.lwp_types.specs.Death.{answer_joiners, bury, death, destroy, end_agents, refuse_receivers, refuse_senders}
+use Rattle.lwp_types.specs.Death.{release_all, return_from, run_all_exits, withdraw}
 use Rattle.lwp_types.specs.Exits.{catch_case, leave_frame, excnotify_case_by}
 use Rattle.lwp_types.specs.Messages.{next_letter, post, receive_by}
 use Rattle.lwp_types.specs.Monitors.{after_request, enter_case, is_owned_by_other}
@@ -27,11 +28,14 @@ use Rattle.lwp_types.specs.declared.call.Func.TheVariants as func
 use Rattle.lwp_types.specs.declared.call.LwpErr.TheVariants as error
 use Rattle.lwp_types.specs.declared.call.Mode.TheVariants as mode
 use Rattle.lwp_types.specs.declared.rows.Block.TheVariants as block
-use Rattle.pod_events.proofs.Mild.{AgentTest, Mild, NoAgentComes, NoSuchAgent, block_numbers, is_mild, is_such, mark_numbers, mild_agents, mild_end_agent, mild_exited, mild_exits, mild_joiners, mild_post, mild_quiet, mild_receivers, mild_release, mild_releases, mild_replied, mild_senders, mild_unwind, mild_waited, mild_waking, mild_withdraw, priority_numbers, suspension_numbers, unless_mild}
+use Rattle.pod_events.proofs.Mild.{AgentTest, Mild, NoAgentComes, NoSuchAgent, block_numbers, is_mild, is_such, mark_numbers, mild_agents, mild_end_agent}
+use Rattle.pod_events.proofs.Mild.{mild_exited, mild_exits, mild_joiners, mild_post, mild_quiet, mild_receivers, mild_release, mild_releases, mild_replied}
+use Rattle.pod_events.proofs.Mild.{mild_senders, mild_unwind, mild_waited, mild_waking, mild_withdraw, priority_numbers, suspension_numbers, unless_mild}
 use Rattle.pod_events.specs.Fates.{births_by, victim}
 use Rattle.pod_events.specs.Rites.{deaths}
 use Rattle.pod_events.specs.Traps.{agent_event_of}
-use Rattle.std.proofs.Common.{Bool, List, None, Option, Some, [], ap, arith, cond, count_by, eqb, false, filter, length, length-append, not, refl, sym, true, ℕ, ◌++◌, ◌+◌, ◌-◌, ◌∙◌, ◌∷◌, ◌≡◌, ◌≤◌, ◌||◌}
+use Rattle.std.proofs.Common.{Bool, List, None, Option, Some, [], ap, arith, cond, count_by, eqb, false, filter, length}
+use Rattle.std.proofs.Common.{length-append, not, refl, sym, true, ℕ, ◌++◌, ◌+◌, ◌-◌, ◌∙◌, ◌∷◌, ◌≡◌, ◌≤◌, ◌||◌}
 use Rattle.std.proofs.lemmas.Bool.{and_from, and_parts, or_parts}
 use Rattle.std.specs.List.{list_all, list_any}
 use Rattle.std.proofs.Common.{inl, inr, ◌⊎◌}
@@ -40,7 +44,8 @@ use Rattle.std.specs.Prelude.{is_some, nat_le}
 -- what is mild tells of no death
 pub mild_deathless : (es : List Effect) → list_all is_mild es ≡ true → deaths es ≡ []
 mild_deathless [] mild = refl
-mild_deathless (e ∷ es) mild = by_effect e (and_parts (is_mild e) (list_all is_mild es) mild).0 (mild_deathless es (and_parts (is_mild e) (list_all is_mild es) mild).1)
+mild_deathless (e ∷ es) mild =
+    by_effect e (and_parts (is_mild e) (list_all is_mild es) mild).0 (mild_deathless es (and_parts (is_mild e) (list_all is_mild es) mild).1)
   where
     by_effect : (e : Effect) → is_mild e ≡ true → deaths es ≡ [] → deaths (e ∷ es) ≡ []
     by_effect (effect.Called t c) h rest = rest
@@ -146,28 +151,46 @@ record Buried (s : State) (t : ℕ) (out : Outcome) : Type 0 where
   pub unborn : (q : ℕ → Bool) → NoSuchThread q s → NoSuchThread q out.after
   pub tame : list_all is_tame out.effects ≡ true
 
-buried_first : (t : ℕ) (change : State → Outcome) (changes : List (State → Outcome)) (s : State) → Mild s (change s).after (change s).effects → Buried (change s).after t (in_order changes (change s).after) → Buried s t (in_order (change ∷ changes) s)
+buried_first : (t : ℕ) (change : State → Outcome) (changes : List (State → Outcome)) (s : State)
+    → Mild s (change s).after (change s).effects → Buried (change s).after t (in_order changes (change s).after) → Buried s t (in_order (change ∷ changes) s)
 unfolding in_order and_then
 buried_first t change changes s mild rest = record {
-  dead = deaths-append (change s).effects (in_order changes (change s).after).effects ∙ ap (λ ns. ns ++ deaths (in_order changes (change s).after).effects) (mild_deathless (change s).effects mild.tells) ∙ rest.dead;
-  live = omega (arith, rest.live, count-numbers t (change s).after.threads s.threads mild.lives, length-numbers s.threads, length-numbers (change s).after.threads, ap length mild.lives);
+  dead = deaths-append (change s).effects (in_order changes (change s).after).effects
+      ∙ ap (λ ns. ns ++ deaths (in_order changes (change s).after).effects) (mild_deathless (change s).effects mild.tells) ∙ rest.dead;
+  live = omega (
+    arith,
+    rest.live,
+    count-numbers t (change s).after.threads s.threads mild.lives,
+    length-numbers s.threads,
+    length-numbers (change s).after.threads,
+    ap length mild.lives,
+  );
   unjoined = λ p none. rest.unjoined p (mild.unjoined p none);
   unborn = λ q none. rest.unborn q (ap (list_any q) mild.lives ∙ none);
   tame = tame-append (change s).effects (in_order changes (change s).after).effects (mild_tame (change s).effects mild.tells) rest.tame;
 }
 
-gone_numbers : (q : ℕ → Bool) (t : ℕ) (rows : List ThreadRow) → list_any q (numbers rows) ≡ false → list_any q (numbers (filter (λ (row : ThreadRow). not (eqb row.number t)) rows)) ≡ false
+gone_numbers : (q : ℕ → Bool) (t : ℕ) (rows : List ThreadRow) → list_any q (numbers rows) ≡ false
+    → list_any q (numbers (filter (λ (row : ThreadRow). not (eqb row.number t)) rows)) ≡ false
 gone_numbers q t [] none = refl
 gone_numbers q t (row ∷ rows) none = by_test (eqb row.number t) (gone_numbers q t rows (or_parts (q row.number) (list_any q (numbers rows)) none).1)
   where
     by_test : (c : Bool) → list_any q (numbers (filter (λ (row : ThreadRow). not (eqb row.number t)) rows)) ≡ false
-        → list_any q (numbers (cond (not c) (row ∷ filter (λ (row : ThreadRow). not (eqb row.number t)) rows) (filter (λ (row : ThreadRow). not (eqb row.number t)) rows))) ≡ false
+        → list_any q (numbers (cond (not c) (row ∷ filter (λ (row : ThreadRow). not (eqb row.number t)) rows)
+        (filter (λ (row : ThreadRow). not (eqb row.number t)) rows)))
+        ≡ false
     by_test true rest = rest
     by_test false rest = rw ((or_parts (q row.number) (list_any q (numbers rows)) none).0) rest
 
 buried_last : (t : ℕ) (s : State) → Buried s t (in_order (bury t ∷ []) s)
 unfolding in_order and_then
-buried_last t s = record { dead = refl; live = length-failed (is_number t) s.threads; unjoined = λ p none. none; unborn = λ q none. gone_numbers q t s.threads none; tame = refl }
+buried_last t s = record {
+  dead = refl;
+  live = length-failed (is_number t) s.threads;
+  unjoined = λ p none. none;
+  unborn = λ q none. gone_numbers q t s.threads none;
+  tame = refl;
+}
 
 death_buries : (t : ℕ) (s : State) → Buried s t (death t s)
 death_buries t s =
@@ -205,12 +228,18 @@ abbrev Passes : List Check → Type 0
 Passes [] = Unit {0}
 Passes (check ∷ checks) = (check.0 ≡ false) × Passes checks
 
-unless_toll : (t : ℕ) (victim : Option ℕ) (births : ℕ) (s : State) (checks : List Check) (otherwise : Case) → (Passes checks → Toll s t victim births None otherwise.after otherwise.others) → Toll s t victim births None (unless s checks otherwise).after (unless s checks otherwise).others
+unless_toll : (t : ℕ) (victim : Option ℕ) (births : ℕ) (s : State) (checks : List Check) (otherwise : Case)
+    → (Passes checks → Toll s t victim births None otherwise.after otherwise.others)
+    → Toll s t victim births None (unless s checks otherwise).after (unless s checks otherwise).others
 unfolding unless
 unless_toll t victim births s [] otherwise fine = fine tt
-unless_toll t victim births s (check ∷ checks) otherwise fine = by_test check.0 refl (λ here. unless_toll t victim births s checks otherwise (λ rest. fine (here, rest)))
+unless_toll t victim births s (check ∷ checks) otherwise fine =
+    by_test check.0 refl (λ here. unless_toll t victim births s checks otherwise (λ rest. fine (here, rest)))
   where
-    by_test : (b : Bool) → check.0 ≡ b → (check.0 ≡ false → Toll s t victim births None (unless s checks otherwise).after (unless s checks otherwise).others) → Toll s t victim births None (cond b (refusal_case s check.1) (unless s checks otherwise)).after (cond b (refusal_case s check.1) (unless s checks otherwise)).others
+    by_test : (b : Bool) → check.0 ≡ b
+        → (check.0 ≡ false → Toll s t victim births None (unless s checks otherwise).after (unless s checks otherwise).others)
+        → Toll s t victim births None (cond b (refusal_case s check.1) (unless s checks otherwise)).after
+        (cond b (refusal_case s check.1) (unless s checks otherwise)).others
     by_test true e rest = mild_toll t victim births (mild_quiet s s refl refl)
     by_test false e rest = rest e
 
@@ -221,7 +250,9 @@ destroy_toll s t u = unless_toll t (Some u) 0 s (is_no_id s u ∷ []) _ (λ pass
     true_of {b = true} e = refl
     true_of {b = false} e = absurd (cc)
 
-    by_agent : (b : Bool) → (is_thread s u || b) ≡ true → Toll s t (Some u) 0 None (cond b (with_zero (end_agent u s)) (cond (eqb t u) (silent_case (death u s)) (with_zero (death u s)))).after (cond b (with_zero (end_agent u s)) (cond (eqb t u) (silent_case (death u s)) (with_zero (death u s)))).others
+    by_agent : (b : Bool) → (is_thread s u || b) ≡ true
+        → Toll s t (Some u) 0 None (cond b (with_zero (end_agent u s)) (cond (eqb t u) (silent_case (death u s)) (with_zero (death u s)))).after (cond
+        b (with_zero (end_agent u s)) (cond (eqb t u) (silent_case (death u s)) (with_zero (death u s)))).others
     by_agent true h = mild_toll t (Some u) 0 (mild_end_agent u s)
     by_agent false h = by_self (eqb t u) (death_toll s t u (λ lives. either (is_thread s u) h))
       where
@@ -229,25 +260,32 @@ destroy_toll s t u = unless_toll t (Some u) 0 s (is_no_id s u ∷ []) _ (λ pass
         either true e = refl
         either false e = e
 
-        by_self : (b : Bool) → Toll s t (Some u) 0 None (death u s).after (death u s).effects → Toll s t (Some u) 0 None (cond b (silent_case (death u s)) (with_zero (death u s))).after (cond b (silent_case (death u s)) (with_zero (death u s))).others
+        by_self : (b : Bool) → Toll s t (Some u) 0 None (death u s).after (death u s).effects
+            → Toll s t (Some u) 0 None (cond b (silent_case (death u s)) (with_zero (death u s))).after
+            (cond b (silent_case (death u s)) (with_zero (death u s))).others
         by_self true toll = toll
         by_self false toll = toll
 
 return_toll : (s : State) (t : ℕ) → Toll s t (Some t) 0 None (return_from s t).after (return_from s t).others
 return_toll s t = by_frames (nat_le 2 (frames (marks_in s t)))
   where
-    by_frames : (b : Bool) → Toll s t (Some t) 0 None (cond b (leave_frame s t) (silent_case (death t s))).after (cond b (leave_frame s t) (silent_case (death t s))).others
-    by_frames true = mild_toll t (Some t) 0 (mild_unwind t (first_frames (frames (marks_in s t) - 1) (marks_in s t)) (later_frames (frames (marks_in s t) - 1) (marks_in s t)) s)
+    by_frames : (b : Bool)
+        → Toll s t (Some t) 0 None (cond b (leave_frame s t) (silent_case (death t s))).after (cond b (leave_frame s t) (silent_case (death t s))).others
+    by_frames true = mild_toll t (Some t) 0
+        (mild_unwind t (first_frames (frames (marks_in s t) - 1) (marks_in s t)) (later_frames (frames (marks_in s t) - 1) (marks_in s t)) s)
     by_frames false = death_toll s t t (λ lives. lives)
 
 -- one thread more
-added_number : (q : ℕ → Bool) (rows : List ThreadRow) (row : ThreadRow) → list_any q (numbers rows) ≡ false → q row.number ≡ false → list_any q (numbers (rows ++ row ∷ [])) ≡ false
+added_number : (q : ℕ → Bool) (rows : List ThreadRow) (row : ThreadRow) → list_any q (numbers rows) ≡ false → q row.number ≡ false
+    → list_any q (numbers (rows ++ row ∷ [])) ≡ false
 added_number q [] row none other = rw other refl
 added_number q (x ∷ rows) row none other =
     let parts = or_parts (q x.number) (list_any q (numbers rows)) none in
     rw (parts.0) (added_number q rows row parts.1 other)
 
-create_toll : (s : State) (t number prio : ℕ) (flags : Flags) (checks : List Check) (own : Answer) → Toll s t None 1 None (unless s checks (answer_case (after_create s prio flags) own)).after (unless s checks (answer_case (after_create s prio flags) own)).others
+create_toll : (s : State) (t number prio : ℕ) (flags : Flags) (checks : List Check) (own : Answer)
+    → Toll s t None 1 None (unless s checks (answer_case (after_create s prio flags) own)).after
+    (unless s checks (answer_case (after_create s prio flags) own)).others
 create_toll s t number prio flags checks own = unless_toll t None 1 s checks _ (λ passed. record {
   dead = inl refl;
   live = λ lives. omega (arith, length-append s.threads (new_thread s.births prio flags ∷ []));
@@ -261,19 +299,24 @@ create_toll s t number prio flags checks own = unless_toll t None 1 s checks _ (
     paid q (inl e) = absurd (cc)
     paid q (inr other) = other
 
-cond_mild : (s : State) (b : Bool) (one two : Case) → Mild s one.after one.others → Mild s two.after two.others → Mild s (cond b one two).after (cond b one two).others
+cond_mild : (s : State) (b : Bool) (one two : Case) → Mild s one.after one.others → Mild s two.after two.others
+    → Mild s (cond b one two).after (cond b one two).others
 cond_mild s true one two first second = first
 cond_mild s false one two first second = second
 
-received_mild : (s : State) (t : ℕ) (from : Option ℕ) (how : Mode) (o : Option Letter) → Mild s (receive_by s t from how o).after (receive_by s t from how o).others
+received_mild : (s : State) (t : ℕ) (from : Option ℕ) (how : Mode) (o : Option Letter)
+    → Mild s (receive_by s t from how o).after (receive_by s t from how o).others
 received_mild s t from mode.Poll None = mild_quiet s s refl refl
 received_mild s t from mode.Poll (Some letter) = mild_quiet s _ refl refl
 received_mild s t from mode.Block None = mild_quiet s _ (block_numbers t (block.Receiving from) s.threads) refl
 received_mild s t from mode.Block (Some letter) = mild_quiet s _ refl refl
-received_mild s t from (mode.Until ticks) None = cond_mild s (eqb ticks 0) (refusal_case s error.Timeout) (silent_case (still (after_block_for s t (block.Receiving from) ticks))) (mild_quiet s s refl refl) (mild_quiet s _ (block_numbers t (block.Receiving from) s.threads) refl)
+received_mild s t from (mode.Until ticks) None =
+    cond_mild s (eqb ticks 0) (refusal_case s error.Timeout) (silent_case (still (after_block_for s t (block.Receiving from) ticks)))
+    (mild_quiet s s refl refl) (mild_quiet s _ (block_numbers t (block.Receiving from) s.threads) refl)
 received_mild s t from (mode.Until ticks) (Some letter) = mild_quiet s _ refl refl
 
-match_mild : (s : State) (on_match : Found → Case) (o : Option Found) → ((f : Found) → Mild s (on_match f).after (on_match f).others) → Mild s (with_match s on_match o).after (with_match s on_match o).others
+match_mild : (s : State) (on_match : Found → Case) (o : Option Found) → ((f : Found) → Mild s (on_match f).after (on_match f).others)
+    → Mild s (with_match s on_match o).after (with_match s on_match o).others
 match_mild s on_match None mild = mild_quiet s s refl refl
 match_mild s on_match (Some f) mild = mild f
 
@@ -285,31 +328,36 @@ notified_mild s t p f func.Give = mild_quiet s s refl refl
 notified_mild s t p f func.Sum = mild_quiet s s refl refl
 notified_mild s t p f func.Nothing = caught_mild s t p f
 
-send_mild : (s : State) (letter : Letter) (t : ℕ) → Mild s (silent_case (post letter (after_block s t block.Sending))).after (silent_case (post letter (after_block s t block.Sending))).others
+send_mild : (s : State) (letter : Letter) (t : ℕ)
+    → Mild s (silent_case (post letter (after_block s t block.Sending))).after (silent_case (post letter (after_block s t block.Sending))).others
 send_mild s letter t =
     let posted = mild_post letter (after_block s t block.Sending) in
     record { tells = posted.tells; lives = posted.lives ∙ block_numbers t block.Sending s.threads; unjoined = posted.unjoined }
 
-checked : {s : State} (t : ℕ) (checks : List Check) (otherwise : Case) → Mild s otherwise.after otherwise.others → Toll s t None 0 None (unless s checks otherwise).after (unless s checks otherwise).others
+checked : {s : State} (t : ℕ) (checks : List Check) (otherwise : Case) → Mild s otherwise.after otherwise.others
+    → Toll s t None 0 None (unless s checks otherwise).after (unless s checks otherwise).others
 checked {s = s} t checks otherwise mild = mild_toll t None 0 (unless_mild s checks otherwise mild)
 
 quiet : {s after : State} → numbers after.threads ≡ numbers s.threads → after.agents ≡ s.agents → Mild s after []
 quiet {s = s} {after = after} same agents = mild_quiet s after same agents
 
 -- one agent more
-added_agent : (p : AgentTest) (rows : List AgentRow) (row : AgentRow) → list_any (is_such p) rows ≡ false → is_such p row ≡ false → list_any (is_such p) (rows ++ row ∷ []) ≡ false
+added_agent : (p : AgentTest) (rows : List AgentRow) (row : AgentRow) → list_any (is_such p) rows ≡ false → is_such p row ≡ false
+    → list_any (is_such p) (rows ++ row ∷ []) ≡ false
 added_agent p [] row none other = rw other refl
 added_agent p (x ∷ rows) row none other =
     let parts = or_parts (is_such p x) (list_any (is_such p) rows) none in
     rw (parts.0) (added_agent p rows row parts.1 other)
 
 -- an Agent changes no thread, and it alone brings an agent
-agent_toll : (s : State) (t e : ℕ) (checks : List Check) (otherwise : Case) → numbers otherwise.after.threads ≡ numbers s.threads → list_all is_mild otherwise.others ≡ true → ((p : AgentTest) → p s.births e t ≡ false → NoSuchAgent p s → NoSuchAgent p otherwise.after)
+agent_toll : (s : State) (t e : ℕ) (checks : List Check) (otherwise : Case) → numbers otherwise.after.threads ≡ numbers s.threads
+    → list_all is_mild otherwise.others ≡ true → ((p : AgentTest) → p s.births e t ≡ false → NoSuchAgent p s → NoSuchAgent p otherwise.after)
     → Toll s t None 0 (Some e) (unless s checks otherwise).after (unless s checks otherwise).others
 unfolding unless
 agent_toll s t e [] otherwise same tells joins = record {
   dead = inl (mild_deathless otherwise.others tells);
-  live = λ lives. omega (arith, ap length (mild_deathless otherwise.others tells), length-numbers s.threads, length-numbers otherwise.after.threads, ap length same);
+  live = λ lives.
+      omega (arith, ap length (mild_deathless otherwise.others tells), length-numbers s.threads, length-numbers otherwise.after.threads, ap length same);
   kept = omega (arith, length-numbers s.threads, length-numbers otherwise.after.threads, ap length same);
   unjoined = joins;
   unborn = λ q pays none. ap (list_any q) same ∙ none;
@@ -317,8 +365,17 @@ agent_toll s t e [] otherwise same tells joins = record {
 }
 agent_toll s t e (check ∷ checks) otherwise same tells joins = by_test check.0 (agent_toll s t e checks otherwise same tells joins)
   where
-    by_test : (b : Bool) → Toll s t None 0 (Some e) (unless s checks otherwise).after (unless s checks otherwise).others → Toll s t None 0 (Some e) (cond b (refusal_case s check.1) (unless s checks otherwise)).after (cond b (refusal_case s check.1) (unless s checks otherwise)).others
-    by_test true rest = let toll = mild_toll t None 0 (mild_quiet s s refl refl) in record { dead = toll.dead; live = toll.live; kept = toll.kept; unjoined = λ p other none. none; unborn = toll.unborn; tame = toll.tame }
+    by_test : (b : Bool) → Toll s t None 0 (Some e) (unless s checks otherwise).after (unless s checks otherwise).others
+        → Toll s t None 0 (Some e) (cond b (refusal_case s check.1) (unless s checks otherwise)).after
+        (cond b (refusal_case s check.1) (unless s checks otherwise)).others
+    by_test true rest = let toll = mild_toll t None 0 (mild_quiet s s refl refl) in record {
+      dead = toll.dead;
+      live = toll.live;
+      kept = toll.kept;
+      unjoined = λ p other none. none;
+      unborn = toll.unborn;
+      tame = toll.tame;
+    }
     by_test false rest = rest
 
 -- of every call: the last line is for each that is refused by its checks or else leaves the threads' numbers and the agents as they are
@@ -329,7 +386,8 @@ case_toll s t (call.SetPri u p) = checked t _ _ (quiet (priority_numbers u p s.t
 case_toll s t (call.Suspend u) = checked t _ _ (quiet (suspension_numbers u true s.threads) refl)
 case_toll s t (call.Resume u) = checked t _ _ (quiet (suspension_numbers u false s.threads) refl)
 case_toll s t (call.Join u) = checked t _ _ (quiet (block_numbers t (block.Joining u) s.threads) refl)
-case_toll s t (call.Sleep ticks) = mild_toll t None 0 (cond_mild s (eqb ticks 0) (value_case s 0) (silent_case (still (after_block_for s t block.Sleeping ticks))) (mild_quiet s s refl refl) (mild_quiet s _ (block_numbers t block.Sleeping s.threads) refl))
+case_toll s t (call.Sleep ticks) = mild_toll t None 0 (cond_mild s (eqb ticks 0) (value_case s 0) (silent_case
+    (still (after_block_for s t block.Sleeping ticks))) (mild_quiet s s refl refl) (mild_quiet s _ (block_numbers t block.Sleeping s.threads) refl))
 case_toll s t call.Me = mild_toll t None 0 (mild_quiet s s refl refl)
 case_toll s t call.GetExit = mild_toll t None 0 (mild_quiet s s refl refl)
 case_toll s t call.Threads = mild_toll t None 0 (mild_quiet s s refl refl)
@@ -338,7 +396,8 @@ case_toll s t (call.Recv from how) = checked t _ _ (received_mild s t from how (
 case_toll s t (call.Reply u text) = checked t _ _ (mild_replied u text s)
 case_toll s t call.Senders = mild_toll t None 0 (mild_quiet s s refl refl)
 case_toll s t call.Receivers = mild_toll t None 0 (mild_quiet s s refl refl)
-case_toll s t (call.Enter m) = checked t _ _ (cond_mild s (is_owned_by_other s.locks t m) (silent_case (still (after_request s t m))) (enter_case s t m) (mild_quiet s _ (block_numbers t (block.Entering m) s.threads) refl) (mild_quiet s _ refl refl))
+case_toll s t (call.Enter m) = checked t _ _ (cond_mild s (is_owned_by_other s.locks t m) (silent_case (still (after_request s t m)))
+    (enter_case s t m) (mild_quiet s _ (block_numbers t (block.Entering m) s.threads) refl) (mild_quiet s _ refl refl))
 case_toll s t (call.MonExit m) = checked t _ _ (mild_exited m s)
 case_toll s t (call.MonBreak m) = checked t _ _ (mild_release m s)
 case_toll s t call.Monitors = mild_toll t None 0 (mild_quiet s s refl refl)

@@ -13,7 +13,8 @@ use Rattle.pod_events.specs.Events.{EventState, after_pass_on, after_take_trap, 
 use Rattle.pod_events.specs.Laws.{TrapsAreUnheard, TrapsHaveNoAgents}
 use Rattle.pod_events.specs.Moves.{EventMove, ToCall, ToTake, after_moves, event_move}
 use Rattle.pod_events.specs.Step.{event_step, event_step_by, event_step_if}
-use Rattle.pod_events.specs.Traps.{after_call, after_call_as, after_machine_step, after_refusal, after_trap, after_trap_and_call, agent_event_of, but_call, is_catch, is_given, notice, trap_of, trap_refusal}
+use Rattle.pod_events.specs.Traps.{after_call, after_call_as, after_machine_step, after_refusal, after_trap, after_trap_and_call}
+use Rattle.pod_events.specs.Traps.{agent_event_of, but_call, is_catch, is_given, notice, trap_of, trap_refusal}
 use Rattle.std.proofs.Common.{Bool, List, None, Option, Some, [], ap, cond, eqb, false, inl, inr, refl, sym, true, ℕ, ◌∙◌, ◌∷◌, ◌≡◌, ◌||◌, ◌⊎◌}
 use Rattle.std.proofs.lemmas.Bool.{cases_eq, ne_eqb, or_parts}
 use Rattle.std.proofs.lemmas.List.{get_or-set_other}
@@ -23,7 +24,8 @@ use Rattle.std.specs.Prelude.{nat_lt}
 free_of : (s : State) (trapped : List Bool) (e : ℕ) → trap_refusal s trapped e ≡ None → has_agent s e ≡ false
 free_of s trapped e accepted = by_range (eqb e 0 || nat_lt 31 e) (is_trapped trapped e || has_agent s e) refl accepted
   where
-    by_range : (b d : Bool) → (is_trapped trapped e || has_agent s e) ≡ d → ◌≡◌ {A = Option LwpErr} (cond b (Some error.InvalidArg) (cond d (Some error.InUse) None)) None → has_agent s e ≡ false
+    by_range : (b d : Bool) → (is_trapped trapped e || has_agent s e) ≡ d
+        → ◌≡◌ {A = Option LwpErr} (cond b (Some error.InvalidArg) (cond d (Some error.InUse) None)) None → has_agent s e ≡ false
     by_range true d is h = absurd (cc)
     by_range false true is h = absurd (cc)
     by_range false false is h = (or_parts (is_trapped trapped e) (has_agent s e) is).1
@@ -40,14 +42,17 @@ module _ (es : EventState) (t : ℕ) (c : Call) (f : ℕ) where
   call_source : is_trapped (after_call es.state es.trapped t c).trapped f ≡ true → IsSourceOf es c f
   call_source = by_trap (trap_of c) refl
     where
-      by_refusal : (e : ℕ) → trap_of c ≡ Some e → (o : Option LwpErr) → trap_refusal es.state es.trapped e ≡ o → is_trapped (after_trap es.state es.trapped t c e o).trapped f ≡ true → IsSourceOf es c f
+      by_refusal : (e : ℕ) → trap_of c ≡ Some e → (o : Option LwpErr) → trap_refusal es.state es.trapped e ≡ o
+          → is_trapped (after_trap es.state es.trapped t c e o).trapped f ≡ true → IsSourceOf es c f
       by_refusal e asks None accepted is = elim (cases_eq f e) [
         | inl same ↦ inr (ap (has_agent es.state) same ∙ free_of es.state es.trapped e accepted, trap_asks_none c e asks)
         | inr away ↦ inl (sym (get_or-set_other es.trapped e f true false away) ∙ is)
       ]
       by_refusal e asks (Some why) refused is = inl is
 
-      by_agent : (b : Bool) → is_trapped (cond b (after_refusal es.state es.trapped t c error.InUse) (after_machine_step es.trapped (step es.state c))).trapped f ≡ true → IsSourceOf es c f
+      by_agent : (b : Bool)
+          → is_trapped (cond b (after_refusal es.state es.trapped t c error.InUse) (after_machine_step es.trapped (step es.state c))).trapped f ≡ true
+          → IsSourceOf es c f
       by_agent true is = inl is
       by_agent false is = inl is
 
@@ -59,7 +64,13 @@ module _ (es : EventState) (t : ℕ) (c : Call) (f : ℕ) where
   trapped_source None = call_source
   trapped_source (Some e) = by_given (passes is_given (notice es.state t e)) (passes is_catch (notice es.state t e))
     where
-      by_given : (b d : Bool) → is_trapped (cond b (after_call es.state es.trapped t c) (cond d (after_machine_step es.trapped (but_call (step es.state (call.ExcNotify e)))) (after_machine_step es.trapped (but_call (step es.state (call.Destroy t)))))).trapped f ≡ true → IsSourceOf es c f
+      by_given : (b d : Bool)
+          → is_trapped
+          (cond b (after_call es.state es.trapped t c) (cond d (after_machine_step es.trapped (but_call (step es.state (call.ExcNotify e))))
+          (after_machine_step es.trapped (but_call (step es.state (call.Destroy t)))))).trapped
+          f
+          ≡ true
+          → IsSourceOf es c f
       by_given true d = call_source
       by_given false true = λ is. inl is
       by_given false false = λ is. inl is
@@ -75,7 +86,8 @@ step_source es c f = by_choice (choice es.state)
 step_unheard : (es : EventState) (c : Call) → TrapsAreUnheard es → TrapsAreUnheard (event_step es c).after
 step_unheard es c apart f is = by_source (step_source es c f is)
   where
-    kept : ((e : ℕ) → agent_event_of c ≡ Some e → is_trapped es.trapped e ≡ false → eqb e f ≡ false) → has_agent es.state f ≡ false → has_agent (event_step es c).after.state f ≡ false
+    kept : ((e : ℕ) → agent_event_of c ≡ Some e → is_trapped es.trapped e ≡ false → eqb e f ≡ false) → has_agent es.state f ≡ false
+        → has_agent (event_step es c).after.state f ≡ false
     kept other none = call_unjoined (λ n e owner. eqb e f) es c (λ t e chosen asks free. other e asks free) none
 
     by_source : IsSourceOf es c f → has_agent (event_step es c).after.state f ≡ false

@@ -8,7 +8,8 @@ use Rattle.lwp_types.specs.declared.call.Effect.{Effect}
 use Rattle.lwp_types.specs.declared.call.Effect.TheVariants as effect
 use Rattle.pod_events.proofs.MildCalls.{is_tame}
 use Rattle.pod_events.proofs.Quiet.{IsAside, called-counts, delivery-none, raised_by}
-use Rattle.pod_events.specs.Events.{EventOutcome, EventState, after_pass_on, after_take_trap, has_turn, is_takeable, is_trapped, may_trap, rites_event, take_event}
+use Rattle.pod_events.specs.Events.{EventOutcome, EventState, after_pass_on, after_take_trap, has_turn}
+use Rattle.pod_events.specs.Events.{is_takeable, is_trapped, may_trap, rites_event, take_event}
 use Rattle.pod_events.specs.Laws.{CanMove, TrapsAreRaisedNext, TrapsAreRaisedOnce, can_move, is_raised, pends, traps_in, traps_now}
 use Rattle.pod_events.specs.Moves.{EventMove, ToCall, ToTake, after_moves, effects_of, event_move}
 use Rattle.pod_events.specs.Rites.{after_first_report, as_rites, report_text, reports_after, after_rites}
@@ -36,7 +37,8 @@ module _ (e : ℕ) where
   -- a report raises none
   rites-none : (dead : ℕ) (es : List Effect) → count_by (is_raised e) (map (as_rites dead) es) ≡ count_by (is_raised e) es
   rites-none dead [] = refl
-  rites-none dead (x ∷ xs) = omega (arith, count-cons (is_raised e) (as_rites dead x) (map (as_rites dead) xs), count-cons (is_raised e) x xs, ap one (same x), rites-none dead xs)
+  rites-none dead (x ∷ xs) =
+      omega (arith, count-cons (is_raised e) (as_rites dead x) (map (as_rites dead) xs), count-cons (is_raised e) x xs, ap one (same x), rites-none dead xs)
     where
       same : (x : Effect) → is_raised e (as_rites dead x) ≡ is_raised e x
       same (effect.Called t c) = refl
@@ -52,7 +54,8 @@ module _ (e : ℕ) where
   said-none : (s : State) (es : List Effect) (reports : List ℕ) → count_by (is_raised e) (after_rites s es reports).effects ≡ count_by (is_raised e) es
   said-none s es reports = by_armed (is_event_armed s rites_event) reports
     where
-      by_armed : (b : Bool) (rs : List ℕ) → count_by (is_raised e) (cond b (after_first_report s es rs) (record { state = s; reports = rs; effects = es })).effects ≡ count_by (is_raised e) es
+      by_armed : (b : Bool) (rs : List ℕ)
+          → count_by (is_raised e) (cond b (after_first_report s es rs) (record { state = s; reports = rs; effects = es })).effects ≡ count_by (is_raised e) es
       by_armed true [] = refl
       by_armed true (dead ∷ later) = omega (
         arith,
@@ -75,12 +78,14 @@ module _ (e : ℕ) where
       by_choice (Some t) = omega (
         arith,
         said-none (after_trap_and_call es.state es.trapped t c es.pending).state (after_trap_and_call es.state es.trapped t c es.pending).effects
-            (reports_after es.state (after_trap_and_call es.state es.trapped t c es.pending).state es.reports (after_trap_and_call es.state es.trapped t c es.pending).effects),
+            (reports_after es.state (after_trap_and_call es.state es.trapped t c es.pending).state es.reports
+            (after_trap_and_call es.state es.trapped t c es.pending).effects),
         called-counts (is_raised e) aside es.state es.trapped t c es.pending,
         raised-is t es.pending,
       )
 
-  take-raises : (es : EventState) (f : ℕ) (text : List ℕ) → is_takeable es f ≡ true → count_by (is_raised e) (take_event es f text).effects + pends e (take_event es f text).after ≡ traps_now e es (ToTake f text) + pends e es
+  take-raises : (es : EventState) (f : ℕ) (text : List ℕ) → is_takeable es f ≡ true
+      → count_by (is_raised e) (take_event es f text).effects + pends e (take_event es f text).after ≡ traps_now e es (ToTake f text) + pends e es
   unfolding take_event
   take-raises es f text may = by_trapped (is_trapped es.trapped f) may
     where
@@ -89,15 +94,19 @@ module _ (e : ℕ) where
       none_pends (Some g) h = absurd (cc)
 
       by_trapped : (b : Bool) → cond b (may_trap es) (nat_lt f rites_event && is_event_armed es.state f) ≡ true
-          → count_by (is_raised e) (cond b (after_take_trap es f) (after_pass_on es (deliver es.state f text))).effects + pends e (cond b (after_take_trap es f) (after_pass_on es (deliver es.state f text))).after ≡ one (b && eqb f e) + pends e es
+          → count_by (is_raised e) (cond b (after_take_trap es f) (after_pass_on es (deliver es.state f text))).effects
+          + pends e (cond b (after_take_trap es f) (after_pass_on es (deliver es.state f text))).after
+          ≡ one (b && eqb f e) + pends e es
       by_trapped true h = omega (arith, none_pends es.pending (and_parts (is_none es.pending) (has_turn es.state) h).0)
       by_trapped false h = omega (arith, delivery-none (is_raised e) aside es.state f text)
 
-  move-raises : (es : EventState) (move : EventMove) → can_move es move ≡ true → count_by (is_raised e) (event_move es move).effects + pends e (event_move es move).after ≡ traps_now e es move + pends e es
+  move-raises : (es : EventState) (move : EventMove) → can_move es move ≡ true
+      → count_by (is_raised e) (event_move es move).effects + pends e (event_move es move).after ≡ traps_now e es move + pends e es
   move-raises es (ToCall c) may = omega (arith, step-raises es c)
   move-raises es (ToTake f text) may = take-raises es f text may
 
-  all-raised : (moves : List EventMove) (es : EventState) → CanMove moves es → count_by (is_raised e) (effects_of moves es) + pends e (after_moves moves es) ≡ traps_in e moves es + pends e es
+  all-raised : (moves : List EventMove) (es : EventState) → CanMove moves es
+      → count_by (is_raised e) (effects_of moves es) + pends e (after_moves moves es) ≡ traps_in e moves es + pends e es
   all-raised [] es may = omega arith
   all-raised (move ∷ moves) es may = omega (
     arith,
@@ -113,13 +122,15 @@ traps_are_raised_once e moves es may = all-raised e moves es may
 said-front : (s : State) (x : Effect) (xs : List Effect) (reports : List ℕ) → (rest : List Effect) × ((after_rites s (x ∷ xs) reports).effects ≡ x ∷ rest)
 said-front s x xs reports = by_armed (is_event_armed s rites_event) reports
   where
-    by_armed : (b : Bool) (rs : List ℕ) → (rest : List Effect) × ((cond b (after_first_report s (x ∷ xs) rs) (record { state = s; reports = rs; effects = x ∷ xs })).effects ≡ x ∷ rest)
+    by_armed : (b : Bool) (rs : List ℕ)
+        → (rest : List Effect) × ((cond b (after_first_report s (x ∷ xs) rs) (record { state = s; reports = rs; effects = x ∷ xs })).effects ≡ x ∷ rest)
     by_armed true [] = (xs, refl)
     by_armed true (dead ∷ later) = (xs ++ map (as_rites dead) (deliver s rites_event (report_text dead)).effects, refl)
     by_armed false rs = (xs, refl)
 
 -- the step of the thread that was chosen, with its trap
-step-is : (es : EventState) (c : Call) (t e : ℕ) → choice es.state ≡ Some t → es.pending ≡ Some e → event_step es c ≡ with_rites es (after_trap_and_call es.state es.trapped t c (Some e))
+step-is : (es : EventState) (c : Call) (t e : ℕ) → choice es.state ≡ Some t → es.pending ≡ Some e
+    → event_step es c ≡ with_rites es (after_trap_and_call es.state es.trapped t c (Some e))
 unfolding event_step event_step_by
 step-is es c t e chosen pending = ap (event_step_if es c) chosen ∙ ap (λ o. with_rites es (after_trap_and_call es.state es.trapped t c o)) pending
 
@@ -127,7 +138,8 @@ pub traps_are_raised_next : TrapsAreRaisedNext
 traps_are_raised_next es c t e chosen pending =
     let whole = step-is es c t e chosen pending in
     let out = after_trap_and_call es.state es.trapped t c (Some e) in
-    let front = said-front out.state (effect.Trapped t e) (after_spring_by es.state es.trapped t c e (notice es.state t e)).effects (reports_after es.state out.state es.reports out.effects) in
+    let front = said-front out.state (effect.Trapped t e) (after_spring_by es.state es.trapped t c e (notice es.state t e)).effects
+    (reports_after es.state out.state es.reports out.effects) in
     record {
       rest = front.0;
       raised = ap (λ (o : EventOutcome). o.effects) whole ∙ front.1;

@@ -1,5 +1,6 @@
 -- What each part of an eager session does: it goes on, and comes nearer to its end.
-use Rattle.std.proofs.Common.{◌≡◌, ◌≤◌, ◌<◌, ℕ, zero, suc, ◌+◌, ◌-◌, List, [], ◌∷◌, Bool, true, false, cond, None, Some, ap, ◌∙◌, refl, sym, subst, ◌++◌, append-nil, append_assoc, length, drop, length-append, inl, inr, arith}
+use Rattle.std.proofs.Common.{◌≡◌, ◌≤◌, ◌<◌, ℕ, zero, suc, ◌+◌, ◌-◌, List, [], ◌∷◌, Bool, true, false, cond, None, Some, ap, ◌∙◌}
+use Rattle.std.proofs.Common.{refl, sym, subst, ◌++◌, append-nil, append_assoc, length, drop, length-append, inl, inr, arith}
 use Rattle.std.specs.Prelude.{Option, is_some, ◌&&◌, ◌||◌, ◌⊎◌, nat_le}
 use Rattle.std.specs.List.{fold, list_any, range_with_len, slice_get}
 use Rattle.std.specs.Slice.Scan.{HoldsNowhere}
@@ -11,7 +12,8 @@ use Rattle.lwp_types.specs.Choice.{choice}
 use Rattle.lwp_types.specs.declared.call.Line.{Line}
 use Rattle.trace_text.specs.declared.ends.Halt.{Halt}
 use Rattle.trace_text.specs.declared.ends.Halt.TheVariants as halts
-use Rattle.pod_runner.specs.Eager.{IsFirstPart, Plan, Planned, after_advance, boundary, after_finish, has_choice, after_offer, after_offer_by, one_call, plan_over, round, pod_of, after_take, to_the_end, took_of}
+use Rattle.pod_runner.specs.Eager.{IsFirstPart, Plan, Planned, after_advance, boundary, after_finish, has_choice, after_offer}
+use Rattle.pod_runner.specs.Eager.{after_offer_by, one_call, plan_over, round, pod_of, after_take, to_the_end, took_of}
 use Rattle.pod_runner.specs.Over.{can_take, events, halt_if, is_wanted}
 use Rattle.pod_runner.specs.Session.{move, take_move}
 
@@ -79,7 +81,8 @@ module _ {B : Type 0} (planned : Planned B) where
   by_line e plan None = first-same plan
   by_line e plan (Some line) = taken-grows e line plan
 
-  by_armed : (e : ℕ) (plan : Plan B) (b : Bool) → IsFirstPart plan (elim b as (λ _. Plan B) [ true ↦ after_offer_by planned e plan (first_left plan.left e) | false ↦ plan ])
+  by_armed : (e : ℕ) (plan : Plan B) (b : Bool)
+      → IsFirstPart plan (elim b as (λ _. Plan B) [ true ↦ after_offer_by planned e plan (first_left plan.left e) | false ↦ plan ])
   by_armed e plan true = by_line e plan (first_left plan.left e)
   by_armed e plan false = first-same plan
 
@@ -102,8 +105,10 @@ module _ {B : Type 0} (planned : Planned B) where
       by true None h = refl
       by true (Some line) h = absurd (cc)
 
-  pub offered-some : (e : ℕ) (plan : Plan B) (line : Line) → is_takeable (pod_of plan) e ≡ true → first_left plan.left e ≡ Some line → after_offer planned e plan ≡ after_take planned e line plan
-  offered-some e plan line a f = ap (λ (b : Bool). elim b as (λ _. Plan B) [ true ↦ after_offer_by planned e plan (first_left plan.left e) | false ↦ plan ]) a ∙ ap (after_offer_by planned e plan) f
+  pub offered-some : (e : ℕ) (plan : Plan B) (line : Line) → is_takeable (pod_of plan) e ≡ true → first_left plan.left e ≡ Some line
+      → after_offer planned e plan ≡ after_take planned e line plan
+  offered-some e plan line a f = ap (λ (b : Bool). elim b as (λ _. Plan B) [ true ↦ after_offer_by planned e plan (first_left plan.left e) | false ↦ plan ]) a
+      ∙ ap (after_offer_by planned e plan) f
 
   -- ---- what is kept: lines are taken or left, and calls are made or aren't
 
@@ -132,7 +137,8 @@ module _ {B : Type 0} (planned : Planned B) where
   same_by_line e plan None h = same-same plan
   same_by_line e plan (Some line) h = taken-same e line plan h
 
-  same_by_armed : (e : ℕ) (plan : Plan B) (b : Bool) → Same plan (elim b as (λ _. Plan B) [ true ↦ after_offer_by planned e plan (first_left plan.left e) | false ↦ plan ])
+  same_by_armed : (e : ℕ) (plan : Plan B) (b : Bool)
+      → Same plan (elim b as (λ _. Plan B) [ true ↦ after_offer_by planned e plan (first_left plan.left e) | false ↦ plan ])
   same_by_armed e plan true = same_by_line e plan (first_left plan.left e) refl
   same_by_armed e plan false = same-same plan
 
@@ -146,11 +152,13 @@ module _ {B : Type 0} (planned : Planned B) where
 
   pub serves-grow : (es : List ℕ) (plan : Plan B) → IsFirstPart plan (serves plan es)
   serves-grow [] plan = first-same plan
-  serves-grow (e ∷ es) plan = first-then plan (after_offer planned e plan) (serves (after_offer planned e plan) es) (offered-grows e plan) (serves-grow es (after_offer planned e plan))
+  serves-grow (e ∷ es) plan =
+      first-then plan (after_offer planned e plan) (serves (after_offer planned e plan) es) (offered-grows e plan) (serves-grow es (after_offer planned e plan))
 
   serves-same : (es : List ℕ) (plan : Plan B) → Same plan (serves plan es)
   serves-same [] plan = same-same plan
-  serves-same (e ∷ es) plan = same-then plan (after_offer planned e plan) (serves (after_offer planned e plan) es) (offered-same e plan) (serves-same es (after_offer planned e plan))
+  serves-same (e ∷ es) plan =
+      same-then plan (after_offer planned e plan) (serves (after_offer planned e plan) es) (offered-same e plan) (serves-same es (after_offer planned e plan))
 
   -- where none of these events has a line that can be delivered, nothing is taken
   pub serves-none : (plan : Plan B) (a n : ℕ) → HoldsNowhere (can_take (pod_of plan) plan.left) a (a + n) → serves plan (range_with_len a n) ≡ plan
@@ -164,13 +172,16 @@ module _ {B : Type 0} (planned : Planned B) where
   Serves es plan = ((serves plan es ≡ plan) × (list_any (λ e. can_take (pod_of plan) plan.left e) es ≡ false))
       ⊎ ((length plan.takes + 1 ≤ length (serves plan es).takes) × (list_any (λ e. can_take (pod_of plan) plan.left e) es ≡ true))
 
-  takes_one : (e : ℕ) (es : List ℕ) (plan : Plan B) (b : Bool) (o : Option Line) → is_takeable (pod_of plan) e ≡ b → first_left plan.left e ≡ o → (b && is_some o) ≡ true
+  takes_one : (e : ℕ) (es : List ℕ) (plan : Plan B) (b : Bool) (o : Option Line) → is_takeable (pod_of plan) e ≡ b
+      → first_left plan.left e ≡ o → (b && is_some o) ≡ true
       → length plan.takes + 1 ≤ length (serves (after_offer planned e plan) es).takes
   takes_one e es plan false o a f h = absurd (cc)
   takes_one e es plan true None a f h = absurd (cc)
   takes_one e es plan true (Some line) a f h =
-      let more : length (after_offer planned e plan).takes ≤ length (serves (after_offer planned e plan) es).takes = (serves-same es (after_offer planned e plan)).more in
-      let one : length (after_offer planned e plan).takes ≡ length plan.takes + 1 = ap (λ (p : Plan B). length p.takes) (offered-some e plan line a f) ∙ length-append plan.takes (took_of e line plan ∷ []) in
+      let more : length (after_offer planned e plan).takes
+      ≤ length (serves (after_offer planned e plan) es).takes = (serves-same es (after_offer planned e plan)).more in
+      let one : length (after_offer planned e plan).takes
+      ≡ length plan.takes + 1 = ap (λ (p : Plan B). length p.takes) (offered-some e plan line a f) ∙ length-append plan.takes (took_of e line plan ∷ []) in
       omega (arith, more, one)
 
   serves-or : (es : List ℕ) (plan : Plan B) → Serves es plan
@@ -178,7 +189,10 @@ module _ {B : Type 0} (planned : Planned B) where
   serves-or (e ∷ es) plan = by_can (can_take (pod_of plan) plan.left e) refl (serves-or es plan)
     where
       by_rest : can_take (pod_of plan) plan.left e ≡ false → Serves es plan → Serves (e ∷ es) plan
-      by_rest h (inl w) = inl (ap (λ p. serves p es) (offered-none e plan h) ∙ w.0, ap (λ b. b || list_any (λ e. can_take (pod_of plan) plan.left e) es) h ∙ w.1)
+      by_rest h (inl w) = inl (
+        ap (λ p. serves p es) (offered-none e plan h) ∙ w.0,
+        ap (λ b. b || list_any (λ e. can_take (pod_of plan) plan.left e) es) h ∙ w.1,
+      )
       by_rest h (inr w) = inr (
         subst (λ (p : Plan B). length plan.takes + 1 ≤ length (serves p es).takes) (sym (offered-none e plan h)) w.0,
         ap (λ b. b || list_any (λ e. can_take (pod_of plan) plan.left e) es) h ∙ w.1,
@@ -212,7 +226,8 @@ module _ {B : Type 0} (planned : Planned B) where
   advanced-grows plan = by_choice (has_choice plan)
     where
       by_choice : (b : Bool) → IsFirstPart plan (elim b as (λ _. Plan B) [ true ↦ one_call planned (boundary planned plan) | false ↦ boundary planned plan ])
-      by_choice true = first-then plan (boundary planned plan) (one_call planned (boundary planned plan)) (boundary-grows plan) (call-grows (boundary planned plan))
+      by_choice true = first-then plan (boundary planned plan) (one_call planned (boundary planned plan)) (boundary-grows plan)
+          (call-grows (boundary planned plan))
       by_choice false = boundary-grows plan
 
   -- how much may still be done
@@ -232,7 +247,8 @@ module _ {B : Type 0} (planned : Planned B) where
       by_takes (inr w) = let s = serves-same events plan in omega (arith, s.all, s.calls, w.0)
 
   -- what a session that isn't over has still to do
-  goes_on : (plan : Plan B) (ended : Bool) (o : Option ℕ) (wanted : Bool) → cond ended (Some (halts.Ended (pod_of plan).state.status)) (halt_if planned.turns plan.calls wanted o) ≡ None
+  goes_on : (plan : Plan B) (ended : Bool) (o : Option ℕ) (wanted : Bool)
+      → cond ended (Some (halts.Ended (pod_of plan).state.status)) (halt_if planned.turns plan.calls wanted o) ≡ None
       → (is_some o ≡ true → plan.calls + 1 ≤ planned.turns) × (is_some o ≡ false → wanted ≡ true)
   goes_on plan true o wanted h = absurd (cc)
   goes_on plan false None true h = (λ no. absurd (cc), λ _. refl)
@@ -328,7 +344,8 @@ module _ {B : Type 0} (planned : Planned B) where
     where
       by_over : (o : Option Halt) → ((p : Plan B) → IsFirstPart p (to_the_end planned n p)) → IsFirstPart plan (end_by n plan o)
       by_over (Some halt) rest = first-same plan
-      by_over None rest = first-then plan (after_advance planned plan) (to_the_end planned n (after_advance planned plan)) (advanced-grows plan) (rest (after_advance planned plan))
+      by_over None rest = first-then plan (after_advance planned plan) (to_the_end planned n (after_advance planned plan))
+          (advanced-grows plan) (rest (after_advance planned plan))
 
   pub finished-grows : (plan : Plan B) → IsFirstPart plan (after_finish planned plan)
   finished-grows plan = end-grows (planned.turns + left_in_all plan.left) plan

@@ -14,10 +14,12 @@ use Rattle.trace_text.specs.declared.ends.Halt.TheVariants as halts
 use Rattle.pod_runner.proofs.Eagers.{boundary-or}
 
 -- in phase Turn a session isn't over, and somebody may run
-turn-both : (s : EventState) (turns calls : ℕ) (left : Shelves) → phase_of s.state turns calls ≡ phase.Turn → (over turns s calls left ≡ None) × (is_some (choice s.state) ≡ true)
+turn-both : (s : EventState) (turns calls : ℕ) (left : Shelves) → phase_of s.state turns calls ≡ phase.Turn
+    → (over turns s calls left ≡ None) × (is_some (choice s.state) ≡ true)
 turn-both s turns calls left h = by_end s.state.ended (choice s.state) h
   where
-    by_count : (a b : Bool) → nat_lt calls turns ≡ a → nat_le turns calls ≡ b → cond a phase.Turn phase.Spent ≡ phase.Turn → cond b (Some halts.Spent) None ≡ None
+    by_count : (a b : Bool) → nat_lt calls turns ≡ a → nat_le turns calls ≡ b → cond a phase.Turn phase.Spent ≡ phase.Turn
+        → cond b (Some halts.Spent) None ≡ None
     by_count false b isa isb h = absurd (cc)
     by_count true false isa isb h = refl
     by_count true true isa isb h = absurd (grind (arith, nat_tests))
@@ -41,7 +43,8 @@ idle-both s turns calls left h = by_end s.state.ended (choice s.state) h
     by_count false h = cc
 
     by_end : (b : Bool) (o : Option ℕ) → cond b (phase.Ended s.state.status) (phase_by turns calls o) ≡ phase.Idle
-        → (cond b (Some (halts.Ended s.state.status)) (halt_if turns calls (is_wanted s left) o) ≡ cond (is_wanted s left) None (Some halts.Stuck)) × (is_some o ≡ false)
+        → (cond b (Some (halts.Ended s.state.status)) (halt_if turns calls (is_wanted s left) o) ≡ cond (is_wanted s left) None (Some halts.Stuck))
+        × (is_some o ≡ false)
     by_end true o h = absurd (cc)
     by_end false None h = (refl, refl)
     by_end false (Some t) h = absurd (by_count (nat_lt calls turns) h)

@@ -22,7 +22,8 @@ use Rattle.trace_text.specs.declared.ends.Halt.TheVariants as halts
 use Rattle.streams.specs.Streams.{Stream}
 
 -- a pod that has ended with a status is over with it
-pub over-ended : (s : EventState) (turns calls status : ℕ) (left : Shelves) → phase_of s.state turns calls ≡ phase.Ended status → over turns s calls left ≡ Some (halts.Ended status)
+pub over-ended : (s : EventState) (turns calls status : ℕ) (left : Shelves) → phase_of s.state turns calls ≡ phase.Ended status
+    → over turns s calls left ≡ Some (halts.Ended status)
 over-ended s turns calls status left h = by_end s.state.ended (choice s.state) h
   where
     by_count : (a : Bool) → cond a phase.Turn phase.Spent ≡ phase.Ended status → ⊥
@@ -39,7 +40,8 @@ over-ended s turns calls status left h = by_end s.state.ended (choice s.state) h
 pub over-spent : (s : EventState) (turns calls : ℕ) (left : Shelves) → phase_of s.state turns calls ≡ phase.Spent → over turns s calls left ≡ Some halts.Spent
 over-spent s turns calls left h = by_end s.state.ended (choice s.state) h
   where
-    by_count : (a b : Bool) → nat_lt calls turns ≡ a → nat_le turns calls ≡ b → cond a phase.Turn phase.Spent ≡ phase.Spent → cond b (Some halts.Spent) None ≡ Some halts.Spent
+    by_count : (a b : Bool) → nat_lt calls turns ≡ a → nat_le turns calls ≡ b → cond a phase.Turn phase.Spent ≡ phase.Spent
+        → cond b (Some halts.Spent) None ≡ Some halts.Spent
     by_count true b isa isb h = absurd (cc)
     by_count false true isa isb h = refl
     by_count false false isa isb h = absurd (grind (arith, nat_tests))
@@ -58,7 +60,8 @@ module _ {B P : Type 0} (next : Next B) (bodies : P → List B) (procs : P → L
       → Does next bodies procs (stream w w f f) (λ planned plan. round planned plan) run run stock stock (Ok x)
   does-over w f run stock x halt sound made room is =
       does-by next bodies procs (stream w w f f) (λ planned plan. plan) (λ planned plan. round planned plan) run run stock stock (Ok x)
-      (sym (ap (λ (o : Option Halt). elim o as (λ _. Plan B) [ None ↦ after_advance (planned_of next bodies run) (plan_now next bodies run stock) | Some halt ↦ plan_now next bodies run stock ]) is))
+      (sym (ap (λ (o : Option Halt). elim o as (λ _. Plan B)
+      [ None ↦ after_advance (planned_of next bodies run) (plan_now next bodies run stock) | Some halt ↦ plan_now next bodies run stock ]) is))
       (does-nothing next bodies procs w f run stock x sound made room)
 
   -- where taking a line fails, so does the round, and no call is made
@@ -72,7 +75,8 @@ module _ {B P : Type 0} (next : Next B) (bodies : P → List B) (procs : P → L
       (call-grows (planned_of next bodies old) (boundary (planned_of next bodies old) (plan_now next bodies old stock))) p)
 
   -- lines are taken, and then a call is made, or fails
-  pub does-turn-then : (a b c : Option (List ℕ)) (i j k : ℕ) (old mid new : Played P) (stock left : Shelves) (x : Unit {0}) (r : Result (Unit {0}) RunErr) → phase_now next bodies old ≡ phase.Turn
+  pub does-turn-then : (a b c : Option (List ℕ)) (i j k : ℕ) (old mid new : Played P) (stock left : Shelves) (x : Unit {0}) (r : Result (Unit {0}) RunErr)
+      → phase_now next bodies old ≡ phase.Turn
       → Does next bodies procs (stream a b i j) (λ planned plan. boundary planned plan) old mid stock left (Ok x)
       → Does next bodies procs (stream b c j k) (λ planned plan. one_call planned plan) mid new left left r
       → Does next bodies procs (stream a c i k) (λ planned plan. round planned plan) old new stock left r

@@ -24,7 +24,8 @@ best-some : {A : Type 0} (weight : A → ℕ) (xs : List A) (y : A) → is_some 
 best-some weight [] y = refl
 best-some weight (x ∷ xs) y = by_weight (nat_le (weight x) (weight y)) (λ z. best-some weight xs z)
   where
-    by_weight : (b : Bool) → ((z : _) → is_some (fold (better_by weight) (Some z) xs) ≡ true) → is_some (fold (better_by weight) (cond b (Some y) (Some x)) xs) ≡ true
+    by_weight : (b : Bool) → ((z : _) → is_some (fold (better_by weight) (Some z) xs) ≡ true)
+        → is_some (fold (better_by weight) (cond b (Some y) (Some x)) xs) ≡ true
     by_weight true rest = rest y
     by_weight false rest = rest x
 
@@ -55,7 +56,8 @@ post-kept letter s = by_taken (passes (λ row. takes_from letter.from row.block)
 kept-then : (s u v : State) → Kept s u → Kept u v → Kept s v
 kept-then s u v one two = record { ended = two.ended ∙ one.ended; chosen = λ h. two.chosen (one.chosen h) }
 
-kept-each : {A : Type 0} (change : A → State → Outcome) → ((x : A) (s : State) → Kept s (change x s).after) → (xs : List A) (s : State) → Kept s (for_each change xs s).after
+kept-each : {A : Type 0} (change : A → State → Outcome) → ((x : A) (s : State) → Kept s (change x s).after) → (xs : List A) (s : State)
+    → Kept s (for_each change xs s).after
 unfolding for_each and_then
 kept-each change kept [] s = record { ended = refl; chosen = λ h. h }
 kept-each change kept (x ∷ xs) s = kept-then s (change x s).after _ (kept x s) (kept-each change kept xs (change x s).after)
@@ -65,7 +67,8 @@ time_out-kept t s = record { ended = refl; chosen = order-kept (priority_in s) _
 
 tick-kept : (s : State) → Kept s (tick s).after
 unfolding and_then
-tick-kept s = kept-then s (after_tick s) _ (record { ended = refl; chosen = λ h. h }) (kept-each time_out time_out-kept (due_threads (after_tick s)) (after_tick s))
+tick-kept s = kept-then s (after_tick s) _ (record { ended = refl; chosen = λ h. h })
+    (kept-each time_out time_out-kept (due_threads (after_tick s)) (after_tick s))
 
 deliver_to-kept : (text : List ℕ) (row : AgentRow) (s : State) → Kept s (deliver_to text row s).after
 unfolding and_then
@@ -111,7 +114,8 @@ module _ {B : Type 0} (planned : Planned B) where
   taken-turn : (e : ℕ) (line : Line) (plan : Plan B) → phase_of (pod_of plan).state planned.turns plan.calls ≡ phase.Turn
       → phase_of (pod_of (after_take planned e line plan)).state planned.turns (after_take planned e line plan).calls ≡ phase.Turn
   unfolding take_move
-  taken-turn e line plan h = phase-kept (pod_of plan).state (take_event (pod_of plan) e line.text).after.state planned.turns plan.calls (take-kept (pod_of plan) e line.text) h
+  taken-turn e line plan h =
+      phase-kept (pod_of plan).state (take_event (pod_of plan) e line.text).after.state planned.turns plan.calls (take-kept (pod_of plan) e line.text) h
 
   abbrev IsTurn : Plan B → Type 0
   IsTurn plan = phase_of (pod_of plan).state planned.turns plan.calls ≡ phase.Turn
@@ -120,7 +124,8 @@ module _ {B : Type 0} (planned : Planned B) where
   by_line e plan None h = h
   by_line e plan (Some line) h = taken-turn e line plan h
 
-  by_armed : (e : ℕ) (plan : Plan B) (b : Bool) → IsTurn plan → IsTurn (elim b as (λ _. Plan B) [ true ↦ after_offer_by planned e plan (first_left plan.left e) | false ↦ plan ])
+  by_armed : (e : ℕ) (plan : Plan B) (b : Bool) → IsTurn plan
+      → IsTurn (elim b as (λ _. Plan B) [ true ↦ after_offer_by planned e plan (first_left plan.left e) | false ↦ plan ])
   by_armed e plan true h = by_line e plan (first_left plan.left e) h
   by_armed e plan false h = h
 

@@ -25,7 +25,8 @@ module _ {B : Type 0} (keeps : MachinesKeepLaw) (setting : Setting B) where
   unfolding call_move
   called-lawful live t reply h = step-lawful keeps live.pod reply.0 h
 
-  row-lawful : (live : Live B) (t : ℕ) (o : Option (Row B)) → Lawful live.pod.state None → Lawful (move_row setting.next setting.bodies live t o).live.pod.state None
+  row-lawful : (live : Live B) (t : ℕ) (o : Option (Row B)) → Lawful live.pod.state None
+      → Lawful (move_row setting.next setting.bodies live t o).live.pod.state None
   row-lawful live t None h = h
   row-lawful live t (Some row) h = called-lawful live t (setting.next row.body (names_for_poll t live.names) row.answer) h
 
@@ -45,12 +46,14 @@ module _ {B : Type 0} (keeps : MachinesKeepLaw) (setting : Setting B) where
   calls-lawful start zero = start
   calls-lawful start (suc n) = call-lawful (session_of_calls setting n) (calls-lawful start n)
 
-  with-lawful : (took : Took) (before : ℕ → Session B) (Before : ℕ → Type 0) → ((n : ℕ) → Before n → IsLawful (before n)) → (n : ℕ) → TakeDue setting took before Before n → IsLawful (with_take setting took before n)
+  with-lawful : (took : Took) (before : ℕ → Session B) (Before : ℕ → Type 0) → ((n : ℕ) → Before n → IsLawful (before n)) → (n : ℕ)
+      → TakeDue setting took before Before n → IsLawful (with_take setting took before n)
   with-lawful took before Before was zero h = took-lawful took (before 0) h.2 (was 0 h.1)
   with-lawful took before Before was (suc n) h = by_turn (took.turn == suc n) (λ d. with-lawful took before Before was n d) h
     where
       by_turn : (b : Bool) → (TakeDue setting took before Before n → IsLawful (with_take setting took before n))
-          → MatchBool b (Before (suc n) × IsTrue (is_take_due took (before (suc n)))) (TakeDue setting took before Before n × IsTrue (is_call_due (with_take setting took before n)))
+          → MatchBool b (Before (suc n) × IsTrue (is_take_due took (before (suc n))))
+          (TakeDue setting took before Before n × IsTrue (is_call_due (with_take setting took before n)))
           → IsLawful (if b then take_step setting took (before (suc n)) else call_step setting (with_take setting took before n))
       by_turn true rest h = took-lawful took (before (suc n)) h.1 (was (suc n) h.0)
       by_turn false rest h = call-lawful (with_take setting took before n) (rest h.0)

@@ -18,7 +18,8 @@ module _ {B P : Type 0} (next : Next B) (bodies : P → List B) (procs : P → L
   Went s old new before after r = RoundsOn next bodies procs s old new before after r
 
   -- nothing is done
-  pub rounds-same : {T : Type 0} (w : Option (List ℕ)) (f : ℕ) (run : Played P) (inlets : List Intake) (x : T) → IsReady next bodies run → Went (stream w w f f) run run inlets inlets (Ok x)
+  pub rounds-same : {T : Type 0} (w : Option (List ℕ)) (f : ℕ) (run : Played P) (inlets : List Intake) (x : T) → IsReady next bodies run
+      → Went (stream w w f f) run run inlets inlets (Ok x)
   rounds-same w f run inlets x ready = record {
     lives = lives-same next bodies procs w f run inlets x ready.sound ready.made ready.room;
     looked = looks-same next bodies procs run inlets;
@@ -33,21 +34,26 @@ module _ {B P : Type 0} (next : Next B) (bodies : P → List B) (procs : P → L
   }
 
   -- an answer, or an error, may be of another type
-  pub rounds-answer : {T U : Type 0} (s : Stream) (old new : Played P) (before after : List Intake) (x : T) (y : U) → Went s old new before after (Ok x) → Went s old new before after (Ok y)
+  pub rounds-answer : {T U : Type 0} (s : Stream) (old new : Played P) (before after : List Intake) (x : T) (y : U)
+      → Went s old new before after (Ok x) → Went s old new before after (Ok y)
   rounds-answer s old new before after x y h = record { lives = lives-answer next bodies procs s old new before after x y h.lives; looked = h.looked }
 
   -- where the last part fails, so does the whole
   pub rounds-err : (T U : Type 0) (s : Stream) (old new : Played P) (before after : List Intake) (r : Result U RunErr) (e : RunErr)
       → IsErrAnd r (λ given. given ≡ e) → LivesOn {T = T} next bodies procs s old new before after (Err e) → Went s old new before after r
   rounds-err T U s old new before after (Ok x) e is h = absurd is
-  rounds-err T U s old new before after (Err given) e is h = record { lives = lives-err next bodies procs T U s old new before after (Err given) e is h; looked = tt }
+  rounds-err T U s old new before after (Err given) e is h = record {
+    lives = lives-err next bodies procs T U s old new before after (Err given) e is h;
+    looked = tt;
+  }
 
   -- so far, a run has lived on, and looked at its inlets as often as it has to
   pub record Rounding (s : Stream) (old now : Played P) (before some : List Intake) : Type 0 where
     pub living : Living next bodies procs s old now before some
     pub looked : LooksAtAll next bodies old now before some
 
-  pub rounding-same : (w : Option (List ℕ)) (f : ℕ) (run : Played P) (inlets : List Intake) → run.failed ≡ false → Rounding (stream w w f f) run run inlets inlets
+  pub rounding-same : (w : Option (List ℕ)) (f : ℕ) (run : Played P) (inlets : List Intake) → run.failed ≡ false
+      → Rounding (stream w w f f) run run inlets inlets
   rounding-same w f run inlets sound = record { living = living-same next bodies procs w f run inlets sound; looked = looks-same next bodies procs run inlets }
 
   -- one round more
@@ -57,7 +63,10 @@ module _ {B P : Type 0} (next : Next B) (bodies : P → List B) (procs : P → L
     lives = living-then next bodies procs a b c i j k old mid new before some after (Ok x) p.living q.lives;
     looked = looks-then next bodies procs old mid new before some after 0 p.living.draws p.looked q.looked;
   }
-  rounding-then a b c i j k old mid new before some after (Err e) p q = record { lives = living-then next bodies procs a b c i j k old mid new before some after (Err e) p.living q.lives; looked = tt }
+  rounding-then a b c i j k old mid new before some after (Err e) p q = record {
+    lives = living-then next bodies procs a b c i j k old mid new before some after (Err e) p.living q.lives;
+    looked = tt;
+  }
 
   pub rounding-on : {T : Type 0} (a b c : Option (List ℕ)) (i j k : ℕ) (old mid new : Played P) (before some after : List Intake) (x : T)
       → Rounding (stream a b i j) old mid before some → Went (stream b c j k) mid new some after (Ok x) → Rounding (stream a c i k) old new before after

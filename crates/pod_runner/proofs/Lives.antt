@@ -1,5 +1,6 @@
 -- What a live run, its inlets and a sink come to together, part by part.
-use Rattle.std.proofs.Common.{◌≢◌, ◌≡◌, ◌≤◌, ◌<◌, ℕ, zero, suc, ◌+◌, ◌-◌, List, [], ◌∷◌, Bool, true, false, cond, None, Some, ap, ◌∙◌, refl, sym, subst, ◌++◌, length, length-append, append-nil, append_assoc, map, eqb, slice_index_or, slice_set, inl, inr, arith}
+use Rattle.std.proofs.Common.{◌≢◌, ◌≡◌, ◌≤◌, ◌<◌, ℕ, zero, suc, ◌+◌, ◌-◌, List, [], ◌∷◌, Bool, true, false, cond, None, Some, ap, ◌∙◌, refl, sym, subst}
+use Rattle.std.proofs.Common.{◌++◌, length, length-append, append-nil, append_assoc, map, eqb, slice_index_or, slice_set, inl, inr, arith}
 use Rattle.std.specs.Prelude.{Option, Result, Ok, Err, OnOk, IsErrAnd, nat_le, nat_lt, ◌&&◌, ◌||◌, ◌⊎◌}
 use Rattle.std.specs.List.{All, filter, list_any}
 use Rattle.std.specs.Slice.Scan.{HoldsNowhere}
@@ -21,7 +22,8 @@ use Rattle.trace_text.specs.declared.ends.Halt.{Halt}
 use Rattle.trace_text.specs.declared.ends.Halt.TheVariants as halts
 use Rattle.lwp_types.specs.Choice.{choice}
 use Rattle.std.proofs.lemmas.Bool.Decides.{nat_tests}
-use Rattle.pod_runner.specs.Run.{EndsAt, GoesOn, Played, Tells, Wrote, but_last, session_of, phase_now, setting_of, after_step, took_now, trace_of, with_call, with_took}
+use Rattle.pod_runner.specs.Run.{EndsAt, GoesOn, Played, Tells, Wrote, but_last, session_of, phase_now}
+use Rattle.pod_runner.specs.Run.{setting_of, after_step, took_now, trace_of, with_call, with_took}
 use Rattle.streams.specs.Streams.{Stream}
 use Rattle.pod_runner.specs.Session.{Session, call_step, take_move, take_step}
 use Rattle.pod_runner.specs.declared.live.Live.{Live}
@@ -38,7 +40,8 @@ use Rattle.pod_runner.proofs.Rounds.{but_last-extended, goes-same, ran-answer, r
 -- ---- takes
 
 lines-append : (e : ℕ) (a b : List Took) → lines_of_takes e (a ++ b) ≡ lines_of_takes e a ++ lines_of_takes e b
-lines-append e a b = ap (map (λ (took : Took). took.line)) (filter-append (is_take_of e) a b) ∙ map-append (λ (took : Took). took.line) (filter (is_take_of e) a) (filter (is_take_of e) b)
+lines-append e a b = ap (map (λ (took : Took). took.line)) (filter-append (is_take_of e) a b)
+    ∙ map-append (λ (took : Took). took.line) (filter (is_take_of e) a) (filter (is_take_of e) b)
 
 lines-other : (took : Took) (e : ℕ) → took.event ≢ e → lines_of_takes e (took ∷ []) ≡ []
 lines-other took e h = rw (ne_eqb took.event e h) refl
@@ -80,7 +83,8 @@ gives-found t u is = record { nothing = 1; after = is ∙ (λ i. record t { take
 
 gives-other : (took : Took) (t : Intake) → took.event ≢ t.event → Gives (took ∷ []) t t
 gives-other took t h =
-    let given : t.taken ≡ t.taken ++ lines_of_takes t.event (took ∷ []) = sym (append-nil t.taken) ∙ ap (λ xs. t.taken ++ xs) (sym (lines-other took t.event h)) in
+    let given : t.taken
+    ≡ t.taken ++ lines_of_takes t.event (took ∷ []) = sym (append-nil t.taken) ∙ ap (λ xs. t.taken ++ xs) (sym (lines-other took t.event h)) in
     let same : t.finds ≡ t.finds + 0 = omega arith in
     record { nothing = 0; after = (λ i. record t { taken = given i; finds = same i }) }
 
@@ -100,7 +104,8 @@ gives-finds takes t u h = let e : u.finds ≡ t.finds + h.nothing = ap (λ (w : 
 
 each-then : (R S Q : Intake → Intake → Type 0) (a b c : List Intake) → ((t u v : Intake) → R t u → S u v → Q t v)
     → EachInlet R a b → EachInlet S b c → EachInlet Q a c
-each-then R S Q a b c both p q = (q.0 ∙ p.0, λ k d low. both (slice_index_or a k d) (slice_index_or b k d) (slice_index_or c k d) (p.1 k d low) (q.1 k d (subst (λ n. k < n) (sym p.0) low)))
+each-then R S Q a b c both p q =
+    (q.0 ∙ p.0, λ k d low. both (slice_index_or a k d) (slice_index_or b k d) (slice_index_or c k d) (p.1 k d low) (q.1 k d (subst (λ n. k < n) (sym p.0) low)))
 
 each-same : (R : Intake → Intake → Type 0) (xs : List Intake) → ((t : Intake) → R t t) → EachInlet R xs xs
 each-same R xs same = (refl, λ k d low. same (slice_index_or xs k d))
@@ -123,23 +128,28 @@ has-before takes a b e p h =
     (h.0, low, λ d. sym (gives-event takes (slice_index_or a h.0 d) (slice_index_or b h.0 d) (p.1 h.0 d low)) ∙ h.2 d)
 
 -- an inlet as it stands among those seen
-pub inlet-at : {I : Type 0} (f : I → Intake) (items : List I) (i : ℕ) (x : I) → i < length items → slice_index_or items i x ≡ x → (d : Intake) → slice_index_or (map f items) i d ≡ f x
+pub inlet-at : {I : Type 0} (f : I → Intake) (items : List I) (i : ℕ) (x : I) → i < length items → slice_index_or items i x ≡ x
+    → (d : Intake) → slice_index_or (map f items) i d ≡ f x
 inlet-at f items i x within is d = get_or-map f items i x d within ∙ ap f is
 
 pub inlet-within : {I : Type 0} (f : I → Intake) (items : List I) (i : ℕ) → i < length items → i < length (map f items)
 inlet-within f items i within = let n = length-map items f in omega (arith, n, within)
 
-pub untold : {I : Type 0} (f : I → Intake) (items : List I) (i : ℕ) (x : I) → i < length items → slice_index_or items i x ≡ x → (IsInletTold (f x) → ⊥) → AllTold (map f items) → ⊥
-untold f items i x within is none all = none (subst (λ (t : Intake). IsInletTold t) (inlet-at f items i x within is (f x)) (all i (f x) (inlet-within f items i within)))
+pub untold : {I : Type 0} (f : I → Intake) (items : List I) (i : ℕ) (x : I) → i < length items → slice_index_or items i x ≡ x
+    → (IsInletTold (f x) → ⊥) → AllTold (map f items) → ⊥
+untold f items i x within is none all =
+    none (subst (λ (t : Intake). IsInletTold t) (inlet-at f items i x within is (f x)) (all i (f x) (inlet-within f items i within)))
 
 pub told-more : {I : Type 0} (f : I → Intake) (items : List I) (i : ℕ) (x : I) → i < length items → slice_index_or items i x ≡ x → IsInletTold (f x)
-    → ((k : ℕ) (d : Intake) → k < i → IsInletTold (slice_index_or (map f items) k d)) → (k : ℕ) (d : Intake) → k < i + 1 → IsInletTold (slice_index_or (map f items) k d)
+    → ((k : ℕ) (d : Intake) → k < i → IsInletTold (slice_index_or (map f items) k d)) → (k : ℕ) (d : Intake) → k < i + 1
+    → IsInletTold (slice_index_or (map f items) k d)
 told-more f items i x within is told before k d low = by (cases_lt k i)
   where
     by : (k < i) ⊎ (i ≤ k) → IsInletTold (slice_index_or (map f items) k d)
     by (inl under) = before k d under
     by (inr above) = let same : k ≡ i = omega (arith, low, above) in
-        subst (λ n. IsInletTold (slice_index_or (map f items) n d)) (sym same) (subst (λ (t : Intake). IsInletTold t) (sym (inlet-at f items i x within is d)) told)
+        subst (λ n. IsInletTold (slice_index_or (map f items) n d)) (sym same)
+        (subst (λ (t : Intake). IsInletTold t) (sym (inlet-at f items i x within is d)) told)
 
 pub same-length : {I : Type 0} (f : I → Intake) (xs ys : List I) → length (map f ys) ≡ length (map f xs) → length ys ≡ length xs
 same-length f xs ys h = let a = length-map xs f in let b = length-map ys f in omega (arith, h, a, b)
@@ -172,7 +182,8 @@ below-more f items from i e x within is under h k d above low = by (cases_lt k i
         let there = ap (λ (t : Intake). t.event) (inlet-at f items i x within is d) in omega (arith, same, there, under)
 
 -- two inlets have two events
-apart : (xs : List Intake) → EventsRise xs → (k i : ℕ) (d : Intake) → k < length xs → i < length xs → k ≢ i → (slice_index_or xs i d).event ≢ (slice_index_or xs k d).event
+apart : (xs : List Intake) → EventsRise xs → (k i : ℕ) (d : Intake) → k < length xs → i < length xs → k ≢ i
+    → (slice_index_or xs i d).event ≢ (slice_index_or xs k d).event
 apart xs rise k i d low within other same = by (cases_lt k i) (cases_lt i k)
   where
     by : (k < i) ⊎ (i ≤ k) → (i < k) ⊎ (k ≤ i) → ⊥
@@ -184,7 +195,13 @@ module _ {B P : Type 0} (next : Next B) (bodies : P → List B) (procs : P → L
   -- ---- what a run goes on by
 
   extends-same : (run : Played P) → Extends next bodies run run []
-  extends-same run = record { takes = sym (append-nil run.takes); calls_up = omega arith; between = all-none _; rest = []; steps = sym (append-nil (session_of next bodies run).steps) }
+  extends-same run = record {
+    takes = sym (append-nil run.takes);
+    calls_up = omega arith;
+    between = all-none _;
+    rest = [];
+    steps = sym (append-nil (session_of next bodies run).steps);
+  }
 
   extends-then : (a b c : Played P) (l m : List Took) → Extends next bodies a b l → Extends next bodies b c m → Extends next bodies a c (l ++ m)
   extends-then a b c l m p q = record {
@@ -248,7 +265,12 @@ module _ {B P : Type 0} (next : Next B) (bodies : P → List B) (procs : P → L
     pub draws : Draws next bodies old now before some 0
 
   pub living-same : (w : Option (List ℕ)) (f : ℕ) (run : Played P) (inlets : List Intake) → run.failed ≡ false → Living (stream w w f f) run run inlets inlets
-  living-same w f run inlets sound = record { same = goes-same next bodies procs run; sound = sound; told = (λ base is. is, refl); draws = draws-same run inlets 0 }
+  living-same w f run inlets sound = record {
+    same = goes-same next bodies procs run;
+    sound = sound;
+    told = (λ base is. is, refl);
+    draws = draws-same run inlets 0;
+  }
 
   pub living-then : {U : Type 0} (a b c : Option (List ℕ)) (i j k : ℕ) (old mid new : Played P) (before some after : List Intake) (r : Result U RunErr)
       → Living (stream a b i j) old mid before some → Lived (stream b c j k) mid new some after r → Lived (stream a c i k) old new before after r
@@ -257,12 +279,14 @@ module _ {B P : Type 0} (next : Next B) (bodies : P → List B) (procs : P → L
     draws = draws-then old mid new before some after (may_lose r) p.draws q.draws;
   }
 
-  pub living-of : {T : Type 0} (s : Stream) (old mid : Played P) (before some : List Intake) (x : T) → Lived s old mid before some (Ok x) → Living s old mid before some
+  pub living-of : {T : Type 0} (s : Stream) (old mid : Played P) (before some : List Intake) (x : T) → Lived s old mid before some (Ok x)
+      → Living s old mid before some
   living-of s old mid before some x h = record { same = h.ran.same; sound = h.ran.sound; told = h.ran.told; draws = h.draws }
 
   pub lives-then : {T U : Type 0} (a b c : Option (List ℕ)) (i j k : ℕ) (old mid new : Played P) (before some after : List Intake) (x : T) (r : Result U RunErr)
       → Lived (stream a b i j) old mid before some (Ok x) → Lived (stream b c j k) mid new some after r → Lived (stream a c i k) old new before after r
-  lives-then a b c i j k old mid new before some after x r p q = living-then a b c i j k old mid new before some after r (living-of (stream a b i j) old mid before some x p) q
+  lives-then a b c i j k old mid new before some after x r p q =
+      living-then a b c i j k old mid new before some after r (living-of (stream a b i j) old mid before some x p) q
 
   pub lives-answer : {T U : Type 0} (s : Stream) (old new : Played P) (before after : List Intake) (x : T) (y : U)
       → Lived s old new before after (Ok x) → Lived s old new before after (Ok y)
@@ -277,7 +301,8 @@ module _ {B P : Type 0} (next : Next B) (bodies : P → List B) (procs : P → L
   pub lives-err : (T U : Type 0) (s : Stream) (old new : Played P) (before after : List Intake) (r : Result U RunErr) (e : RunErr)
       → IsErrAnd r (λ given. given ≡ e) → Lived {T = T} s old new before after (Err e) → Lived s old new before after r
   lives-err T U s old new before after (Ok x) e is h = absurd is
-  lives-err T U s old new before after (Err given) e is h = subst (λ given. Lived {T = U} s old new before after (Err given)) (sym is) (lives-other T U s old new before after e h)
+  lives-err T U s old new before after (Err given) e is h =
+      subst (λ given. Lived {T = U} s old new before after (Err given)) (sym is) (lives-other T U s old new before after e h)
 
   -- ---- one step
 
@@ -312,7 +337,13 @@ module _ {B P : Type 0} (next : Next B) (bodies : P → List B) (procs : P → L
     draws = record {
       later = [];
       lost = later;
-      extends = subst (λ n. Extends next bodies old n []) (sym is) (record { takes = sym (append-nil old.takes); calls_up = omega arith; between = all-none _; rest = []; steps = sym (append-nil (session_of next bodies old).steps) });
+      extends = subst (λ n. Extends next bodies old n []) (sym is) (record {
+        takes = sym (append-nil old.takes);
+        calls_up = omega arith;
+        between = all-none _;
+        rest = [];
+        steps = sym (append-nil (session_of next bodies old).steps);
+      });
       few = h.few;
       given = h.given;
       known = h.known;
@@ -323,17 +354,20 @@ module _ {B P : Type 0} (next : Next B) (bodies : P → List B) (procs : P → L
     draws = record {
       later = later;
       lost = [];
-      extends = subst (λ n. Extends next bodies old n later) (sym is) (record { takes = h.extends.takes; calls_up = h.extends.calls_up; between = h.extends.between; rest = h.extends.rest; steps = h.extends.steps });
+      extends = subst (λ n. Extends next bodies old n later) (sym is)
+          (record { takes = h.extends.takes; calls_up = h.extends.calls_up; between = h.extends.between; rest = h.extends.rest; steps = h.extends.steps });
       few = omega arith;
       given = subst (λ l. EachInlet (Gives l) before after) (sym (append-nil later)) h.given;
       known = subst (All (λ (took : Took). HasEvent before took.event)) (sym (append-nil later)) h.known;
     };
   }
 
-  call-last : (run : Played P) → IsDefined (setting_of next bodies run) run.takes run.calls → session_of next bodies (with_call run) ≡ call_step (setting_of next bodies run) (session_of next bodies run)
+  call-last : (run : Played P) → IsDefined (setting_of next bodies run) run.takes run.calls
+      → session_of next bodies (with_call run) ≡ call_step (setting_of next bodies run) (session_of next bodies run)
   call-last run made = play-call (setting_of next bodies run) run.takes run.calls (LastBy-of (setting_of next bodies run) run.takes run.calls made)
 
-  take-last : (run : Played P) (e : ℕ) (line : Line) → session_of next bodies (with_took run e line) ≡ take_step (setting_of next bodies run) (took_now run e line) (session_of next bodies run)
+  take-last : (run : Played P) (e : ℕ) (line : Line)
+      → session_of next bodies (with_took run e line) ≡ take_step (setting_of next bodies run) (took_now run e line) (session_of next bodies run)
   take-last run e line = play-take (setting_of next bodies run) (took_now run e line) run.takes run.calls refl
 
   -- a call
@@ -346,7 +380,13 @@ module _ {B P : Type 0} (next : Next B) (bodies : P → List B) (procs : P → L
     same = record { program = refl; params = refl; names = refl; turns = refl };
     sound = sound;
     least = but_last-extended (session_of next bodies (with_call old)) (session_of next bodies old) None _ (call-last old was);
-    extends = record { takes = sym (append-nil old.takes); calls_up = omega arith; between = all-none _; rest = _; steps = ap (λ (s : Session B). s.steps) (call-last old was) };
+    extends = record {
+      takes = sym (append-nil old.takes);
+      calls_up = omega arith;
+      between = all-none _;
+      rest = _;
+      steps = ap (λ (s : Session B). s.steps) (call-last old was);
+    };
     few = omega arith;
     given = each-same (Gives []) inlets gives-none;
     known = all-none _;
@@ -359,24 +399,27 @@ module _ {B P : Type 0} (next : Next B) (bodies : P → List B) (procs : P → L
       → Tells s (trace_of next bodies procs old) (trace_of next bodies procs old) (trace_of next bodies procs new) r
       → IsDefined (setting_of next bodies new) new.takes new.calls → new.calls ≤ new.turns
       → Lived s old new before after r
-  lives-take s i line t u old new before after r rise within at set takes sound is told made room = lives-step s old (with_took old t.event line) new before after (took_now old t.event line ∷ []) r (record {
-    same = record { program = refl; params = refl; names = refl; turns = refl };
-    sound = sound;
-    least = but_last-extended (session_of next bodies (with_took old t.event line)) (session_of next bodies old) (Some (took_now old t.event line)) _ (take-last old t.event line);
-    extends = record {
-      takes = refl;
-      calls_up = omega arith;
-      between = all-one (λ took. (old.calls ≤ took.turn) × (took.turn ≤ old.calls)) (took_now old t.event line) (omega arith, omega arith);
-      rest = _;
-      steps = ap (λ (s : Session B). s.steps) (take-last old t.event line);
-    };
-    few = omega arith;
-    given = subst (EachInlet (Gives (took_now old t.event line ∷ [])) before) (sym set)
-        (each-set (Gives (took_now old t.event line ∷ [])) before i u within
-        (λ d. subst (λ w. Gives (took_now old t.event line ∷ []) w u) (sym (at d)) (gives-line (took_now old t.event line) t u refl takes.after))
-        (λ k d low other. gives-other (took_now old t.event line) (slice_index_or before k d) (λ e. apart before rise k i d low within other (ap (λ (w : Intake). w.event) (at d) ∙ e))));
-    known = all-one (λ took. HasEvent before took.event) (took_now old t.event line) (i, within, λ d. ap (λ (w : Intake). w.event) (at d));
-  }) is told made room
+  lives-take s i line t u old new before after r rise within at set takes sound is told made room =
+      lives-step s old (with_took old t.event line) new before after (took_now old t.event line ∷ []) r (record {
+        same = record { program = refl; params = refl; names = refl; turns = refl };
+        sound = sound;
+        least = but_last-extended (session_of next bodies (with_took old t.event line)) (session_of next bodies old)
+            (Some (took_now old t.event line)) _ (take-last old t.event line);
+        extends = record {
+          takes = refl;
+          calls_up = omega arith;
+          between = all-one (λ took. (old.calls ≤ took.turn) × (took.turn ≤ old.calls)) (took_now old t.event line) (omega arith, omega arith);
+          rest = _;
+          steps = ap (λ (s : Session B). s.steps) (take-last old t.event line);
+        };
+        few = omega arith;
+        given = subst (EachInlet (Gives (took_now old t.event line ∷ [])) before) (sym set)
+            (each-set (Gives (took_now old t.event line ∷ [])) before i u within
+            (λ d. subst (λ w. Gives (took_now old t.event line ∷ []) w u) (sym (at d)) (gives-line (took_now old t.event line) t u refl takes.after))
+            (λ k d low other. gives-other (took_now old t.event line) (slice_index_or before k d)
+            (λ e. apart before rise k i d low within other (ap (λ (w : Intake). w.event) (at d) ∙ e))));
+        known = all-one (λ took. HasEvent before took.event) (took_now old t.event line) (i, within, λ d. ap (λ (w : Intake). w.event) (at d));
+      }) is told made room
 
   -- no line was found
   pub lives-none : {T : Type 0} (w : Option (List ℕ)) (f i : ℕ) (t u : Intake) (run : Played P) (before after : List Intake) (x : T)
@@ -410,7 +453,8 @@ module _ {B P : Type 0} (next : Next B) (bodies : P → List B) (procs : P → L
   takes-then : (a b c : Played P) → Takes next bodies a b → Takes next bodies b c → Takes next bodies a c
   takes-then a b c p q = record { still = q.still ∙ p.still; more = omega (arith, p.more, q.more); turn = λ h. q.turn (p.turn h); fewer = fewer }
     where
-      fewer : IsCalm next bodies a c → (e : ℕ) → is_takeable (session_of next bodies c).live.pod e ≡ true → is_takeable (session_of next bodies a).live.pod e ≡ true
+      fewer : IsCalm next bodies a c → (e : ℕ) → is_takeable (session_of next bodies c).live.pod e ≡ true
+          → is_takeable (session_of next bodies a).live.pod e ≡ true
       fewer (inl turn) e h = p.fewer (inl turn) e (q.fewer (inl (p.turn turn)) e h)
       fewer (inr same) e h = p.fewer (inr (omega (arith, same, p.more, q.more))) e (q.fewer (inr (omega (arith, same, p.more, q.more))) e h)
 
@@ -422,7 +466,8 @@ module _ {B P : Type 0} (next : Next B) (bodies : P → List B) (procs : P → L
       record {
         still = refl;
         more = omega (arith, longer);
-        turn = λ h. ap (λ (pod : EventState). phase_of pod.state run.turns run.calls) now ∙ phase-kept s.state (take_event s e line.text).after.state run.turns run.calls (take-kept s e line.text) h;
+        turn = λ h. ap (λ (pod : EventState). phase_of pod.state run.turns run.calls) now
+            ∙ phase-kept s.state (take_event s e line.text).after.state run.turns run.calls (take-kept s e line.text) h;
         fewer = λ calm x h. take-fewer s e line.text x (runs calm) (ap (λ pod. is_takeable pod x) (sym now) ∙ h);
       }
     where
@@ -433,7 +478,8 @@ module _ {B P : Type 0} (next : Next B) (bodies : P → List B) (procs : P → L
       runs (inl turn) = phase-runs (session_of next bodies run).live.pod.state run.turns run.calls turn
       runs (inr same) = absurd (omega (arith, same, longer))
 
-  serves-at : (i : ℕ) (old new : Played P) (t u : Intake) (before after : List Intake) → i < length before → ((d : Intake) → slice_index_or before i d ≡ t) → after ≡ slice_set before i u
+  serves-at : (i : ℕ) (old new : Played P) (t u : Intake) (before after : List Intake) → i < length before
+      → ((d : Intake) → slice_index_or before i d ≡ t) → after ≡ slice_set before i u
       → Takes next bodies old new → IsSeen next bodies old new t u → ServesAt next bodies i old new before after
   serves-at i old new t u before after within at set takes seen = record {
     takes = takes;
@@ -442,7 +488,8 @@ module _ {B P : Type 0} (next : Next B) (bodies : P → List B) (procs : P → L
     others = λ k d other. ap (λ xs. slice_index_or xs k d) set ∙ get_or-set_other before i k u d other;
   }
 
-  pub served-unarmed : (i : ℕ) (run : Played P) (t u : Intake) (before after : List Intake) → i < length before → ((d : Intake) → slice_index_or before i d ≡ t) → after ≡ slice_set before i u → u ≡ t
+  pub served-unarmed : (i : ℕ) (run : Played P) (t u : Intake) (before after : List Intake) → i < length before
+      → ((d : Intake) → slice_index_or before i d ≡ t) → after ≡ slice_set before i u → u ≡ t
       → is_takeable (session_of next bodies run).live.pod t.event ≡ false → ServesAt next bodies i run run before after
   served-unarmed i run t u before after within at set same unarmed = serves-at i run run t u before after within at set (takes-none run) (record {
     looked = λ turn h. absurd (never h);
@@ -450,10 +497,12 @@ module _ {B P : Type 0} (next : Next B) (bodies : P → List B) (procs : P → L
   })
     where
       never : IsWanted next bodies run u → ⊥
-      never h = let e : is_takeable (session_of next bodies run).live.pod u.event ≡ is_takeable (session_of next bodies run).live.pod t.event = ap (λ (w : Intake). is_takeable (session_of next bodies run).live.pod w.event) same in
+      never h = let e : is_takeable (session_of next bodies run).live.pod u.event
+          ≡ is_takeable (session_of next bodies run).live.pod t.event = ap (λ (w : Intake). is_takeable (session_of next bodies run).live.pod w.event) same in
           absurd (cc)
 
-  pub served-none : (i : ℕ) (run : Played P) (t u : Intake) (before after : List Intake) → i < length before → ((d : Intake) → slice_index_or before i d ≡ t) → after ≡ slice_set before i u
+  pub served-none : (i : ℕ) (run : Played P) (t u : Intake) (before after : List Intake) → i < length before
+      → ((d : Intake) → slice_index_or before i d ≡ t) → after ≡ slice_set before i u
       → InletFindsNothing t u → (IsInletTold t → IsInletTaken t) → ServesAt next bodies i run run before after
   served-none i run t u before after within at set none taken = serves-at i run run t u before after within at set (takes-none run) (record {
     looked = λ turn h. omega (arith, many);
@@ -466,7 +515,8 @@ module _ {B P : Type 0} (next : Next B) (bodies : P → List B) (procs : P → L
       many : looks u ≡ length t.taken + (t.finds + 1)
       many = ap looks none.after
 
-  pub served-line : {T : Type 0} (i : ℕ) (line : Line) (old new : Played P) (t u : Intake) (before after : List Intake) (r : Result T RunErr) → i < length before → ((d : Intake) → slice_index_or before i d ≡ t) → after ≡ slice_set before i u
+  pub served-line : {T : Type 0} (i : ℕ) (line : Line) (old new : Played P) (t u : Intake) (before after : List Intake) (r : Result T RunErr)
+      → i < length before → ((d : Intake) → slice_index_or before i d ≡ t) → after ≡ slice_set before i u
       → InletTakes t u line → new ≡ after_step old (with_took old t.event line) r → OnOk r (ServesAt next bodies i old new before after)
   served-line i line old new t u before after (Err e) within at set takes is = tt
   served-line i line old new t u before after (Ok x) within at set takes is = serves-at i old new t u before after within at set
@@ -495,13 +545,15 @@ module _ {B P : Type 0} (next : Next B) (bodies : P → List B) (procs : P → L
       low_of : (k : ℕ) → k < length b → k < length a
       low_of k low = let n = p.0 in omega (arith, n, low)
 
-  pub rise-still : {T : Type 0} (s : Stream) (old new : Played P) (before after : List Intake) (r : Result T RunErr) → Lived s old new before after r → EventsRise before → EventsRise after
+  pub rise-still : {T : Type 0} (s : Stream) (old new : Played P) (before after : List Intake) (r : Result T RunErr)
+      → Lived s old new before after r → EventsRise before → EventsRise after
   rise-still s old new before after r h rise = rise-on (h.draws.later ++ h.draws.lost) before after h.draws.given rise
 
   pub rise-living : (s : Stream) (old new : Played P) (before after : List Intake) → Living s old new before after → EventsRise before → EventsRise after
   rise-living s old new before after h rise = rise-on (h.draws.later ++ h.draws.lost) before after h.draws.given rise
 
-  more-takes : {T : Type 0} (s : Stream) (old new : Played P) (before after : List Intake) (r : Result T RunErr) → Lived s old new before after r → length old.takes ≤ length new.takes
+  more-takes : {T : Type 0} (s : Stream) (old new : Played P) (before after : List Intake) (r : Result T RunErr)
+      → Lived s old new before after r → length old.takes ≤ length new.takes
   more-takes s old new before after r h =
       let e : length new.takes ≡ length (old.takes ++ h.draws.later) = ap length h.draws.extends.takes in
       omega (arith, e, length-append old.takes h.draws.later)
@@ -533,12 +585,15 @@ module _ {B P : Type 0} (next : Next B) (bodies : P → List B) (procs : P → L
       now : (v w : Intake) → IsSeen next bodies mid new v w → IsSeen next bodies old new v w
       now v w seen = record { looked = λ turn. seen.looked (h.takes.turn turn); found = λ same wanted. seen.found (omega (arith, same, first, second)) wanted }
 
-      by : (k : ℕ) (d : Intake) → k < n + 1 → k < length before → (k < n) ⊎ (n ≤ k) → IsSeen next bodies old new (slice_index_or before k d) (slice_index_or after k d)
-      by k d below low (inl under) = subst (IsSeen next bodies old new (slice_index_or before k d)) (sym (at.others k d (λ e. absurd (omega (arith, e, under)))))
+      by : (k : ℕ) (d : Intake) → k < n + 1 → k < length before → (k < n) ⊎ (n ≤ k)
+          → IsSeen next bodies old new (slice_index_or before k d) (slice_index_or after k d)
+      by k d below low (inl under) =
+          subst (IsSeen next bodies old new (slice_index_or before k d)) (sym (at.others k d (λ e. absurd (omega (arith, e, under)))))
           (earlier (slice_index_or before k d) (slice_index_or some k d) (h.seen k d under low))
       by k d below low (inr above) = let same : k ≡ n = omega (arith, below, above) in
           subst (λ k. IsSeen next bodies old new (slice_index_or before k d) (slice_index_or after k d)) (sym same)
-          (now (slice_index_or before n d) (slice_index_or after n d) (subst (λ v. IsSeen next bodies mid new v (slice_index_or after n d)) (h.others n d (omega arith)) (at.seen d)))
+          (now (slice_index_or before n d) (slice_index_or after n d)
+          (subst (λ v. IsSeen next bodies mid new v (slice_index_or after n d)) (h.others n d (omega arith)) (at.seen d)))
 
   -- ---- inlets are passed over
 
@@ -552,7 +607,8 @@ module _ {B P : Type 0} (next : Next B) (bodies : P → List B) (procs : P → L
     others = λ k d above. h.others k d (omega (arith, up, above));
   }
     where
-      by : (k : ℕ) (d : Intake) → k < m → k < length before → (k < n) ⊎ (n ≤ k) → IsSeen next bodies old new (slice_index_or before k d) (slice_index_or after k d)
+      by : (k : ℕ) (d : Intake) → k < m → k < length before → (k < n) ⊎ (n ≤ k)
+          → IsSeen next bodies old new (slice_index_or before k d) (slice_index_or after k d)
       by k d below low (inl under) = h.seen k d under low
       by k d below low (inr above) = let no = none k d above below low in
           record { looked = λ turn wanted. absurd (cc); found = λ same wanted. absurd (cc) }
@@ -565,7 +621,8 @@ module _ {B P : Type 0} (next : Next B) (bodies : P → List B) (procs : P → L
   serves-below s n m e t old new before after r lives rise at up under nowhere below h =
       serves-passed n m old new before after (omega (arith, up)) h (λ k d above low within. by k d low within (cases_lt n k) above)
     where
-      by : (k : ℕ) (d : Intake) → k < m → k < length before → (n < k) ⊎ (k ≤ n) → n ≤ k → is_takeable (session_of next bodies new).live.pod (slice_index_or after k d).event ≡ false
+      by : (k : ℕ) (d : Intake) → k < m → k < length before → (n < k) ⊎ (k ≤ n) → n ≤ k
+          → is_takeable (session_of next bodies new).live.pod (slice_index_or after k d).event ≡ false
       by k d low within (inl above) from =
           let many = lives.draws.given.0 in
           let first = ap (λ (w : Intake). w.event) (at d) in
@@ -577,7 +634,8 @@ module _ {B P : Type 0} (next : Next B) (bodies : P → List B) (procs : P → L
           ∙ nowhere t.event (omega arith) under
 
   -- all inlets were served, or passed over
-  pub serves-end : {I : Type 0} (f : I → Intake) (items some : List I) (n : ℕ) (old new : Played P) → length some ≡ length items → n ≤ length some → length some ≤ n
+  pub serves-end : {I : Type 0} (f : I → Intake) (items some : List I) (n : ℕ) (old new : Played P) → length some ≡ length items
+      → n ≤ length some → length some ≤ n
       → Serves next bodies n old new (map f items) (map f some) → Serves next bodies (length (map f items)) old new (map f items) (map f some)
   serves-end f items some n old new same most least h =
       let all : n ≡ length (map f items) = let many = length-map items f in omega (arith, same, most, least, many) in
@@ -585,15 +643,20 @@ module _ {B P : Type 0} (next : Next B) (bodies : P → List B) (procs : P → L
 
   -- ---- with nobody to run, and no line taken
 
-  pub idle-still : {T : Type 0} (s : Stream) (old new : Played P) (before after : List Intake) (r : Result T RunErr) → Lived s old new before after r → Takes next bodies old new → length new.takes ≡ length old.takes
+  pub idle-still : {T : Type 0} (s : Stream) (old new : Played P) (before after : List Intake) (r : Result T RunErr)
+      → Lived s old new before after r → Takes next bodies old new → length new.takes ≡ length old.takes
       → phase_now next bodies new ≡ phase_now next bodies old
   idle-still s old new before after r h takes same =
       let e : length new.takes ≡ length (old.takes ++ h.draws.later) = ap length h.draws.extends.takes in
       let none = none-of h.draws.later (omega (arith, e, same, length-append old.takes h.draws.later)) in
       let still : new.takes ≡ old.takes = h.draws.extends.takes ∙ ap (λ l. old.takes ++ l) none ∙ append-nil old.takes in
-      (λ i. phase_of (play (record { next = next; bodies = bodies (h.ran.same.program i); params = h.ran.same.params i; names = h.ran.same.names i }) (still i) (takes.still i)).live.pod.state (h.ran.same.turns i) (takes.still i))
+      (λ i.
+      phase_of (play (record { next = next; bodies = bodies (h.ran.same.program i); params = h.ran.same.params i; names = h.ran.same.names i }) (still
+      i) (takes.still i)).live.pod.state
+      (h.ran.same.turns i) (takes.still i))
 
-  pub none-comes : {T : Type 0} (s : Stream) (old new : Played P) (before after : List Intake) (r : Result T RunErr) → Lived s old new before after r → Serves next bodies (length before) old new before after
+  pub none-comes : {T : Type 0} (s : Stream) (old new : Played P) (before after : List Intake) (r : Result T RunErr)
+      → Lived s old new before after r → Serves next bodies (length before) old new before after
       → length new.takes ≡ length old.takes → AllTold after → NoneComes next bodies new after
   none-comes s old new before after r h serves same told = (
     told,
@@ -603,7 +666,8 @@ module _ {B P : Type 0} (next : Next B) (bodies : P → List B) (procs : P → L
         ((serves.seen k d within within).found same wanted).1 (told k d low),
   )
 
-  pub quiet-now : {T : Type 0} (s : Stream) (old new : Played P) (before after : List Intake) (r : Result T RunErr) → Lived s old new before after r → Serves next bodies (length before) old new before after
+  pub quiet-now : {T : Type 0} (s : Stream) (old new : Played P) (before after : List Intake) (r : Result T RunErr)
+      → Lived s old new before after r → Serves next bodies (length before) old new before after
       → length new.takes ≡ length old.takes → phase_now next bodies old ≡ phase.Idle → (AllTold after → ⊥) → IsQuiet next bodies new before after
   quiet-now s old new before after r h serves same idle untold = (
     idle-still s old new before after r h serves.takes same ∙ idle,
@@ -617,7 +681,8 @@ module _ {B P : Type 0} (next : Next B) (bodies : P → List B) (procs : P → L
   quiet-on old mid new before some after h quiet = (
     quiet.0,
     quiet.1,
-    each-then (Gives (h.later ++ h.lost)) (λ t u. IsWanted next bodies new u → t.finds < u.finds) (λ t u. IsWanted next bodies new u → t.finds < u.finds) before some after
+    each-then (Gives (h.later ++ h.lost)) (λ t u. IsWanted next bodies new u → t.finds < u.finds)
+        (λ t u. IsWanted next bodies new u → t.finds < u.finds) before some after
         (λ t u v p q wanted. let a = gives-finds (h.later ++ h.lost) t u p in let b = q wanted in omega (arith, a, b))
         h.given quiet.2,
   )
@@ -644,7 +709,8 @@ none-wanted s (e ∷ es) = by (is_takeable s e) (none-wanted s es)
     by true h = h
     by false h = h
 
-over-phase : (s : EventState) (turns calls : ℕ) → phase_of s.state turns calls ≢ phase.Turn → over turns s calls [] ≡ Some (halt_of (phase_of s.state turns calls))
+over-phase : (s : EventState) (turns calls : ℕ) → phase_of s.state turns calls ≢ phase.Turn
+    → over turns s calls [] ≡ Some (halt_of (phase_of s.state turns calls))
 over-phase s turns calls h = by_end s.state.ended (choice s.state) h
   where
     by_count : (a b : Bool) → nat_lt calls turns ≡ a → nat_le turns calls ≡ b → cond a phase.Turn phase.Spent ≢ phase.Turn
@@ -654,7 +720,8 @@ over-phase s turns calls h = by_end s.state.ended (choice s.state) h
     by_count false false isa isb h = absurd (grind (arith, nat_tests))
 
     by_end : (b : Bool) (o : Option ℕ) → cond b (phase.Ended s.state.status) (phase_by turns calls o) ≢ phase.Turn
-        → cond b (Some (halts.Ended s.state.status)) (halt_if turns calls (is_wanted s []) o) ≡ Some (halt_of (cond b (phase.Ended s.state.status) (phase_by turns calls o)))
+        → cond b (Some (halts.Ended s.state.status)) (halt_if turns calls (is_wanted s []) o)
+        ≡ Some (halt_of (cond b (phase.Ended s.state.status) (phase_by turns calls o)))
     by_end true o h = refl
     by_end false None h = ap (λ b. cond b None (Some halts.Stuck)) (none-wanted s events)
     by_end false (Some t) h = by_count (nat_lt calls turns) (nat_le turns calls) refl refl h
@@ -663,5 +730,6 @@ module _ {B P : Type 0} (next : Next B) (bodies : P → List B) (procs : P → L
   ends-by : (now : Phase) → phase_now next bodies run ≡ now → now ≢ phase.Turn → EndsAt next bodies run [] (halt_of now)
   ends-by now is other = over-phase (session_of next bodies run).live.pod run.turns run.calls (λ e. other (sym is ∙ e)) ∙ ap (λ now. Some (halt_of now)) is
 
-  pub halts-stuck : (inlets : List Intake) → phase_now next bodies run ≡ phase.Idle → NoneComes next bodies run inlets → Halts next bodies run inlets halts.Stuck
+  pub halts-stuck : (inlets : List Intake) → phase_now next bodies run ≡ phase.Idle → NoneComes next bodies run inlets
+      → Halts next bodies run inlets halts.Stuck
   halts-stuck inlets is none = (ends-by phase.Idle is (λ e. absurd (cc)), λ e. none)

@@ -1,5 +1,6 @@
 -- How often inlets are looked at.
-use Rattle.std.proofs.Common.{◌≡◌, ◌≤◌, ◌<◌, ℕ, zero, suc, ◌+◌, List, [], ◌∷◌, Bool, true, false, cond, ap, ◌∙◌, refl, sym, subst, ◌++◌, length, length-append, append-nil, add-one, slice_index_or, arith}
+use Rattle.std.proofs.Common.{◌≡◌, ◌≤◌, ◌<◌, ℕ, zero, suc, ◌+◌, List, [], ◌∷◌, Bool, true, false, cond, ap, ◌∙◌, refl}
+use Rattle.std.proofs.Common.{sym, subst, ◌++◌, length, length-append, append-nil, add-one, slice_index_or, arith}
 use Rattle.std.specs.Prelude.{Result, Ok, MatchBool, IsTrue, reverse, nat_le, ◌==◌}
 use Rattle.std.specs.List.{All, AllByRecursion, filter}
 use Rattle.std.proofs.lemmas.Bool.{eqb-true}
@@ -24,17 +25,20 @@ use Rattle.pod_runner.proofs.Lives.{gives-event}
 -- ---- takes by a number of calls
 
 -- no take comes after the last call
-due-parts : {B : Type 0} (setting : Setting B) (took : Took) (before : ℕ → Session B) (Before : ℕ → Type 0) (n : ℕ) → TakeDue setting took before Before n → (took.turn ≤ n) × Before took.turn
+due-parts : {B : Type 0} (setting : Setting B) (took : Took) (before : ℕ → Session B) (Before : ℕ → Type 0) (n : ℕ)
+    → TakeDue setting took before Before n → (took.turn ≤ n) × Before took.turn
 due-parts setting took before Before zero h = (omega (arith, h.0), subst Before (sym h.0) h.1)
 due-parts setting took before Before (suc n) h = by_turn (took.turn == suc n) refl (λ rest. due-parts setting took before Before n rest) h
   where
     by_turn : (b : Bool) → (took.turn == suc n) ≡ b → (TakeDue setting took before Before n → (took.turn ≤ n) × Before took.turn)
-        → MatchBool b (Before (suc n) × IsTrue (is_take_due took (before (suc n)))) (TakeDue setting took before Before n × IsTrue (is_call_due (with_take setting took before n)))
+        → MatchBool b (Before (suc n) × IsTrue (is_take_due took (before (suc n))))
+        (TakeDue setting took before Before n × IsTrue (is_call_due (with_take setting took before n)))
         → (took.turn ≤ suc n) × Before took.turn
     by_turn true is earlier h = let e = eqb-true took.turn (suc n) is in (omega (arith, e), subst Before (sym e) h.0)
     by_turn false is earlier h = let e = earlier h.0 in (omega (arith, e.0), e.1)
 
-all-early : {B : Type 0} (setting : Setting B) (takes : List Took) (n m : ℕ) → n ≤ m → AllDue setting takes n → AllByRecursion (λ (took : Took). took.turn ≤ m) takes
+all-early : {B : Type 0} (setting : Setting B) (takes : List Took) (n m : ℕ) → n ≤ m → AllDue setting takes n
+    → AllByRecursion (λ (took : Took). took.turn ≤ m) takes
 all-early setting [] n m low h = tt
 all-early setting (took ∷ takes) n m low h =
     let parts = due-parts setting took (session_of_takes setting takes) (AllDue setting takes) n h in
@@ -105,10 +109,12 @@ gives-looks takes t u h =
 
 module _ {B P : Type 0} (next : Next B) (bodies : P → List B) (procs : P → List (List ℕ)) where
   -- no call was made
-  count-still : (old new : Played P) (before after : List Intake) (most e : ℕ) → GoesOn old new → Draws next bodies old new before after most → new.calls ≡ old.calls
+  count-still : (old new : Played P) (before after : List Intake) (most e : ℕ) → GoesOn old new
+      → Draws next bodies old new before after most → new.calls ≡ old.calls
       → armed_count next bodies new e ≡ armed_count next bodies old e
   count-still old new before after most e same draws still =
-      (λ i. length (armed_calls (record { next = next; bodies = bodies (same.program i); params = same.params i; names = same.names i }) (draws.extends.takes i) (still i) e))
+      (λ i. length (armed_calls (record { next = next; bodies = bodies (same.program i); params = same.params i; names = same.names i })
+      (draws.extends.takes i) (still i) e))
       ∙ ap length (armed-same (setting_of next bodies old) old.takes draws.later e old.calls (λ k d low. (draws.extends.between k d low).0))
 
   pub looks-same : (run : Played P) (inlets : List Intake) → LooksAtAll next bodies run run inlets inlets
@@ -141,9 +147,11 @@ module _ {B P : Type 0} (next : Next B) (bodies : P → List B) (procs : P → L
   -- a call after all inlets
   pub looks-call : {T U : Type 0} (s : Stream) (old mid new : Played P) (before after : List Intake) (x : T) (y : U)
       → phase_now next bodies old ≡ phase.Turn
-      → LivesOn next bodies procs s old mid before after (Ok x) → Serves next bodies (length before) old mid before after → new ≡ after_step {T = U} mid (with_call mid) (Ok y)
+      → LivesOn next bodies procs s old mid before after (Ok x) → Serves next bodies (length before) old mid before after
+      → new ≡ after_step {T = U} mid (with_call mid) (Ok y)
       → LooksAtAll next bodies old new before after
-  looks-call s old mid new before after x y turn h serves is = (h.draws.given.0, λ k d low. one k d low (is_takeable (session_of next bodies mid).live.pod (slice_index_or before k d).event) refl)
+  looks-call s old mid new before after x y turn h serves is =
+      (h.draws.given.0, λ k d low. one k d low (is_takeable (session_of next bodies mid).live.pod (slice_index_or before k d).event) refl)
     where
       one : (k : ℕ) (d : Intake) → k < length before → (b : Bool) → is_takeable (session_of next bodies mid).live.pod (slice_index_or before k d).event ≡ b
           → LooksAt next bodies old new (slice_index_or before k d) (slice_index_or after k d)
@@ -154,14 +162,19 @@ module _ {B P : Type 0} (next : Next B) (bodies : P → List B) (procs : P → L
           let more = gives-looks (h.draws.later ++ h.draws.lost) t u gives in
           let event = gives-event (h.draws.later ++ h.draws.lost) t u gives in
           let still = count-still old mid before after 0 t.event h.ran.same h.draws serves.takes.still in
-          let added : armed_count next bodies new t.event ≡ length (armed_calls (setting_of next bodies mid) mid.takes mid.calls t.event ++ cond b (mid.calls ∷ []) [])
+          let added : armed_count next bodies new t.event
+          ≡ length (armed_calls (setting_of next bodies mid) mid.takes mid.calls t.event ++ cond b (mid.calls ∷ []) [])
           = ap (λ n. armed_count next bodies n t.event) is
           ∙ ap length (armed-call (setting_of next bodies mid) mid.takes t.event mid.calls h.ran.made)
           ∙ ap (λ c. length (armed_calls (setting_of next bodies mid) mid.takes mid.calls t.event ++ cond c (mid.calls ∷ []) [])) waits in
-          by b t u more still added (λ yes_b. (serves.seen k d low low).looked turn (ap (λ e. is_takeable (session_of next bodies mid).live.pod e) event ∙ waits ∙ yes_b))
+          by b t u more still added (λ yes_b.
+          (serves.seen k d low low).looked turn (ap (λ e. is_takeable (session_of next bodies mid).live.pod e) event ∙ waits ∙ yes_b))
         where
           by : (b : Bool) (t u : Intake) → looks t ≤ looks u → armed_count next bodies mid t.event ≡ armed_count next bodies old t.event
-              → armed_count next bodies new t.event ≡ length (armed_calls (setting_of next bodies mid) mid.takes mid.calls t.event ++ cond b (mid.calls ∷ []) [])
+              → armed_count next bodies new t.event
+              ≡ length (armed_calls (setting_of next bodies mid) mid.takes mid.calls t.event ++ cond b (mid.calls ∷ []) [])
               → (b ≡ true → looks t < looks u) → LooksAt next bodies old new t u
-          by true t u more still added looked = let l = looked refl in let n = length-append (armed_calls (setting_of next bodies mid) mid.takes mid.calls t.event) (mid.calls ∷ []) in omega (arith, still, added, n, l)
-          by false t u more still added looked = let n = length-append (armed_calls (setting_of next bodies mid) mid.takes mid.calls t.event) [] in omega (arith, still, added, n, more)
+          by true t u more still added looked = let l = looked refl in
+              let n = length-append (armed_calls (setting_of next bodies mid) mid.takes mid.calls t.event) (mid.calls ∷ []) in omega (arith, still, added, n, l)
+          by false t u more still added looked = let n = length-append (armed_calls (setting_of next bodies mid) mid.takes mid.calls t.event) [] in
+              omega (arith, still, added, n, more)

@@ -30,17 +30,20 @@ chosen_from s t h = by_end s.ended h
 pub slice_get_present : {X : Type 0} (xs : List X) (i : ℕ) → i < length xs → (x : X) × (slice_get xs i ≡ Some x)
 slice_get_present xs i there = elim (slice_get_cases xs i).1 [ inl w ↦ (w.0, w.2) | inr w ↦ absurd (omega arith) ]
 
-pub move_no_row : {B : Type 0} (next : Next B) (bodies : List B) (live : Live B) (t : ℕ) → choice live.pod.state ≡ Some t → length live.rows ≤ place_of t live.rows → move next bodies live ≡ no_move live
+pub move_no_row : {B : Type 0} (next : Next B) (bodies : List B) (live : Live B) (t : ℕ) → choice live.pod.state ≡ Some t
+    → length live.rows ≤ place_of t live.rows → move next bodies live ≡ no_move live
 unfolding move
 move_no_row next bodies live t h past = rw (h, row_of-place t live.rows, slice_get_past live.rows (place_of t live.rows) past) refl
 
-move_some : {B : Type 0} (next : Next B) (bodies : List B) (live : Live B) (t : ℕ) (row : Row B) → choice live.pod.state ≡ Some t → row_of t live.rows ≡ Some row
+move_some : {B : Type 0} (next : Next B) (bodies : List B) (live : Live B) (t : ℕ) (row : Row B) → choice live.pod.state ≡ Some t
+    → row_of t live.rows ≡ Some row
     → move next bodies live ≡ call_move bodies live t (next row.body (names_for_poll t live.names) row.answer)
 unfolding move
 move_some next bodies live t row h there = rw (h, there) refl
 
 -- a call that was carried out
-pub moved : {B : Type 0} (next : Next B) (bodies : List B) (live : Live B) (t : ℕ) (row : Row B) (call : Call) (after : EventState) (effects : List Effect) (mid rows : List (Row B)) (names : Names)
+pub moved : {B : Type 0} (next : Next B) (bodies : List B) (live : Live B) (t : ℕ) (row : Row B) (call : Call) (after : EventState)
+    (effects : List Effect) (mid rows : List (Row B)) (names : Names)
     → choice live.pod.state ≡ Some t → slice_get live.rows (place_of t live.rows) ≡ Some row
     → Polls next row (names_for_poll t live.names) call (place_of t live.rows) live.rows mid names
     → after ≡ (event_step live.pod call).after → effects ≡ (event_step live.pod call).effects
@@ -54,7 +57,8 @@ moved next bodies live t row call after effects mid rows names h there polls a e
     move_some next bodies live t row h found ∙ rw (r, e, a, left, polls.names, polls.gives) refl
 
 -- a call by the place of the row, with its lines
-pub moves_at : {B : Type 0} (next : Next B) (bodies : List B) (procs : List (List ℕ)) (live : Live B) (t i : ℕ) (known : Names) (call : Call) (after : EventState) (effects : List Effect) (mid rows : List (Row B)) (names : Names) (out : List ℕ) (born : Option ℕ)
+pub moves_at : {B : Type 0} (next : Next B) (bodies : List B) (procs : List (List ℕ)) (live : Live B) (t i : ℕ) (known : Names)
+    (call : Call) (after : EventState) (effects : List Effect) (mid rows : List (Row B)) (names : Names) (out : List ℕ) (born : Option ℕ)
     → choice live.pod.state ≡ Some t → i ≡ place_of t live.rows → i < length live.rows → known ≡ names_for_poll t live.names
     → ((row : Row B) → slice_get live.rows i ≡ Some row → Polls next row known call i live.rows mid names)
     → after ≡ (event_step live.pod call).after → effects ≡ (event_step live.pod call).effects
@@ -68,11 +72,17 @@ moves_at next bodies procs live t i known call after effects mid rows names out 
     record { live = rw m refl; effects = rw m refl; lines = o ∙ rw m refl }
 
 -- with no row, nothing happens
-pub moves_none : {B : Type 0} (next : Next B) (bodies : List B) (procs : List (List ℕ)) (live : Live B) (t : ℕ) (out : List ℕ) → choice live.pod.state ≡ Some t → length live.rows ≤ place_of t live.rows → out ≡ [] → Moves procs None (move next bodies live) live [] out
-moves_none next bodies procs live t out h past none = let m = move_no_row next bodies live t h past in record { live = rw m refl; effects = rw m refl; lines = none ∙ rw m refl }
+pub moves_none : {B : Type 0} (next : Next B) (bodies : List B) (procs : List (List ℕ)) (live : Live B) (t : ℕ) (out : List ℕ)
+    → choice live.pod.state ≡ Some t → length live.rows ≤ place_of t live.rows → out ≡ [] → Moves procs None (move next bodies live) live [] out
+moves_none next bodies procs live t out h past none = let m = move_no_row next bodies live t h past in record {
+  live = rw m refl;
+  effects = rw m refl;
+  lines = none ∙ rw m refl;
+}
 
 -- a line was taken
-pub taken_moves : {B : Type 0} (bodies : List B) (procs : List (List ℕ)) (live : Live B) (took : Took) (after : EventState) (effects : List Effect) (rows : List (Row B)) (out : List ℕ)
+pub taken_moves : {B : Type 0} (bodies : List B) (procs : List (List ℕ)) (live : Live B) (took : Took) (after : EventState)
+    (effects : List Effect) (rows : List (Row B)) (out : List ℕ)
     → after ≡ (take_event live.pod took.event took.line.text).after → effects ≡ (take_event live.pod took.event took.line.text).effects
     → rows ≡ after_settle bodies None effects live.rows → out ≡ step_lines procs (Some took.line) effects
     → Moves procs (Some took.line) (take_move bodies took live) (record { pod = after; rows = rows; names = live.names }) effects out

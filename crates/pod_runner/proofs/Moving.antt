@@ -20,21 +20,27 @@ effects-push : (steps : List Made) (made : Made) → effects_in (steps ++ made �
 effects-push [] made = append-nil made.effects
 effects-push (first ∷ steps) made = ap (λ es. first.effects ++ es) (effects-push steps made) ∙ sym (append_assoc first.effects (effects_in steps) made.effects)
 
-moved-push : (moves : List EventMove) (move : EventMove) (start : EventState) → after_moves (moves ++ move ∷ []) start ≡ (event_move (after_moves moves start) move).after
+moved-push : (moves : List EventMove) (move : EventMove) (start : EventState)
+    → after_moves (moves ++ move ∷ []) start ≡ (event_move (after_moves moves start) move).after
 moved-push [] move start = refl
 moved-push (first ∷ moves) move start = moved-push moves move (event_move start first).after
 
-told-push : (moves : List EventMove) (move : EventMove) (start : EventState) → effects_of (moves ++ move ∷ []) start ≡ effects_of moves start ++ (event_move (after_moves moves start) move).effects
+told-push : (moves : List EventMove) (move : EventMove) (start : EventState)
+    → effects_of (moves ++ move ∷ []) start ≡ effects_of moves start ++ (event_move (after_moves moves start) move).effects
 told-push [] move start = append-nil (event_move start move).effects
-told-push (first ∷ moves) move start = ap (λ es. (event_move start first).effects ++ es) (told-push moves move (event_move start first).after) ∙ sym (append_assoc (event_move start first).effects (effects_of moves (event_move start first).after) (event_move (after_moves moves (event_move start first).after) move).effects)
+told-push (first ∷ moves) move start = ap (λ es. (event_move start first).effects ++ es) (told-push moves move (event_move start first).after)
+    ∙ sym (append_assoc (event_move start first).effects (effects_of moves (event_move start first).after)
+    (event_move (after_moves moves (event_move start first).after) move).effects)
 
-can-push : (moves : List EventMove) (move : EventMove) (start : EventState) → CanMove moves start → can_move (after_moves moves start) move ≡ true → CanMove (moves ++ move ∷ []) start
+can-push : (moves : List EventMove) (move : EventMove) (start : EventState) → CanMove moves start
+    → can_move (after_moves moves start) move ≡ true → CanMove (moves ++ move ∷ []) start
 can-push [] move start can may = (may, tt)
 can-push (first ∷ moves) move start can may = (can.0, can-push moves move (event_move start first).after can.1 may)
 
 module _ (start : EventState) where
   -- a step that moves nothing
-  idle : (pod : EventState) (steps : List Made) (took : Option Took) → IsMoved start pod steps → IsMoved start pod (steps ++ record { take = took; effects = [] } ∷ [])
+  idle : (pod : EventState) (steps : List Made) (took : Option Took) → IsMoved start pod steps
+      → IsMoved start pod (steps ++ record { take = took; effects = [] } ∷ [])
   idle pod steps took was = record {
     moves = was.moves;
     can = was.can;
@@ -43,7 +49,8 @@ module _ (start : EventState) where
   }
 
   -- a step that is a move
-  moves : (pod : EventState) (steps : List Made) (took : Option Took) (move : EventMove) → IsMoved start pod steps → can_move pod move ≡ true → IsMoved start (event_move pod move).after (steps ++ record { take = took; effects = (event_move pod move).effects } ∷ [])
+  moves : (pod : EventState) (steps : List Made) (took : Option Took) (move : EventMove) → IsMoved start pod steps
+      → can_move pod move ≡ true → IsMoved start (event_move pod move).after (steps ++ record { take = took; effects = (event_move pod move).effects } ∷ [])
   moves pod steps took move was may = record {
     moves = was.moves ++ move ∷ [];
     can = can-push was.moves move start was.can (ap (λ now. can_move now move) (sym was.pod_is) ∙ may);
@@ -59,15 +66,18 @@ module _ (start : EventState) where
     abbrev InIt : Session B → Type 0
     InIt session = IsMoved start session.live.pod session.steps
 
-    called-moves : (live : Live B) (steps : List Made) (t : ℕ) (reply : Polled B) → IsMoved start live.pod steps → InIt (with_move (record { live = live; steps = steps }) None (call_move setting.bodies live t reply))
+    called-moves : (live : Live B) (steps : List Made) (t : ℕ) (reply : Polled B) → IsMoved start live.pod steps
+        → InIt (with_move (record { live = live; steps = steps }) None (call_move setting.bodies live t reply))
     unfolding call_move
     called-moves live steps t reply was = moves live.pod steps None (ToCall reply.0) was refl
 
-    row-moves : (live : Live B) (steps : List Made) (t : ℕ) (o : Option (Row B)) → IsMoved start live.pod steps → InIt (with_move (record { live = live; steps = steps }) None (move_row setting.next setting.bodies live t o))
+    row-moves : (live : Live B) (steps : List Made) (t : ℕ) (o : Option (Row B)) → IsMoved start live.pod steps
+        → InIt (with_move (record { live = live; steps = steps }) None (move_row setting.next setting.bodies live t o))
     row-moves live steps t None was = idle live.pod steps None was
     row-moves live steps t (Some row) was = called-moves live steps t (setting.next row.body (names_for_poll t live.names) row.answer) was
 
-    by-moves : (live : Live B) (steps : List Made) (o : Option ℕ) → IsMoved start live.pod steps → InIt (with_move (record { live = live; steps = steps }) None (move_by setting.next setting.bodies live o))
+    by-moves : (live : Live B) (steps : List Made) (o : Option ℕ) → IsMoved start live.pod steps
+        → InIt (with_move (record { live = live; steps = steps }) None (move_by setting.next setting.bodies live o))
     by-moves live steps None was = idle live.pod steps None was
     by-moves live steps (Some t) was = row-moves live steps t (row_of t live.rows) was
 
@@ -84,12 +94,14 @@ module _ (start : EventState) where
       calls-move zero = opens
       calls-move (suc n) = call-moves (session_of_calls setting n) (calls-move n)
 
-      with-moves : (took : Took) (before : ℕ → Session B) (Before : ℕ → Type 0) → ((n : ℕ) → Before n → InIt (before n)) → (n : ℕ) → TakeDue setting took before Before n → InIt (with_take setting took before n)
+      with-moves : (took : Took) (before : ℕ → Session B) (Before : ℕ → Type 0) → ((n : ℕ) → Before n → InIt (before n)) → (n : ℕ)
+          → TakeDue setting took before Before n → InIt (with_take setting took before n)
       with-moves took before Before was zero h = take-moves took (before 0) h.2 (was 0 h.1)
       with-moves took before Before was (suc n) h = by_turn (took.turn == suc n) (λ d. with-moves took before Before was n d) h
         where
           by_turn : (b : Bool) → (TakeDue setting took before Before n → InIt (with_take setting took before n))
-              → MatchBool b (Before (suc n) × IsTrue (is_take_due took (before (suc n)))) (TakeDue setting took before Before n × IsTrue (is_call_due (with_take setting took before n)))
+              → MatchBool b (Before (suc n) × IsTrue (is_take_due took (before (suc n))))
+              (TakeDue setting took before Before n × IsTrue (is_call_due (with_take setting took before n)))
               → InIt (if b then take_step setting took (before (suc n)) else call_step setting (with_take setting took before n))
           by_turn true rest h = take-moves took (before (suc n)) h.1 (was (suc n) h.0)
           by_turn false rest h = call-moves (with_take setting took before n) (rest h.0)

@@ -1,5 +1,6 @@
 -- Rows whose numbers rise, and where the row of a thread is found among them.
-use Rattle.std.proofs.Common.{◌≢◌, ◌≡◌, ◌≤◌, ◌<◌, ℕ, zero, suc, ◌+◌, List, [], ◌∷◌, ◌++◌, Bool, true, false, cond, length, get_or, set, take, ap, ◌∙◌, refl, sym, subst, inl, inr, arith}
+use Rattle.std.proofs.Common.{◌≢◌, ◌≡◌, ◌≤◌, ◌<◌, ℕ, zero, suc, ◌+◌, List, [], ◌∷◌, ◌++◌, Bool, true, false}
+use Rattle.std.proofs.Common.{cond, length, get_or, set, take, ap, ◌∙◌, refl, sym, subst, inl, inr, arith}
 use Rattle.std.specs.List.{AllByRecursion, remove}
 use Rattle.std.specs.Prelude.{Some, slice_get, slice_set, ◌⊎◌, ◌==◌}
 use Rattle.lwp_types.specs.declared.call.Answer.{Answer}
@@ -43,7 +44,8 @@ module _ {B : Type 0} where
   -- a row gives way to one of the same thread
   pub rising_set : (rows : List (Row B)) (i : ℕ) (x : Row B) → AreRising rows → i < length rows → x.tid ≡ (get_or rows i x).tid → AreRising (set rows i x)
   rising_set [] i x up within same = absurd (omega arith)
-  rising_set (r ∷ rs) zero x up within same = (All-weaker (λ (later : Row B). r.tid < later.tid) (λ (later : Row B). x.tid < later.tid) (λ later lt. omega (arith, lt, same)) rs up.0, up.1)
+  rising_set (r ∷ rs) zero x up within same =
+      (All-weaker (λ (later : Row B). r.tid < later.tid) (λ (later : Row B). x.tid < later.tid) (λ later lt. omega (arith, lt, same)) rs up.0, up.1)
   rising_set (r ∷ rs) (suc i) x up within same =
       let low : r.tid < x.tid = omega (arith, All-at (λ (later : Row B). r.tid < later.tid) rs i x (omega arith) up.0, same) in
       (All-set (λ (later : Row B). r.tid < later.tid) rs i x up.0 low, rising_set rs i x up.1 (omega arith) same)
@@ -95,12 +97,15 @@ module _ {B : Type 0} where
       by (inr after) = let same : m ≡ k = omega (arith, after, over) in subst (λ n. t < (get_or rows n d).tid) same (omega (arith, at, high))
 
   -- all rows are before a thread that the last one is before
-  pub comes_last : (t : ℕ) (rows : List (Row B)) (n : ℕ) (seen : Row B) → AreRising rows → n + 1 ≡ length rows → seen ≡ get_or rows n seen → seen.tid < t → ComesLast t rows
+  pub comes_last : (t : ℕ) (rows : List (Row B)) (n : ℕ) (seen : Row B) → AreRising rows → n + 1 ≡ length rows → seen ≡ get_or rows n seen
+      → seen.tid < t → ComesLast t rows
   comes_last t [] n seen up at there low = absurd (omega (arith, at))
   comes_last t (r ∷ []) zero seen up at there low = (subst (λ (x : Row B). x.tid < t) there low, tt)
   comes_last t (r ∷ s ∷ rs) zero seen up at there low = absurd (omega (arith, at))
-  comes_last t (r ∷ rs) (suc n) seen up at there low =
-      (omega (arith, All-at (λ (later : Row B). r.tid < later.tid) rs n seen (omega (arith, at)) up.0, ap (λ (x : Row B). x.tid) there, low), comes_last t rs n seen up.1 (omega (arith, at)) there low)
+  comes_last t (r ∷ rs) (suc n) seen up at there low = (
+    omega (arith, All-at (λ (later : Row B). r.tid < later.tid) rs n seen (omega (arith, at)) up.0, ap (λ (x : Row B). x.tid) there, low),
+    comes_last t rs n seen up.1 (omega (arith, at)) there low,
+  )
 
   -- ---- a row that is there
 

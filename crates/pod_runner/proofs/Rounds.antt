@@ -1,5 +1,6 @@
 -- What a run, a gate and a sink come to together, part by part.
-use Rattle.std.proofs.Common.{◌≢◌, ◌≡◌, ◌≤◌, ◌<◌, ℕ, zero, suc, ◌+◌, ◌-◌, List, [], ◌∷◌, true, false, None, Some, ap, ◌∙◌, refl, sym, subst, ◌++◌, length, length-append, take, arith}
+use Rattle.std.proofs.Common.{◌≢◌, ◌≡◌, ◌≤◌, ◌<◌, ℕ, zero, suc, ◌+◌, ◌-◌, List, [], ◌∷◌, true, false, None}
+use Rattle.std.proofs.Common.{Some, ap, ◌∙◌, refl, sym, subst, ◌++◌, length, length-append, take, arith}
 use Rattle.std.proofs.Math.Seq.{take-append_seam, take-length}
 use Rattle.std.specs.Prelude.{Option, Result, Ok, Err, OnOk, OnErr, IsErrAnd, IsErrOf}
 use Rattle.std.specs.List.{fold, range_with_len}
@@ -11,9 +12,11 @@ use Rattle.lwp_types.specs.Poll.{Next}
 use Rattle.lwp_types.specs.declared.call.Line.{Line}
 use Rattle.pod_runner.specs.Does.{Does, RunsOn}
 use Rattle.pod_runner.specs.Due.{IsDefined}
-use Rattle.pod_runner.specs.Eager.{IsFirstPart, Plan, Planned, after_advance, boundary, after_finish, after_offer, one_call, opening_plan, plan_over, plan_whole, round, pod_of}
+use Rattle.pod_runner.specs.Eager.{IsFirstPart, Plan, Planned, after_advance, boundary, after_finish, after_offer}
+use Rattle.pod_runner.specs.Eager.{one_call, opening_plan, plan_over, plan_whole, round, pod_of}
 use Rattle.pod_runner.specs.Phase.{phase_of}
-use Rattle.pod_runner.specs.Run.{Broke, GoesOn, IsNew, Played, Tells, WritesPart, Wrote, but_last, plan_now, planned_of, session_of, phase_now, setting_of, after_step, took_now, trace_before, trace_of, with_call, with_took}
+use Rattle.pod_runner.specs.Run.{Broke, GoesOn, IsNew, Played, Tells, WritesPart, Wrote, but_last, plan_now, planned_of, session_of}
+use Rattle.pod_runner.specs.Run.{phase_now, setting_of, after_step, took_now, trace_before, trace_of, with_call, with_took}
 use Rattle.streams.specs.Streams.{Stream}
 use Rattle.pod_runner.specs.Session.{Made, Move, Session, call_step, take_step, with_move}
 use Rattle.pod_runner.specs.Play.{play}
@@ -28,14 +31,16 @@ use Rattle.pod_runner.specs.Over.{can_take, events}
 use Rattle.pod_runner.proofs.Kept.{boundary-turn}
 use Rattle.pod_runner.proofs.Plays.{LastBy-of, play-call, play-take, play-zero}
 use Rattle.pod_runner.proofs.Ends.{idle-on, idle-round, idle-stuck, turn-round}
-use Rattle.pod_runner.proofs.Eagers.{call-grows, falls, finished-grows, finished-over, finished-round, first-same, first-then, offered-grows, to_do, offered-some, offered-unable, serves-grow, serves-none, taken_from-none}
+use Rattle.pod_runner.proofs.Eagers.{call-grows, falls, finished-grows, finished-over, finished-round, first-same, first-then, offered-grows}
+use Rattle.pod_runner.proofs.Eagers.{to_do, offered-some, offered-unable, serves-grow, serves-none, taken_from-none}
 
 -- ---- what is told
 
 abbrev pub stream : Option (List ℕ) → Option (List ℕ) → ℕ → ℕ → Stream
 stream old new faults_old faults_new = record { old = old; new = new; faults_old = faults_old; faults_new = faults_new }
 
-pub tells-then : {T : Type 0} (a b c : Option (List ℕ)) (f g h : ℕ) (t u least v : List ℕ) (r : Result T RunErr) → Wrote (stream a b f g) t u → Tells (stream b c g h) u least v r → Tells (stream a c f h) t least v r
+pub tells-then : {T : Type 0} (a b c : Option (List ℕ)) (f g h : ℕ) (t u least v : List ℕ) (r : Result T RunErr)
+    → Wrote (stream a b f g) t u → Tells (stream b c g h) u least v r → Tells (stream a c f h) t least v r
 tells-then a b c f g h t u least v (Ok x) p q = (λ base is. q.0 base (p.0 base is), q.1 ∙ p.1)
 tells-then a b c f g h t u least v (Err fails.NoMemory) p q = (λ base is. q.0 base (p.0 base is), q.1 ∙ p.1)
 tells-then a b c f g h t u least v (Err fails.WriteFault) p q = (λ base is. q.0 base (p.0 base is), rw p.1 at q.1, omega (arith, p.1, q.2))
@@ -104,7 +109,8 @@ module _ {B P : Type 0} (next : Next B) (bodies : P → List B) (procs : P → L
     same = goes-then old mid new same q.same;
     made = q.made;
     room = q.room;
-    told = tells-then a b c i j k (trace_of next bodies procs old) (trace_of next bodies procs mid) (trace_before next bodies procs new) (trace_of next bodies procs new) r told q.told;
+    told = tells-then a b c i j k (trace_of next bodies procs old) (trace_of next bodies procs mid) (trace_before next bodies procs new)
+        (trace_of next bodies procs new) r told q.told;
     sound = q.sound;
   }
 
@@ -177,11 +183,13 @@ module _ {B P : Type 0} (next : Next B) (bodies : P → List B) (procs : P → L
     part = subst (λ p. OnErr r (IsFirstPart (plan_now next bodies new left) p)) e h.part;
   }
 
-  pub does-then : {T U : Type 0} (a b c : Option (List ℕ)) (i j k : ℕ) (f g : Planned B → Plan B → Plan B) (old mid new : Played P) (stock some left : Shelves) (x : T) (r : Result U RunErr)
+  pub does-then : {T U : Type 0} (a b c : Option (List ℕ)) (i j k : ℕ) (f g : Planned B → Plan B → Plan B) (old mid new : Played P)
+      (stock some left : Shelves) (x : T) (r : Result U RunErr)
       → Came (stream a b i j) f old mid stock some (Ok x) → Came (stream b c j k) g mid new some left r
       → Came (stream a c i k) (λ planned plan. g planned (f planned plan)) old new stock left r
   does-then a b c i j k f g old mid new stock some left x r p q =
-      let e : g (planned_of next bodies mid) (plan_now next bodies mid some) ≡ g (planned_of next bodies old) (f (planned_of next bodies old) (plan_now next bodies old stock))
+      let e : g (planned_of next bodies mid) (plan_now next bodies mid some)
+      ≡ g (planned_of next bodies old) (f (planned_of next bodies old) (plan_now next bodies old stock))
       = (λ t. g (planned-same old mid p.ran.same t) (p.comes t)) in
       record {
         ran = ran-behind a b c i j k old mid new r p.ran.same p.ran.told q.ran;
@@ -191,7 +199,8 @@ module _ {B P : Type 0} (next : Next B) (bodies : P → List B) (procs : P → L
 
   -- where the first fails, so does the whole
   pub does-part : (T U : Type 0) (s : Stream) (f g : Planned B → Plan B → Plan B) (old new : Played P) (stock left : Shelves) (e : RunErr)
-      → IsFirstPart (f (planned_of next bodies old) (plan_now next bodies old stock)) (g (planned_of next bodies old) (f (planned_of next bodies old) (plan_now next bodies old stock)))
+      → IsFirstPart (f (planned_of next bodies old) (plan_now next bodies old stock))
+      (g (planned_of next bodies old) (f (planned_of next bodies old) (plan_now next bodies old stock)))
       → Came {T = T} s f old new stock left (Err e)
       → Came {T = U} s (λ planned plan. g planned (f planned plan)) old new stock left (Err e)
   does-part T U s f g old new stock left e more p = record {
@@ -219,18 +228,22 @@ module _ {B P : Type 0} (next : Next B) (bodies : P → List B) (procs : P → L
     where
       one_more : (a n : ℕ) → range_with_len a (n + 1) ≡ range_with_len a n ++ (a + n) ∷ []
       one_more a zero = let at : a ≡ a + 0 = omega arith in ap (λ k. k ∷ []) at
-      one_more a (suc n) = let more : suc n + 1 ≡ suc (n + 1) = omega arith in let on : a + 1 + n ≡ a + suc n = omega arith in ap (range_with_len a) more ∙ ap (λ es. a ∷ es) (one_more (a + 1) n ∙ ap (λ k. range_with_len (a + 1) n ++ k ∷ []) on)
+      one_more a (suc n) = let more : suc n + 1 ≡ suc (n + 1) = omega arith in let on : a + 1 + n ≡ a + suc n = omega arith in
+          ap (range_with_len a) more ∙ ap (λ es. a ∷ es) (one_more (a + 1) n ∙ ap (λ k. range_with_len (a + 1) n ++ k ∷ []) on)
 
   pub events-begin : {T : Type 0} (w : Option (List ℕ)) (f : ℕ) (run : Played P) (stock : Shelves) (x : T)
       → run.failed ≡ false → IsDefined (setting_of next bodies run) run.takes run.calls → run.calls ≤ run.turns
       → Came (stream w w f f) (λ planned plan. first_events 0 planned plan) run run stock stock (Ok x)
   events-begin w f run stock x sound made room = does-nothing w f run stock x sound made room
 
-  pub events-more : {T : Type 0} (a b c : Option (List ℕ)) (i j k : ℕ) (old mid new : Played P) (stock some left : Shelves) (e : ℕ) (x : T) (r : Result (Unit {0}) RunErr)
-      → Came (stream a b i j) (λ planned plan. first_events e planned plan) old mid stock some (Ok x) → Came (stream b c j k) (λ planned plan. after_offer planned e plan) mid new some left r
+  pub events-more : {T : Type 0} (a b c : Option (List ℕ)) (i j k : ℕ) (old mid new : Played P) (stock some left : Shelves) (e : ℕ) (x : T)
+      (r : Result (Unit {0}) RunErr)
+      → Came (stream a b i j) (λ planned plan. first_events e planned plan) old mid stock some (Ok x)
+      → Came (stream b c j k) (λ planned plan. after_offer planned e plan) mid new some left r
       → Came (stream a c i k) (λ planned plan. first_events (e + 1) planned plan) old new stock left r
   events-more a b c i j k old mid new stock some left e x r p q =
-      does-by (stream a c i k) (λ planned plan. after_offer planned e (first_events e planned plan)) (λ planned plan. first_events (e + 1) planned plan) old new stock left r
+      does-by (stream a c i k) (λ planned plan. after_offer planned e (first_events e planned plan))
+      (λ planned plan. first_events (e + 1) planned plan) old new stock left r
       (more-events (planned_of next bodies old) (plan_now next bodies old stock) e)
       (does-then a b c i j k (λ planned plan. first_events e planned plan) (λ planned plan. after_offer planned e plan) old mid new stock some left x r p q)
 
@@ -240,30 +253,39 @@ module _ {B P : Type 0} (next : Next B) (bodies : P → List B) (procs : P → L
       ap (λ k. a ∷ (range_with_len (a + 1) m ++ range_with_len k n)) e ∙ ap (λ es. a ∷ es) (cut (a + 1) m n) ∙ sym (ap (range_with_len a) more)
 
   -- the events below a, and so many more
-  joined : (planned : Planned B) (plan : Plan B) (a n b : ℕ) → a + n ≡ b → fold (λ (now : Plan B) e. after_offer planned e now) (first_events a planned plan) (range_with_len a n) ≡ fold (λ (now : Plan B) e. after_offer planned e now) plan (range_with_len 0 b)
+  joined : (planned : Planned B) (plan : Plan B) (a n b : ℕ) → a + n ≡ b
+      → fold (λ (now : Plan B) e. after_offer planned e now) (first_events a planned plan) (range_with_len a n)
+      ≡ fold (λ (now : Plan B) e. after_offer planned e now) plan (range_with_len 0 b)
   joined planned plan a n b total =
       let at : a ≡ 0 + a = omega arith in
       sym (fold-append (λ (now : Plan B) e. after_offer planned e now) plan (range_with_len 0 a) (range_with_len a n))
-      ∙ ap (λ es. fold (λ (now : Plan B) e. after_offer planned e now) plan es) (ap (λ k. range_with_len 0 a ++ range_with_len k n) at ∙ cut 0 a n ∙ ap (range_with_len 0) total)
+      ∙ ap (λ es. fold (λ (now : Plan B) e. after_offer planned e now) plan es)
+      (ap (λ k. range_with_len 0 a ++ range_with_len k n) at ∙ cut 0 a n ∙ ap (range_with_len 0) total)
 
   -- events that can't be delivered are passed over
   pub events-skip : {T : Type 0} (s : Stream) (old new : Played P) (stock left : Shelves) (a b : ℕ) (x : T) → a ≤ b
       → HoldsNowhere (can_take (session_of next bodies new).live.pod left) a b
-      → Came s (λ planned plan. first_events a planned plan) old new stock left (Ok x) → Came s (λ planned plan. first_events b planned plan) old new stock left (Ok x)
+      → Came s (λ planned plan. first_events a planned plan) old new stock left (Ok x)
+      → Came s (λ planned plan. first_events b planned plan) old new stock left (Ok x)
   events-skip s old new stock left a b x up none p =
       let planned = planned_of next bodies old in
       let plan = plan_now next bodies old stock in
       let now = plan_now next bodies new left in
       let n = b - a in
       let reach : b ≡ a + n = omega (arith, up) in
-      let still : fold (λ (now : Plan B) e. after_offer planned e now) now (range_with_len a n) ≡ now = serves-none planned now a n (subst (λ e. HoldsNowhere (can_take (session_of next bodies new).live.pod left) a e) reach none) in
+      let still : fold (λ (now : Plan B) e. after_offer planned e now) now (range_with_len a n)
+      ≡ now = serves-none planned now a n (subst (λ e. HoldsNowhere (can_take (session_of next bodies new).live.pod left) a e) reach none) in
       does-by s (λ planned plan. first_events a planned plan) (λ planned plan. first_events b planned plan) old new stock left (Ok x)
-      (sym p.comes ∙ sym still ∙ ap (λ q. fold (λ (now : Plan B) e. after_offer planned e now) q (range_with_len a n)) p.comes ∙ joined planned plan a n b (sym reach)) p
+      (sym p.comes ∙ sym still ∙ ap (λ q. fold (λ (now : Plan B) e. after_offer planned e now) q (range_with_len a n)) p.comes
+      ∙ joined planned plan a n b (sym reach))
+      p
 
   pub events-end : {T : Type 0} (s : Stream) (old new : Played P) (stock left : Shelves) (e : ℕ) (x : T) → e ≡ 32
-      → Came s (λ planned plan. first_events e planned plan) old new stock left (Ok x) → Came s (λ planned plan. boundary planned plan) old new stock left (Ok x)
+      → Came s (λ planned plan. first_events e planned plan) old new stock left (Ok x)
+      → Came s (λ planned plan. boundary planned plan) old new stock left (Ok x)
   unfolding events
-  events-end s old new stock left e x is p = does-by s (λ planned plan. first_events e planned plan) (λ planned plan. boundary planned plan) old new stock left (Ok x)
+  events-end s old new stock left e x is p =
+      does-by s (λ planned plan. first_events e planned plan) (λ planned plan. boundary planned plan) old new stock left (Ok x)
       (ap (λ n. first_events n (planned_of next bodies old) (plan_now next bodies old stock)) is) p
 
   -- where the run fails at an event, the rest isn't done
@@ -272,15 +294,21 @@ module _ {B P : Type 0} (next : Next B) (bodies : P → List B) (procs : P → L
   events-rest planned plan e low =
       let n = 32 - e in
       let total : e + n ≡ 32 = omega (arith, low) in
-      subst (λ whole. IsFirstPart (first_events e planned plan) whole) (joined planned plan e n 32 total) (serves-grow planned (range_with_len e n) (first_events e planned plan))
+      subst (λ whole. IsFirstPart (first_events e planned plan) whole) (joined planned plan e n 32 total)
+      (serves-grow planned (range_with_len e n) (first_events e planned plan))
 
-  pub events-part : {T U : Type 0} (a b c : Option (List ℕ)) (i j k : ℕ) (old mid new : Played P) (stock some left : Shelves) (e : ℕ) (x : T) (r : Result U RunErr) (error : RunErr) → IsErrAnd r (λ given. given ≡ error) → e < 32
-      → Came (stream a b i j) (λ planned plan. first_events e planned plan) old mid stock some (Ok x) → Came {T = Unit {0}} (stream b c j k) (λ planned plan. after_offer planned e plan) mid new some left (Err error)
+  pub events-part : {T U : Type 0} (a b c : Option (List ℕ)) (i j k : ℕ) (old mid new : Played P) (stock some left : Shelves) (e : ℕ)
+      (x : T) (r : Result U RunErr) (error : RunErr)
+      → IsErrAnd r (λ given. given ≡ error) → e < 32
+      → Came (stream a b i j) (λ planned plan. first_events e planned plan) old mid stock some (Ok x)
+      → Came {T = Unit {0}} (stream b c j k) (λ planned plan. after_offer planned e plan) mid new some left (Err error)
       → Came (stream a c i k) (λ planned plan. boundary planned plan) old new stock left r
   events-part a b c i j k old mid new stock some left e x r error is high p q =
       does-err _ (stream a c i k) (λ planned plan. boundary planned plan) old new stock left r error is
-      (does-by (stream a c i k) (λ planned plan. boundary planned (plan_now next bodies old stock)) (λ planned plan. boundary planned plan) old new stock left (Err error) refl
-      (does-part _ _ (stream a c i k) (λ planned plan. first_events (e + 1) planned plan) (λ planned plan. boundary planned (plan_now next bodies old stock)) old new stock left error
+      (does-by (stream a c i k) (λ planned plan. boundary planned (plan_now next bodies old stock)) (λ planned plan. boundary planned plan)
+      old new stock left (Err error) refl
+      (does-part _ _ (stream a c i k) (λ planned plan. first_events (e + 1) planned plan)
+      (λ planned plan. boundary planned (plan_now next bodies old stock)) old new stock left error
       (events-rest (planned_of next bodies old) (plan_now next bodies old stock) (e + 1) (omega (arith, high)))
       (events-more a b c i j k old mid new stock some left e x (Err error) p q)))
 
@@ -313,16 +341,19 @@ module _ {B P : Type 0} (next : Next B) (bodies : P → List B) (procs : P → L
   does-step s by old counted new stock left (Err fails.WriteFault) h is told made room = record {
     ran = ran-step s old counted new (Err fails.WriteFault) h.same h.sound h.before is told made room;
     comes = tt;
-    part = subst (λ p. IsFirstPart p (by (planned_of next bodies old) (plan_now next bodies old stock))) (sym (ap (λ n. plan_now next bodies n left) is ∙ h.comes))
+    part = subst (λ p. IsFirstPart p (by (planned_of next bodies old) (plan_now next bodies old stock)))
+        (sym (ap (λ n. plan_now next bodies n left) is ∙ h.comes))
         (first-same (by (planned_of next bodies old) (plan_now next bodies old stock)));
   }
 
   -- ---- a call
 
-  call-last : (run : Played P) → IsDefined (setting_of next bodies run) run.takes run.calls → session_of next bodies (with_call run) ≡ call_step (setting_of next bodies run) (session_of next bodies run)
+  call-last : (run : Played P) → IsDefined (setting_of next bodies run) run.takes run.calls
+      → session_of next bodies (with_call run) ≡ call_step (setting_of next bodies run) (session_of next bodies run)
   call-last run made = play-call (setting_of next bodies run) run.takes run.calls (LastBy-of (setting_of next bodies run) run.takes run.calls made)
 
-  take-last : (run : Played P) (e : ℕ) (line : Line) → session_of next bodies (with_took run e line) ≡ take_step (setting_of next bodies run) (took_now run e line) (session_of next bodies run)
+  take-last : (run : Played P) (e : ℕ) (line : Line)
+      → session_of next bodies (with_took run e line) ≡ take_step (setting_of next bodies run) (took_now run e line) (session_of next bodies run)
   take-last run e line = play-take (setting_of next bodies run) (took_now run e line) run.takes run.calls refl
 
   pub does-call : {T : Type 0} (s : Stream) (old new : Played P) (stock : Shelves) (r : Result T RunErr)
@@ -346,14 +377,16 @@ module _ {B P : Type 0} (next : Next B) (bodies : P → List B) (procs : P → L
       → Tells s (trace_of next bodies procs old) (trace_of next bodies procs old) (trace_of next bodies procs new) r
       → IsDefined (setting_of next bodies new) new.takes new.calls → new.calls ≤ new.turns
       → Came s (λ planned plan. after_offer planned e plan) old new stock left r
-  does-take s e line old new stock left r sound may first rest is told made room = does-step s (λ planned plan. after_offer planned e plan) old (with_took old e line) new stock left r (record {
-    same = record { program = refl; params = refl; names = refl; turns = refl };
-    sound = sound;
-    comes = (λ t. record { session = take-last old e line t; calls = old.calls; left = rest t; takes = old.takes ++ took_now old e line ∷ [] })
-        ∙ sym (offered-some (planned_of next bodies old) e (plan_now next bodies old stock) line may first);
-    before = but_last-extended (session_of next bodies (with_took old e line)) (session_of next bodies old) (Some (took_now old e line)) _ (take-last old e line);
-    more = offered-grows (planned_of next bodies old) e (plan_now next bodies old stock);
-  }) is told made room
+  does-take s e line old new stock left r sound may first rest is told made room =
+      does-step s (λ planned plan. after_offer planned e plan) old (with_took old e line) new stock left r (record {
+        same = record { program = refl; params = refl; names = refl; turns = refl };
+        sound = sound;
+        comes = (λ t. record { session = take-last old e line t; calls = old.calls; left = rest t; takes = old.takes ++ took_now old e line ∷ [] })
+            ∙ sym (offered-some (planned_of next bodies old) e (plan_now next bodies old stock) line may first);
+        before = but_last-extended (session_of next bodies (with_took old e line)) (session_of next bodies old) (Some (took_now old e line)) _
+            (take-last old e line);
+        more = offered-grows (planned_of next bodies old) e (plan_now next bodies old stock);
+      }) is told made room
 
   -- with no line to be taken, nothing is done
   pub does-none : {T : Type 0} (w : Option (List ℕ)) (f e : ℕ) (run : Played P) (stock left : Shelves) (x : T)
@@ -375,7 +408,8 @@ module _ {B P : Type 0} (next : Next B) (bodies : P → List B) (procs : P → L
   does-answer s f old new stock left x y h = record { ran = ran-answer s old new x y h.ran; comes = h.comes; part = tt }
 
   -- lines are taken, and then a call is made
-  pub does-turn : {T : Type 0} (a b c : Option (List ℕ)) (i j k : ℕ) (old mid new : Played P) (stock left : Shelves) (x y : Unit {0}) (z : T) → phase_now next bodies old ≡ phase.Turn
+  pub does-turn : {T : Type 0} (a b c : Option (List ℕ)) (i j k : ℕ) (old mid new : Played P) (stock left : Shelves) (x y : Unit {0}) (z : T)
+      → phase_now next bodies old ≡ phase.Turn
       → Came (stream a b i j) (λ planned plan. boundary planned plan) old mid stock left (Ok x)
       → Came (stream b c j k) (λ planned plan. one_call planned plan) mid new left left (Ok y)
       → Came (stream a c i k) (λ planned plan. round planned plan) old new stock left (Ok z)
@@ -385,7 +419,8 @@ module _ {B P : Type 0} (next : Next B) (bodies : P → List B) (procs : P → L
       (does-answer (stream a c i k) _ old new stock left y z
       (does-then a b c i j k (λ planned plan. boundary planned plan) (λ planned plan. one_call planned plan) old mid new stock left left x (Ok y) p q))
 
-  pub does-turn-call : {T : Type 0} (a b c : Option (List ℕ)) (i j k : ℕ) (old mid new : Played P) (stock left : Shelves) (x : Unit {0}) (e : RunErr) → phase_now next bodies old ≡ phase.Turn
+  pub does-turn-call : {T : Type 0} (a b c : Option (List ℕ)) (i j k : ℕ) (old mid new : Played P) (stock left : Shelves) (x : Unit {0}) (e : RunErr)
+      → phase_now next bodies old ≡ phase.Turn
       → Came (stream a b i j) (λ planned plan. boundary planned plan) old mid stock left (Ok x)
       → Came {T = Unit {0}} (stream b c j k) (λ planned plan. one_call planned plan) mid new left left (Err e)
       → Came {T = T} (stream a c i k) (λ planned plan. round planned plan) old new stock left (Err e)
@@ -416,18 +451,21 @@ module _ {B P : Type 0} (next : Next B) (bodies : P → List B) (procs : P → L
   pub over-stuck : (s : Stream) (old new : Played P) (stock left : Shelves) (x : Unit {0}) → phase_now next bodies old ≡ phase.Idle
       → Came s (λ planned plan. boundary planned plan) old new stock left (Ok x) → length new.takes ≡ length old.takes
       → plan_over (planned_of next bodies old) (plan_now next bodies old stock) ≡ Some halts.Stuck
-  over-stuck s old new stock left x idle p n = idle-stuck (planned_of next bodies old) (plan_now next bodies old stock) idle (ap (λ (plan : Plan B). length plan.takes) (sym p.comes) ∙ n)
+  over-stuck s old new stock left x idle p n =
+      idle-stuck (planned_of next bodies old) (plan_now next bodies old stock) idle (ap (λ (plan : Plan B). length plan.takes) (sym p.comes) ∙ n)
 
   pub over-on : (s : Stream) (old new : Played P) (stock left : Shelves) (x : Unit {0}) → phase_now next bodies old ≡ phase.Idle
       → Came s (λ planned plan. boundary planned plan) old new stock left (Ok x) → length new.takes ≢ length old.takes
       → plan_over (planned_of next bodies old) (plan_now next bodies old stock) ≡ None
-  over-on s old new stock left x idle p n = idle-on (planned_of next bodies old) (plan_now next bodies old stock) idle (λ same. n (ap (λ (plan : Plan B). length plan.takes) p.comes ∙ same))
+  over-on s old new stock left x idle p n =
+      idle-on (planned_of next bodies old) (plan_now next bodies old stock) idle (λ same. n (ap (λ (plan : Plan B). length plan.takes) p.comes ∙ same))
 
   -- somebody may run still, once lines were taken
   pub due-still : (s : Stream) (old new : Played P) (stock left : Shelves) (x : Unit {0}) → phase_now next bodies old ≡ phase.Turn
       → Came s (λ planned plan. boundary planned plan) old new stock left (Ok x) → phase_now next bodies new ≡ phase.Turn
   due-still s old new stock left x due p =
-      (λ t. phase_of (pod_of (p.comes t)).state (p.ran.same.turns t) (p.comes t).calls) ∙ boundary-turn (planned_of next bodies old) (plan_now next bodies old stock) due
+      (λ t. phase_of (pod_of (p.comes t)).state (p.ran.same.turns t) (p.comes t).calls)
+      ∙ boundary-turn (planned_of next bodies old) (plan_now next bodies old stock) due
 
   -- ---- round after round
 
@@ -436,9 +474,11 @@ module _ {B P : Type 0} (next : Next B) (bodies : P → List B) (procs : P → L
     pub same : GoesOn old now
     pub sound : now.failed ≡ false
     pub told : Wrote s (trace_of next bodies procs old) (trace_of next bodies procs now)
-    pub ends : after_finish (planned_of next bodies old) (plan_now next bodies now left) ≡ after_finish (planned_of next bodies old) (plan_now next bodies old stock)
+    pub ends : after_finish (planned_of next bodies old) (plan_now next bodies now left)
+        ≡ after_finish (planned_of next bodies old) (plan_now next bodies old stock)
 
-  going-round : (old now new : Played P) (some left : Shelves) → GoesOn old now → plan_now next bodies new left ≡ round (planned_of next bodies now) (plan_now next bodies now some)
+  going-round : (old now new : Played P) (some left : Shelves) → GoesOn old now
+      → plan_now next bodies new left ≡ round (planned_of next bodies now) (plan_now next bodies now some)
       → plan_now next bodies new left ≡ round (planned_of next bodies old) (plan_now next bodies now some)
   going-round old now new some left same comes = comes ∙ ap (λ planned. round planned (plan_now next bodies now some)) (planned-same old now same)
 
@@ -448,7 +488,8 @@ module _ {B P : Type 0} (next : Next B) (bodies : P → List B) (procs : P → L
   going-on a b c i j k old now new stock some left x g p = record {
     same = goes-then old now new g.same p.ran.same;
     sound = p.ran.sound;
-    told = tells-then {T = Unit {0}} a b c i j k (trace_of next bodies procs old) (trace_of next bodies procs now) (trace_of next bodies procs new) (trace_of next bodies procs new) (Ok tt) g.told p.ran.told;
+    told = tells-then {T = Unit {0}} a b c i j k (trace_of next bodies procs old) (trace_of next bodies procs now)
+        (trace_of next bodies procs new) (trace_of next bodies procs new) (Ok tt) g.told p.ran.told;
     ends = ap (after_finish (planned_of next bodies old)) (going-round old now new some left g.same p.comes)
         ∙ finished-round (planned_of next bodies old) (plan_now next bodies now some)
         ∙ g.ends;
@@ -460,19 +501,26 @@ module _ {B P : Type 0} (next : Next B) (bodies : P → List B) (procs : P → L
   going-falls s now new some left x p is =
       let planned = planned_of next bodies now in
       let plan = plan_now next bodies now some in
-      let e : to_do planned (plan_now next bodies new left) ≡ to_do planned (after_advance planned plan) = ap (to_do planned) (p.comes ∙ ap (λ (o : Option Halt). elim o as (λ _. Plan B) [ None ↦ after_advance planned plan | Some halt ↦ plan ]) is) in
+      let e : to_do planned (plan_now next bodies new left)
+      ≡ to_do planned (after_advance planned plan) =
+      ap (to_do planned) (p.comes ∙ ap (λ (o : Option Halt). elim o as (λ _. Plan B) [ None ↦ after_advance planned plan | Some halt ↦ plan ]) is) in
       let f = falls planned plan is in
       omega (arith, e, f, p.ran.same.turns)
 
   -- at the end
   still-over : {T : Type 0} (s : Stream) (old now new : Played P) (some left : Shelves) (halt : Halt) (x : T) → GoesOn old now
-      → Came s (λ planned plan. round planned plan) now new some left (Ok x) → plan_over (planned_of next bodies now) (plan_now next bodies now some) ≡ Some halt
+      → Came s (λ planned plan. round planned plan) now new some left (Ok x)
+      → plan_over (planned_of next bodies now) (plan_now next bodies now some) ≡ Some halt
       → plan_now next bodies new left ≡ plan_now next bodies now some
   still-over s old now new some left halt x same p is = p.comes
-      ∙ ap (λ (o : Option Halt). elim o as (λ _. Plan B) [ None ↦ after_advance (planned_of next bodies now) (plan_now next bodies now some) | Some halt ↦ plan_now next bodies now some ]) is
+      ∙ ap
+      (λ (o : Option Halt). elim o as (λ _. Plan B)
+      [ None ↦ after_advance (planned_of next bodies now) (plan_now next bodies now some) | Some halt ↦ plan_now next bodies now some ])
+      is
 
   pub going-finishes : {T : Type 0} (s u : Stream) (old now new : Played P) (stock some left : Shelves) (halt : Halt) (x : T)
-      → Going s old now stock some → Came u (λ planned plan. round planned plan) now new some left (Ok x) → plan_over (planned_of next bodies now) (plan_now next bodies now some) ≡ Some halt
+      → Going s old now stock some → Came u (λ planned plan. round planned plan) now new some left (Ok x)
+      → plan_over (planned_of next bodies now) (plan_now next bodies now some) ≡ Some halt
       → plan_now next bodies new left ≡ after_finish (planned_of next bodies old) (plan_now next bodies old stock)
   going-finishes s u old now new stock some left halt x g p is =
       let over : plan_over (planned_of next bodies old) (plan_now next bodies now some) ≡ Some halt
@@ -493,7 +541,8 @@ module _ {B P : Type 0} (next : Next B) (bodies : P → List B) (procs : P → L
       (finished-grows planned (round planned plan)))
 
   -- a run to the end, whose last round failed
-  pub going-fails : (T U : Type 0) (a b c : Option (List ℕ)) (i j k : ℕ) (old now new : Played P) (stock some left : Shelves) (e : RunErr) (r : Result U RunErr) → IsErrAnd r (λ given. given ≡ e)
+  pub going-fails : (T U : Type 0) (a b c : Option (List ℕ)) (i j k : ℕ) (old now new : Played P) (stock some left : Shelves) (e : RunErr) (r : Result U RunErr)
+      → IsErrAnd r (λ given. given ≡ e)
       → Going (stream a b i j) old now stock some → Came {T = T} (stream b c j k) (λ planned plan. round planned plan) now new some left (Err e)
       → Came (stream a c i k) (λ planned plan. after_finish planned plan) old new stock left r
   going-fails T U a b c i j k old now new stock some left e r is g p =
@@ -520,6 +569,7 @@ module _ {B P : Type 0} (next : Next B) (bodies : P → List B) (procs : P → L
       (λ t. record { session = play (setting_of next bodies run) (h.1 t) (h.0 t); calls = h.0 t; left = stock; takes = h.1 t })
       ∙ ap (λ session. record { session = session; calls = 0; left = stock; takes = [] }) (play-zero (setting_of next bodies run))
 
-  pub new-whole : (run : Played P) (stock : Shelves) → IsNew run → after_finish (planned_of next bodies run) (plan_now next bodies run stock) ≡ plan_whole (planned_of next bodies run) stock
+  pub new-whole : (run : Played P) (stock : Shelves) → IsNew run
+      → after_finish (planned_of next bodies run) (plan_now next bodies run stock) ≡ plan_whole (planned_of next bodies run) stock
   unfolding plan_whole
   new-whole run stock h = ap (after_finish (planned_of next bodies run)) (new-opens run stock h)

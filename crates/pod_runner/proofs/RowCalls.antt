@@ -1,5 +1,6 @@
 -- The call in the row at a place, and what becomes of it.
-use Rattle.std.proofs.Common.{◌≡◌, ◌<◌, ◌≤◌, ◌∙◌, ℕ, zero, suc, List, [], ◌∷◌, ◌++◌, Bool, true, false, cond, length, get_or, set, ap, refl, sym, subst, arith, Some}
+use Rattle.std.proofs.Common.{◌≡◌, ◌<◌, ◌≤◌, ◌∙◌, ℕ, zero, suc, List, [], ◌∷◌, ◌++◌, Bool, true, false}
+use Rattle.std.proofs.Common.{cond, length, get_or, set, ap, refl, sym, subst, arith, Some}
 use Rattle.std.specs.List.{remove}
 use Rattle.std.specs.Prelude.{if◌then◌else◌, nat_lt, slice_get, slice_set, ◌==◌}
 use Rattle.lwp_types.specs.declared.call.Answer.{Answer}
@@ -35,7 +36,8 @@ fewer (x ∷ xs) (suc i) = omega (arith, fewer xs i)
 
 module _ {B : Type 0} where
   -- a row gives way to one of the same thread
-  pub place_set : (t : ℕ) (rows : List (Row B)) (i : ℕ) (x : Row B) → i < length rows → x.tid ≡ (get_or rows i x).tid → place_of t (set rows i x) ≡ place_of t rows
+  pub place_set : (t : ℕ) (rows : List (Row B)) (i : ℕ) (x : Row B) → i < length rows → x.tid ≡ (get_or rows i x).tid
+      → place_of t (set rows i x) ≡ place_of t rows
   place_set t [] i x within same = absurd (omega (arith, within))
   place_set t (r ∷ rs) zero x within same = ap (λ n. cond (n == t) 0 (suc (place_of t rs))) same
   place_set t (r ∷ rs) (suc i) x within same = ap (λ n. cond (r.tid == t) 0 (suc n)) (place_set t rs i x (omega (arith, within)) same)
@@ -141,12 +143,14 @@ module _ {B : Type 0} where
 
   -- ---- whole values
 
-  pub kept_rows : (rows left : List (Row B)) (c d : Call) → rows ≡ left → c ≡ d → ◌≡◌ {A = Rows B} (record { rows = rows; call = c }) (record { rows = left; call = d })
+  pub kept_rows : (rows left : List (Row B)) (c d : Call) → rows ≡ left → c ≡ d
+      → ◌≡◌ {A = Rows B} (record { rows = rows; call = c }) (record { rows = left; call = d })
   kept_rows rows left c d r e = λ k. record { rows = r k; call = e k }
 
   -- a row was polled where it lies
   pub polled : (next : Next B) (known : Names) (gone : Call) (i : ℕ) (rows left : List (Row B)) (after : Names) → i < length rows
-      → ((row : Row B) → slice_get rows i ≡ Some row → (left ≡ slice_set rows i (polled_row (next row.body known row.answer) row)) × (after ≡ (next row.body known row.answer).2))
+      → ((row : Row B) → slice_get rows i ≡ Some row
+      → (left ≡ slice_set rows i (polled_row (next row.body known row.answer) row)) × (after ≡ (next row.body known row.answer).2))
       → (row : Row B) → slice_get rows i ≡ Some row → Polls next row known (call_at gone left i) i rows left after
   polled next known gone i rows left after within h row there =
       let is = h row there in
@@ -157,10 +161,13 @@ module _ {B : Type 0} where
       }
 
   -- a row comes, and the place of one that has gone stays past all others
-  pub call_more : (other : Call) (rows left : List (Row B)) (x : Row B) (last before after kept : ℕ) → left ≡ rows ++ x ∷ [] → before ≡ length rows → after ≡ length left
+  pub call_more : (other : Call) (rows left : List (Row B)) (x : Row B) (last before after kept : ℕ) → left ≡ rows ++ x ∷ []
+      → before ≡ length rows → after ≡ length left
       → kept ≡ (if nat_lt last before then last else after) → call_at other left kept ≡ call_at other rows last
   call_more other rows left x last before after kept more was now is = by_place (nat_lt last before) refl is
     where
       by_place : (b : Bool) → nat_lt last before ≡ b → kept ≡ cond b last after → call_at other left kept ≡ call_at other rows last
-      by_place true low is = ap (call_at other left) is ∙ ap (λ rs. call_at other rs last) more ∙ call_pushed other rows x last (omega (arith, ltb-true last before low, was))
-      by_place false over is = call_past other left kept (omega (arith, is, now)) ∙ sym (call_past other rows last (omega (arith, ltb-false last before over, was)))
+      by_place true low is = ap (call_at other left) is ∙ ap (λ rs. call_at other rs last) more
+          ∙ call_pushed other rows x last (omega (arith, ltb-true last before low, was))
+      by_place false over is = call_past other left kept (omega (arith, is, now))
+          ∙ sym (call_past other rows last (omega (arith, ltb-false last before over, was)))

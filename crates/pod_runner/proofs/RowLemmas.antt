@@ -1,5 +1,6 @@
 -- The row of a thread, found at its place.
-use Rattle.std.proofs.Common.{◌≡◌, ℕ, ◌+◌, ◌<◌, ◌≤◌, List, ◌∷◌, ◌++◌, length, get_or, set, take, drop, refl, sym, ap, ◌∙◌, append-nil, Some, Bool, true, false, cond, suc, zero, add-one, []}
+use Rattle.std.proofs.Common.{◌≡◌, ℕ, ◌+◌, ◌<◌, ◌≤◌, List, ◌∷◌, ◌++◌, length, get_or, set, take, drop, refl, sym}
+use Rattle.std.proofs.Common.{ap, ◌∙◌, append-nil, Some, Bool, true, false, cond, suc, zero, add-one, []}
 use Rattle.std.specs.Prelude.{slice_get, slice_set, ◌==◌}
 use Rattle.pod_runner.specs.Polls.{place_of}
 use Rattle.std.proofs.lemmas.Option.{slice_get_past}
@@ -12,7 +13,8 @@ use Rattle.pod_runner.specs.declared.session.Row.{Row}
 pub set-at : {X : Type 0} (xs : List X) (i : ℕ) (y : X) → i < length xs → set xs i y ≡ take i xs ++ y ∷ drop (i + 1) xs
 set-at xs i y within = sym (take-append-drop i (set xs i y)) ∙ rw (take-set xs i y, drop-set xs i y within) refl
 
-pub with_row-head : {B : Type 0} (t : ℕ) (change : Row B → Row B) (row : Row B) (rows : List (Row B)) → row.tid ≡ t → with_row t change (row ∷ rows) ≡ change row ∷ rows
+pub with_row-head : {B : Type 0} (t : ℕ) (change : Row B → Row B) (row : Row B) (rows : List (Row B)) → row.tid ≡ t
+    → with_row t change (row ∷ rows) ≡ change row ∷ rows
 with_row-head t change row rows h = rw (eq-eqb row.tid t h) refl
 
 -- the first row of a thread is written at its place
@@ -20,7 +22,8 @@ pub with_row-at : {B : Type 0} (t : ℕ) (change : Row B → Row B) (rows : List
     → with_row t change rows ≡ take i rows ++ with_row t change (drop i rows) → set rows i (change (get_or rows i d)) ≡ with_row t change rows
 with_row-at t change rows i d within h so_far =
     set-at rows i (change (get_or rows i d)) within
-    ∙ ap (λ rest. take i rows ++ rest) (sym (with_row-head t change (get_or rows i d) (drop (i + 1) rows) h) ∙ ap (with_row t change) (sym (drop_more rows i d within)))
+    ∙ ap (λ rest. take i rows ++ rest)
+    (sym (with_row-head t change (get_or rows i d) (drop (i + 1) rows) h) ∙ ap (with_row t change) (sym (drop_more rows i d within)))
     ∙ sym so_far
 
 -- two readings of one place
@@ -38,7 +41,8 @@ with_row-written t change rows i seen row within here there h so_far =
     ap (λ r. set rows i (change r)) there ∙ with_row-at t change rows i row within named so_far
 
 -- nobody's row is opened where there is no such procedure
-pub row_opened_past : {B : Type 0} (rows : List (Row B)) (bodies : List B) (t number : ℕ) → length bodies ≤ number → rows ≡ rows ++ rows_of_new t number (slice_get bodies number)
+pub row_opened_past : {B : Type 0} (rows : List (Row B)) (bodies : List B) (t number : ℕ) → length bodies ≤ number
+    → rows ≡ rows ++ rows_of_new t number (slice_get bodies number)
 row_opened_past rows bodies t number past = rw slice_get_past (sym (append-nil rows))
 
 -- a thread's row is the one at its place
@@ -46,12 +50,14 @@ pub row_of-place : {B : Type 0} (t : ℕ) (rows : List (Row B)) → row_of t row
 row_of-place t [] = refl
 row_of-place t (row ∷ rows) = by_head (row.tid == t) (row_of-place t rows)
   where
-    by_head : (b : Bool) → row_of t rows ≡ slice_get rows (place_of t rows) → cond b (Some row) (row_of t rows) ≡ slice_get (row ∷ rows) (cond b 0 (suc (place_of t rows)))
+    by_head : (b : Bool) → row_of t rows ≡ slice_get rows (place_of t rows)
+        → cond b (Some row) (row_of t rows) ≡ slice_get (row ∷ rows) (cond b 0 (suc (place_of t rows)))
     by_head true rest = refl
     by_head false rest = rest
 
 -- a thread's row is changed at its place
-pub with_row-place : {B : Type 0} (t : ℕ) (change : Row B → Row B) (rows : List (Row B)) (row : Row B) → slice_get rows (place_of t rows) ≡ Some row → with_row t change rows ≡ slice_set rows (place_of t rows) (change row)
+pub with_row-place : {B : Type 0} (t : ℕ) (change : Row B → Row B) (rows : List (Row B)) (row : Row B)
+    → slice_get rows (place_of t rows) ≡ Some row → with_row t change rows ≡ slice_set rows (place_of t rows) (change row)
 with_row-place t change [] row there = refl
 with_row-place t change (r ∷ rows) row there = by_head (r.tid == t) (λ h. with_row-place t change rows row h) there
   where

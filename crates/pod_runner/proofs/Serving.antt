@@ -8,7 +8,8 @@ use Rattle.pod_runner.specs.Run.{Played}
 use Rattle.streams.specs.Streams.{Stream}
 
 -- the inlets were served up to a place. A loop's invariant that is a record by name keeps each goal of the function short.
-pub record Serving {B P I : Type 0} (next : Next B) (bodies : P → List B) (proc_names : P → List (List ℕ)) (intake : I → Intake) (stream : Stream) (i : ℕ) (old new : Played P) (before after : List I) : Type 0 where
+pub record Serving {B P I : Type 0} (next : Next B) (bodies : P → List B) (proc_names : P → List (List ℕ)) (intake : I → Intake)
+    (stream : Stream) (i : ℕ) (old new : Played P) (before after : List I) : Type 0 where
   pub within : i ≤ length after
   pub same : length after ≡ length before
   pub lives : LivesOn {T = Unit {0}} next bodies proc_names stream old new (map intake before) (map intake after) (Ok tt)

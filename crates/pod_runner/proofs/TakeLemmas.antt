@@ -28,7 +28,8 @@ pub takes_at : (rows : List TakeRow) (texts : List (List ℕ)) (i : ℕ) (row : 
 takes_at [] texts i row text d same within here there = absurd (omega (arith, within))
 takes_at (r ∷ rows) [] i row text d same within here there = absurd (omega (arith, same))
 takes_at (r ∷ rows) (t ∷ texts) zero row text d same within here there = rw (here, there) refl
-takes_at (r ∷ rows) (t ∷ texts) (suc i) row text d same within here there = takes_at rows texts i row text d (omega (arith, same)) (omega (arith, within)) here there
+takes_at (r ∷ rows) (t ∷ texts) (suc i) row text d same within here there =
+    takes_at rows texts i row text d (omega (arith, same)) (omega (arith, within)) here there
 
 -- as many takes of a client's lines as rows
 pub taken_rows : (c : ℕ) (rows : List TakeRow) (texts : List (List ℕ)) → length rows ≡ length texts

@@ -34,8 +34,10 @@ pub record Stepped {B : Type 0} (procs : List (List ℕ)) (old : Session B) (new
   pub lines : lines procs new.steps ≡ lines procs old.steps ++ out
 
 -- the effects of the last step are those of the step that was made last
-pub last_effects-step : (steps : List Made) (take : Option Took) (effects : List Effect) → last_effects (steps ++ record { take = take; effects = effects } ∷ []) ≡ effects
-last_effects-step steps take effects = fold-append (λ (known : List Effect) (step : Made). step.effects) [] steps (record { take = take; effects = effects } ∷ [])
+pub last_effects-step : (steps : List Made) (take : Option Took) (effects : List Effect)
+    → last_effects (steps ++ record { take = take; effects = effects } ∷ []) ≡ effects
+last_effects-step steps take effects =
+    fold-append (λ (known : List Effect) (step : Made). step.effects) [] steps (record { take = take; effects = effects } ∷ [])
 
 stepped-by : {B : Type 0} (procs : List (List ℕ)) (old new : Session B) (take : Option Took) (m : Move B) (live : Live B) (told : List Effect) (out : List ℕ)
     → new ≡ with_move old take m → Moves procs (option_map (λ (took : Took). took.line) take) m live told out → Stepped procs old new live told out
@@ -47,27 +49,42 @@ stepped-by procs old new take m live told out is moves = record {
       ∙ ap (λ l. lines procs old.steps ++ l) (sym moves.lines);
 }
 
-module _ {B : Type 0} (setting : Setting B) (procs : List (List ℕ)) (takes : List Took) (n : ℕ) (old new : Live B) (told : List Effect) (out : List ℕ) (made : IsDefined setting takes n) (was : old ≡ (play setting takes n).live) where
-  pub stepped-call : Moves procs None (move setting.next setting.bodies old) new told out → Stepped procs (play setting takes n) (play setting takes (n + 1)) new told out
-  stepped-call moves = stepped-by procs (play setting takes n) (play setting takes (n + 1)) None (move setting.next setting.bodies (play setting takes n).live) new told out
+module _ {B : Type 0} (setting : Setting B) (procs : List (List ℕ)) (takes : List Took) (n : ℕ) (old new : Live B) (told : List Effect)
+    (out : List ℕ) (made : IsDefined setting takes n) (was : old ≡ (play setting takes n).live) where
+  pub stepped-call : Moves procs None (move setting.next setting.bodies old) new told out
+      → Stepped procs (play setting takes n) (play setting takes (n + 1)) new told out
+  stepped-call moves = stepped-by procs (play setting takes n) (play setting takes (n + 1)) None
+      (move setting.next setting.bodies (play setting takes n).live) new told out
       (play-call setting takes n (LastBy-of setting takes n made)) (rw (← was) moves)
 
-  pub stepped-take : (took : Took) → took.turn ≡ n → Moves procs (Some took.line) (take_move setting.bodies took old) new told out → Stepped procs (play setting takes n) (play setting (takes ++ took ∷ []) n) new told out
-  stepped-take took h moves = stepped-by procs (play setting takes n) (play setting (takes ++ took ∷ []) n) (Some took) (take_move setting.bodies took (play setting takes n).live) new told out
+  pub stepped-take : (took : Took) → took.turn ≡ n → Moves procs (Some took.line) (take_move setting.bodies took old) new told out
+      → Stepped procs (play setting takes n) (play setting (takes ++ took ∷ []) n) new told out
+  stepped-take took h moves = stepped-by procs (play setting takes n) (play setting (takes ++ took ∷ []) n) (Some took)
+      (take_move setting.bodies took (play setting takes n).live) new told out
       (play-take setting took takes n h) (rw (← was) moves)
 
 -- ---- what a call and a take leave
 
-module _ {B : Type 0} (setting : Setting B) (names procs : List (List ℕ)) (takes : List Took) (n turns : ℕ) (old new : Live B) (told : List Effect) (out : List ℕ)
+module _ {B : Type 0} (setting : Setting B) (names procs : List (List ℕ)) (takes : List Took) (n turns : ℕ) (old new : Live B)
+    (told : List Effect) (out : List ℕ)
     (named : procs ≡ names) (made : IsDefined setting takes n) (was : old ≡ (play setting takes n).live) where
-  pub called-step : Moves procs None (move setting.next setting.bodies old) new told out → Stepped names (play setting takes n) (play setting takes (n + 1)) new told out
+  pub called-step : Moves procs None (move setting.next setting.bodies old) new told out
+      → Stepped names (play setting takes n) (play setting takes (n + 1)) new told out
   called-step moves = stepped-call setting names takes n old new told out made was
-      (record { live = moves.live; effects = moves.effects; lines = moves.lines ∙ ap (λ names. step_lines names None (move setting.next setting.bodies old).effects) named })
+      (record {
+        live = moves.live;
+        effects = moves.effects;
+        lines = moves.lines ∙ ap (λ names. step_lines names None (move setting.next setting.bodies old).effects) named;
+      })
 
   pub taken-step : (took : Took) → took.turn ≡ n → Moves procs (Some took.line) (take_move setting.bodies took old) new told out
       → Stepped names (play setting takes n) (play setting (takes ++ took ∷ []) n) new told out
   taken-step took h moves = stepped-take setting names takes n old new told out made was took h
-      (record { live = moves.live; effects = moves.effects; lines = moves.lines ∙ ap (λ names. step_lines names (Some took.line) (take_move setting.bodies took old).effects) named })
+      (record {
+        live = moves.live;
+        effects = moves.effects;
+        lines = moves.lines ∙ ap (λ names. step_lines names (Some took.line) (take_move setting.bodies took old).effects) named;
+      })
 
 -- in phase Turn a call is due
 due-turn : (s : State) (turns calls : ℕ) → phase_of s turns calls ≡ phase.Turn → (not s.ended && is_some (choice s)) ≡ true
@@ -96,10 +113,13 @@ room-turn s turns calls h = by_end s.ended (choice s) h
 
 -- ---- what is kept
 
-pub made-call : {B : Type 0} (setting : Setting B) (takes : List Took) (n turns : ℕ) → IsDefined setting takes n → phase_of (play setting takes n).live.pod.state turns n ≡ phase.Turn → IsDefined setting takes (n + 1)
-made-call setting takes n turns made due = IsDefined-call setting takes n (LastBy-of setting takes n made) made (is_call_due-turn (play setting takes n) turns n due)
+pub made-call : {B : Type 0} (setting : Setting B) (takes : List Took) (n turns : ℕ) → IsDefined setting takes n
+    → phase_of (play setting takes n).live.pod.state turns n ≡ phase.Turn → IsDefined setting takes (n + 1)
+made-call setting takes n turns made due =
+    IsDefined-call setting takes n (LastBy-of setting takes n made) made (is_call_due-turn (play setting takes n) turns n due)
 
-pub keeps-call : {B : Type 0} (setting : Setting B) (names procs : List (List ℕ)) (takes : List Took) (n turns : ℕ) (live : Live B) (told : List Effect) (failed : Bool) (out : List ℕ)
+pub keeps-call : {B : Type 0} (setting : Setting B) (names procs : List (List ℕ)) (takes : List Took) (n turns : ℕ) (live : Live B)
+    (told : List Effect) (failed : Bool) (out : List ℕ)
     → procs ≡ names → turns < 2 ^ 64 → IsDefined setting takes n → phase_of (play setting takes n).live.pod.state turns n ≡ phase.Turn
     → Stepped names (play setting takes n) (play setting takes (n + 1)) live told out → Keeps setting names procs live told takes (n + 1) turns failed
 keeps-call setting names procs takes n turns live told failed out named few made due step = record {
@@ -111,9 +131,11 @@ keeps-call setting names procs takes n turns live told failed out named few made
   last = λ _. step.last;
 }
 
-pub keeps-take : {B : Type 0} (setting : Setting B) (names procs : List (List ℕ)) (takes : List Took) (n turns : ℕ) (live : Live B) (told : List Effect) (failed : Bool) (out : List ℕ) (took : Took)
+pub keeps-take : {B : Type 0} (setting : Setting B) (names procs : List (List ℕ)) (takes : List Took) (n turns : ℕ) (live : Live B)
+    (told : List Effect) (failed : Bool) (out : List ℕ) (took : Took)
     → procs ≡ names → turns < 2 ^ 64 → IsDefined setting takes n → n ≤ turns → took.turn ≡ n → IsTrue (is_takeable (play setting takes n).live.pod took.event)
-    → Stepped names (play setting takes n) (play setting (takes ++ took ∷ []) n) live told out → Keeps setting names procs live told (takes ++ took ∷ []) n turns failed
+    → Stepped names (play setting takes n) (play setting (takes ++ took ∷ []) n) live told out
+    → Keeps setting names procs live told (takes ++ took ∷ []) n turns failed
 keeps-take setting names procs takes n turns live told failed out took named few made room h may step = record {
   named = named;
   few = few;
@@ -126,14 +148,18 @@ keeps-take setting names procs takes n turns live told failed out took named few
 -- ---- what is told
 
 -- by what was written of the step's lines
-pub tells-step : {B T : Type 0} (procs : List (List ℕ)) (a b : Session B) (live : Live B) (told : List Effect) (out : List ℕ) (s : Stream) (failed now : Bool) (r : Result T RunErr) → Stepped procs a b live told out → Told s out failed now r
+pub tells-step : {B T : Type 0} (procs : List (List ℕ)) (a b : Session B) (live : Live B) (told : List Effect) (out : List ℕ) (s : Stream)
+    (failed now : Bool) (r : Result T RunErr)
+    → Stepped procs a b live told out → Told s out failed now r
     → Tells s (lines procs a.steps) (lines procs a.steps) (lines procs b.steps) r
 tells-step procs a b live told out s failed now (Ok x) step h = (writes_on s.old s.new (lines procs a.steps) out (lines procs b.steps) step.lines h.0, h.1)
 tells-step procs a b live told out s failed now (Err fails.NoMemory) step h = absurd h
-tells-step procs a b live told out s failed now (Err fails.WriteFault) step h = (cut_on s.old s.new (lines procs a.steps) out (lines procs b.steps) step.lines h.0, h.1.0, h.1.1)
+tells-step procs a b live told out s failed now (Err fails.WriteFault) step h =
+    (cut_on s.old s.new (lines procs a.steps) out (lines procs b.steps) step.lines h.0, h.1.0, h.1.1)
 
 -- the run then is as it would come to, or has failed
-pub told-after : {P T : Type 0} (s : Stream) (out : List ℕ) (old counted : Played P) (now : Bool) (r : Result T RunErr) → counted.failed ≡ false → Told s out true now r → record counted { failed = now } ≡ after_step old counted r
+pub told-after : {P T : Type 0} (s : Stream) (out : List ℕ) (old counted : Played P) (now : Bool) (r : Result T RunErr)
+    → counted.failed ≡ false → Told s out true now r → record counted { failed = now } ≡ after_step old counted r
 told-after s out old counted now (Ok x) sound h = λ t. record counted { failed = (h.2 ∙ sym sound) t }
 told-after s out old counted now (Err fails.NoMemory) sound h = absurd h
 told-after s out old counted now (Err fails.WriteFault) sound h = λ t. record counted { failed = h.2 t }

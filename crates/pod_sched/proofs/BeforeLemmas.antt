@@ -10,7 +10,8 @@ use Rattle.pod_sched.specs.Held.{IsHeld, schedule_of, tid_at}
 use Rattle.pod_sched.specs.Schedule.{Schedule, after_yield, is_eligible, is_eligible_in, knows, priority_in, thread_of}
 use Rattle.pod_sched.specs.Slots.{IsReady, row_at}
 use Rattle.pod_sched.specs.declared.rows.Known.{Known}
-use Rattle.std.proofs.Common.{Bool, List, None, Option, Some, [], ap, arith, cond, eqb, false, inl, inr, is_some, map, option_map, refl, subst, sym, true, unwrap_or, ℕ, ◌+◌, ◌∙◌, ◌∷◌, ◌≡◌, ◌≢◌, ◌≤◌}
+use Rattle.std.proofs.Common.{Bool, List, None, Option, Some, [], ap, arith, cond, eqb, false, inl, inr, is_some, map}
+use Rattle.std.proofs.Common.{option_map, refl, subst, sym, true, unwrap_or, ℕ, ◌+◌, ◌∙◌, ◌∷◌, ◌≡◌, ◌≢◌, ◌≤◌}
 use Rattle.std.proofs.lemmas.Bool.{cases_eq, eq-eqb, eqb-true, ne_eqb}
 use Rattle.std.specs.List.{AllByRecursion}
 
@@ -22,7 +23,8 @@ All-before P k o (x ∷ xs) of_k all = by_test (eqb x o) (All-before P k o xs of
     by_test true rest = (of_k, (all.0, rest))
     by_test false rest = (all.0, rest)
 
-tids_before : (tid : ℕ → ℕ) (k o : ℕ) (xs : List ℕ) → AllByRecursion (λ s. tid s ≡ tid o → s ≡ o) xs → map tid (before k o xs) ≡ before (tid k) (tid o) (map tid xs)
+tids_before : (tid : ℕ → ℕ) (k o : ℕ) (xs : List ℕ) → AllByRecursion (λ s. tid s ≡ tid o → s ≡ o) xs
+    → map tid (before k o xs) ≡ before (tid k) (tid o) (map tid xs)
 tids_before tid k o [] only = refl
 tids_before tid k o (x ∷ xs) only = elim (cases_eq x o) [
   | inl same ↦ rw (eq-eqb x o same, eq-eqb (tid x) (tid o) (ap tid same)) (ap (λ ys. tid k ∷ tid x ∷ ys) (tids_before tid k o xs only.1))
@@ -41,7 +43,8 @@ before_once : (k o : ℕ) (xs : List ℕ) → times_in xs o ≡ 1 → before k o
 before_once k o [] once = absurd (omega arith)
 before_once k o (x ∷ xs) once = by_test (eqb x o) (before_once k o xs) (sym (count-cons (λ v. eqb v o) x xs) ∙ once)
   where
-    by_test : (b : Bool) → (times_in xs o ≡ 1 → before k o xs ≡ put_before k o xs) → one b + times_in xs o ≡ 1 → cond b (k ∷ x ∷ before k o xs) (x ∷ before k o xs) ≡ cond b (k ∷ x ∷ xs) (x ∷ put_before k o xs)
+    by_test : (b : Bool) → (times_in xs o ≡ 1 → before k o xs ≡ put_before k o xs) → one b + times_in xs o ≡ 1
+        → cond b (k ∷ x ∷ before k o xs) (x ∷ before k o xs) ≡ cond b (k ∷ x ∷ xs) (x ∷ put_before k o xs)
     by_test true rest once = ap (λ ys. k ∷ x ∷ ys) (before_none k o xs (omega arith))
     by_test false rest once = ap (λ ys. x ∷ ys) (rest (omega arith))
 
@@ -52,7 +55,8 @@ eligible_known s t runs = by_case (thread_of s t) runs
     by_case None runs = absurd (cc)
     by_case (Some x) runs = refl
 
-module _ (slots : Lists) (order : Order) (rows : List Known) (slot_of : ℕ → Option ℕ) (map_len room width maxpri places : ℕ) (held : IsHeld slots order rows slot_of map_len room width maxpri places) where
+module _ (slots : Lists) (order : Order) (rows : List Known) (slot_of : ℕ → Option ℕ) (map_len room width maxpri places : ℕ)
+    (held : IsHeld slots order rows slot_of map_len room width maxpri places) where
   module _ (t slot : ℕ) (at : slot_of t ≡ Some slot) (runs : is_eligible_in (schedule_of slots order rows maxpri places) t ≡ true) where
     its_row : thread_of (schedule_of slots order rows maxpri places) t ≡ Some (row_at rows slot)
     its_row = thread slots order rows slot_of map_len room width maxpri places held t slot at
@@ -68,11 +72,14 @@ module _ (slots : Lists) (order : Order) (rows : List Known) (slot_of : ℕ → 
     only_slot : (s : ℕ) → IsReady (row_at rows) (items slots 0) (prio_of order) s → tid_at rows s ≡ t → s ≡ slot
     only_slot s is = only (row_at rows) (row_at rows) (items slots 0) (items slots 1) slot_of places held.are_slots t slot at s is.found
 
-    ready_in : (xs : List ℕ) → AllByRecursion (IsReady (row_at rows) (items slots 0) (prio_of order)) xs → 1 ≤ times_in (map (tid_at rows) xs) t → IsReady (row_at rows) (items slots 0) (prio_of order) slot
+    ready_in : (xs : List ℕ) → AllByRecursion (IsReady (row_at rows) (items slots 0) (prio_of order)) xs
+        → 1 ≤ times_in (map (tid_at rows) xs) t → IsReady (row_at rows) (items slots 0) (prio_of order) slot
     ready_in [] all some = absurd (omega arith)
     ready_in (x ∷ xs) all some = by_test (eqb (tid_at rows x) t) refl (ready_in xs all.1)
       where
-        by_test : (b : Bool) → eqb (tid_at rows x) t ≡ b → (1 ≤ times_in (map (tid_at rows) xs) t → IsReady (row_at rows) (items slots 0) (prio_of order) slot) → IsReady (row_at rows) (items slots 0) (prio_of order) slot
+        by_test : (b : Bool) → eqb (tid_at rows x) t ≡ b
+            → (1 ≤ times_in (map (tid_at rows) xs) t → IsReady (row_at rows) (items slots 0) (prio_of order) slot)
+            → IsReady (row_at rows) (items slots 0) (prio_of order) slot
         by_test true is rest = subst (IsReady (row_at rows) (items slots 0) (prio_of order)) (only_slot x all.0 (eqb-true _ _ is)) all.0
         by_test false is rest = rest (omega (arith, some, count-cons (λ v. eqb v t) (tid_at rows x) (map (tid_at rows) xs), ap one is))
 
@@ -82,8 +89,10 @@ module _ (slots : Lists) (order : Order) (rows : List Known) (slot_of : ℕ → 
     weighs_as : prio_of order slot ≡ priority_in (schedule_of slots order rows maxpri places) t
     weighs_as = ready_slot.weighs ∙ sym (ap (λ o. unwrap_or (option_map (λ (r : Known). r.prio) o) 0) its_row)
 
-  module _ (t slot : ℕ) (at : slot_of t ≡ Some slot) (runs : is_eligible_in (schedule_of slots order rows maxpri places) t ≡ true) (u other : ℕ) (at' : slot_of u ≡ Some other) (runs' : is_eligible_in (schedule_of slots order rows maxpri places) u ≡ true) where
-    pub same_weight : priority_in (schedule_of slots order rows maxpri places) t ≡ priority_in (schedule_of slots order rows maxpri places) u → prio_of order other ≡ prio_of order slot
+  module _ (t slot : ℕ) (at : slot_of t ≡ Some slot) (runs : is_eligible_in (schedule_of slots order rows maxpri places) t ≡ true)
+      (u other : ℕ) (at' : slot_of u ≡ Some other) (runs' : is_eligible_in (schedule_of slots order rows maxpri places) u ≡ true) where
+    pub same_weight : priority_in (schedule_of slots order rows maxpri places) t ≡ priority_in (schedule_of slots order rows maxpri places) u
+        → prio_of order other ≡ prio_of order slot
     same_weight same = weighs_as u other at' runs' ∙ sym same ∙ sym (weighs_as t slot at runs)
 
     module _ (differs : t ≢ u) where
@@ -93,11 +102,15 @@ module _ (slots : Lists) (order : Order) (rows : List Known) (slot_of : ℕ → 
       order_before : map (tid_at rows) (before other slot (without other order.order)) ≡ put_before u t (without u (map (tid_at rows) order.order))
       order_before =
           tids_before (tid_at rows) other slot (without other order.order)
-          (All-weaker (λ s. IsReady (row_at rows) (items slots 0) (prio_of order) s × (s ≢ other)) _ (λ s is same. only_slot t slot at runs s is.0 (same ∙ its_tid t slot at runs)) (without other order.order) (All-without (IsReady (row_at rows) (items slots 0) (prio_of order)) other order.order held.ready))
+          (All-weaker (λ s. IsReady (row_at rows) (items slots 0) (prio_of order) s × (s ≢ other)) _
+          (λ s is same. only_slot t slot at runs s is.0 (same ∙ its_tid t slot at runs)) (without other order.order)
+          (All-without (IsReady (row_at rows) (items slots 0) (prio_of order)) other order.order held.ready))
           ∙ ap (λ n. before n (tid_at rows slot) (map (tid_at rows) (without other order.order))) (its_tid u other at' runs')
           ∙ ap (λ n. before u n (map (tid_at rows) (without other order.order))) (its_tid t slot at runs)
-          ∙ ap (before u t) (tids_without (tid_at rows) u other order.order (its_tid u other at' runs') (All-weaker (IsReady (row_at rows) (items slots 0) (prio_of order)) _ (λ s is. only_slot u other at' runs' s is) order.order held.ready))
-          ∙ before_once u t (without u (map (tid_at rows) order.order)) (times-without_other u t (map (tid_at rows) order.order) differs ∙ in_order t slot at runs)
+          ∙ ap (before u t) (tids_without (tid_at rows) u other order.order (its_tid u other at' runs')
+          (All-weaker (IsReady (row_at rows) (items slots 0) (prio_of order)) _ (λ s is. only_slot u other at' runs' s is) order.order held.ready))
+          ∙ before_once u t (without u (map (tid_at rows) order.order))
+          (times-without_other u t (map (tid_at rows) order.order) differs ∙ in_order t slot at runs)
 
       pub view_before : schedule_of slots (put_slot_before order other slot) rows maxpri places ≡ after_yield (schedule_of slots order rows maxpri places) t u
       view_before = rw (order_before, ne_eqb t u differs) refl
@@ -117,6 +130,7 @@ module _ (slots : Lists) (order : Order) (rows : List Known) (slot_of : ℕ → 
         priorities = held.priorities;
         are_slots = held.are_slots;
         ready = All-before (IsReady (row_at rows) (items slots 0) (prio_of order)) other slot (without other order.order) (ready_slot u other at' runs')
-            (All-weaker (λ s. IsReady (row_at rows) (items slots 0) (prio_of order) s × (s ≢ other)) _ (λ s is. is.0) (without other order.order) (All-without (IsReady (row_at rows) (items slots 0) (prio_of order)) other order.order held.ready));
+            (All-weaker (λ s. IsReady (row_at rows) (items slots 0) (prio_of order) s × (s ≢ other)) _ (λ s is. is.0)
+            (without other order.order) (All-without (IsReady (row_at rows) (items slots 0) (prio_of order)) other order.order held.ready));
         ordered = rw order_before (IsOrdered-moved_before _ _ held.ordered u (in_order u other at' runs') t);
       }

@@ -8,13 +8,15 @@ use Rattle.lwp_types.specs.State.{times_in, without}
 use Rattle.pod_sched.proofs.Counts.{one_other, one_same, times-same, times_found}
 use Rattle.pod_sched.proofs.HeldLemmas.{is_slot, thread}
 use Rattle.pod_sched.proofs.Ordered.{IsOrdered-left}
-use Rattle.pod_sched.proofs.SlotLemmas.{All-found, All-push, All-weaker, All-without, find_agree, located, map_push, only, slot_known, slot_tid, tids_same, tids_without, without_none}
+use Rattle.pod_sched.proofs.SlotLemmas.{All-found, All-push, All-weaker, All-without, find_agree, located, map_push}
+use Rattle.pod_sched.proofs.SlotLemmas.{only, slot_known, slot_tid, tids_same, tids_without, without_none}
 use Rattle.pod_sched.specs.Held.{IsHeld, IsPriority, schedule_of, tid_at}
 use Rattle.pod_sched.specs.Schedule.{after_leave, is_of, without_row}
 use Rattle.lists.specs.ThreadIndex.{Puts}
 use Rattle.pod_sched.specs.Slots.{AreSlots, Changes, IsFree, IsKnown, IsReady, has_tid, row_at}
 use Rattle.pod_sched.specs.declared.rows.Known.{Known}
-use Rattle.std.proofs.Common.{Bool, List, None, Option, Some, [], ap, arith, cond, eqb, false, inl, inr, length, map, not, refl, slice_get, subst, sym, true, ℕ, ◌++◌, ◌+◌, ◌<◌, ◌∙◌, ◌∷◌, ◌≡◌, ◌≢◌, ◌≤◌}
+use Rattle.std.proofs.Common.{Bool, List, None, Option, Some, [], ap, arith, cond, eqb, false, inl, inr, length, map}
+use Rattle.std.proofs.Common.{not, refl, slice_get, subst, sym, true, ℕ, ◌++◌, ◌+◌, ◌<◌, ◌∙◌, ◌∷◌, ◌≡◌, ◌≢◌, ◌≤◌}
 use Rattle.std.proofs.lemmas.Bool.{cases_eq, eq-eqb, eqb-true, ne_eqb}
 use Rattle.std.proofs.lemmas.List.{get_or-map, length-map, length_push}
 use Rattle.std.specs.List.{AllByRecursion, find}
@@ -24,7 +26,8 @@ use Rattle.std.specs.List.{AllByRecursion, find}
 module _ (slots : Lists) (l k : ℕ) (inside : l < length slots.lists) where
   pub items_moved_same : items (after_move_to_back slots l k) l ≡ without k (items slots l) ++ k ∷ []
   items_moved_same =
-      items_pushed_same l k (map (without k) slots.lists) (omega (arith, length-map slots.lists (without k))) ∙ ap (λ xs. xs ++ k ∷ []) (get_or-map (without k) slots.lists l [] [] inside)
+      items_pushed_same l k (map (without k) slots.lists) (omega (arith, length-map slots.lists (without k)))
+      ∙ ap (λ xs. xs ++ k ∷ []) (get_or-map (without k) slots.lists l [] [] inside)
 
   pub items_moved_other : (i : ℕ) → i < length slots.lists → i ≢ l → items (after_move_to_back slots l k) i ≡ without k (items slots i)
   items_moved_other i i_in differs = items_pushed_other l k i (map (without k) slots.lists) differs ∙ get_or-map (without k) slots.lists i [] [] i_in
@@ -38,7 +41,8 @@ find_without : (p : ℕ → Bool) (k : ℕ) (xs : List ℕ) → p k ≡ false �
 find_without p k [] out = refl
 find_without p k (x ∷ xs) out = by_test (eqb x k) refl (find_without p k xs out)
   where
-    by_test : (t : Bool) → eqb x k ≡ t → find p (without k xs) ≡ find p xs → find p (cond (not t) (x ∷ without k xs) (without k xs)) ≡ cond (p x) (Some x) (find p xs)
+    by_test : (t : Bool) → eqb x k ≡ t → find p (without k xs) ≡ find p xs
+        → find p (cond (not t) (x ∷ without k xs) (without k xs)) ≡ cond (p x) (Some x) (find p xs)
     by_test true e rest = rw (ap p (eqb-true x k e) ∙ out) rest
     by_test false e rest = ap (λ o. cond (p x) (Some x) o) rest
 
@@ -46,14 +50,17 @@ find_nothing : (p : ℕ → Bool) (xs : List ℕ) → AllByRecursion (λ x. p x 
 find_nothing p [] none = refl
 find_nothing p (x ∷ xs) none = rw none.0 (find_nothing p xs none.1)
 
-rows_without : (row : ℕ → Known) (t slot : ℕ) (xs : List ℕ) → (row slot).tid ≡ t → AllByRecursion (λ s. (row s).tid ≡ t → s ≡ slot) xs → map row (without slot xs) ≡ without_row t (map row xs)
+rows_without : (row : ℕ → Known) (t slot : ℕ) (xs : List ℕ) → (row slot).tid ≡ t → AllByRecursion (λ s. (row s).tid ≡ t → s ≡ slot) xs
+    → map row (without slot xs) ≡ without_row t (map row xs)
 rows_without row t slot [] of_slot only = refl
 rows_without row t slot (x ∷ xs) of_slot only = elim (cases_eq x slot) [
   | inl same ↦ rw (eq-eqb x slot same, eq-eqb (row x).tid t (ap (λ s. (row s).tid) same ∙ of_slot)) (rows_without row t slot xs of_slot only.1)
-  | inr differs ↦ rw (ne_eqb x slot differs, ne_eqb (row x).tid t (λ is. differs (only.0 is))) (ap (λ ys. row x ∷ ys) (rows_without row t slot xs of_slot only.1))
+  | inr differs
+      ↦ rw (ne_eqb x slot differs, ne_eqb (row x).tid t (λ is. differs (only.0 is))) (ap (λ ys. row x ∷ ys) (rows_without row t slot xs of_slot only.1))
 ]
 
-module _ (row : ℕ → Known) (known free : List ℕ) (slot_of slot_of' : ℕ → Option ℕ) (places : ℕ) (slots : AreSlots row known free slot_of places) (t slot : ℕ) (at : slot_of t ≡ Some slot) (puts : Puts slot_of slot_of' t None) where
+module _ (row : ℕ → Known) (known free : List ℕ) (slot_of slot_of' : ℕ → Option ℕ) (places : ℕ)
+    (slots : AreSlots row known free slot_of places) (t slot : ℕ) (at : slot_of t ≡ Some slot) (puts : Puts slot_of slot_of' t None) where
   here : find (has_tid row t) known ≡ Some slot
   here = located row row known free slot_of places slots t slot at
 
@@ -80,27 +87,48 @@ module _ (row : ℕ → Known) (known free : List ℕ) (slot_of slot_of' : ℕ �
   pub AreSlots-left : AreSlots row (without slot known) (without slot free ++ slot ∷ []) slot_of' places
   AreSlots-left = record {
     once = λ s. elim (cases_eq s slot) [
-      | inl same ↦ omega (arith, times-same (without slot known) slot s same, times-same (without slot free ++ slot ∷ []) slot s same, times-without_same slot known, count-push (λ v. eqb v slot) (without slot free) slot, times-without_same slot free, one_same slot)
-      | inr differs ↦ omega (arith, slots.once s, times-without_other slot s known differs, times-without_other slot s free differs, count-push (λ v. eqb v s) (without slot free) slot, one_other slot s differs)
+      | inl same
+          ↦ omega (
+            arith,
+            times-same (without slot known) slot s same,
+            times-same (without slot free ++ slot ∷ []) slot s same,
+            times-without_same slot known,
+            count-push (λ v. eqb v slot) (without slot free) slot,
+            times-without_same slot free,
+            one_same slot,
+          )
+      | inr differs
+          ↦ omega (
+            arith,
+            slots.once s,
+            times-without_other slot s known differs,
+            times-without_other slot s free differs,
+            count-push (λ v. eqb v s) (without slot free) slot,
+            one_other slot s differs,
+          )
     ];
     count = omega (arith, slots.count, length-without slot known, length-without slot free, once_known, once_free, length_push (without slot free) slot);
     are_known = All-weaker (λ s. IsKnown row known places s × (s ≢ slot)) (IsKnown row (without slot known) places)
         (λ s is. record { is_slot = is.0.is_slot; in_range = is.0.in_range; found = still_found s is.0.found is.1 })
         (without slot known) (All-without (IsKnown row known places) slot known slots.are_known);
     are_free = All-push (IsFree places) (without slot free) slot
-        (All-weaker (λ s. IsFree places s × (s ≢ slot)) (IsFree places) (λ s is. is.0) (without slot free) (All-without (IsFree places) slot free slots.are_free))
+        (All-weaker (λ s. IsFree places s × (s ≢ slot)) (IsFree places) (λ s is. is.0) (without slot free)
+        (All-without (IsFree places) slot free slots.are_free))
         (record { is_slot = is_there.is_slot; in_range = is_there.in_range });
     index = λ u. elim (cases_eq u t) [
       | inl same ↦
           ap slot_of' same ∙ puts.here
-          ∙ sym (find_nothing (has_tid row u) (without slot known) (All-weaker (λ s. IsKnown row known places s × (s ≢ slot)) _ (λ s is. ne_eqb _ _ (λ of_u. other_tid s is.0.found is.1 (of_u ∙ same))) (without slot known) (All-without (IsKnown row known places) slot known slots.are_known)))
+          ∙ sym (find_nothing (has_tid row u) (without slot known) (All-weaker (λ s. IsKnown row known places s × (s ≢ slot)) _
+          (λ s is. ne_eqb _ _ (λ of_u. other_tid s is.0.found is.1 (of_u ∙ same))) (without slot known)
+          (All-without (IsKnown row known places) slot known slots.are_known)))
       | inr differs ↦
           puts.others u differs ∙ slots.index u ∙ sym (find_without (has_tid row u) slot known (ne_eqb _ _ (λ of_u. differs (sym of_u ∙ its_tid))))
     ];
   }
 
   pub rows_left : map row (without slot known) ≡ without_row t (map row known)
-  rows_left = rows_without row t slot known its_tid (All-weaker (IsKnown row known places) _ (λ s is. only row row known free slot_of places slots t slot at s is.found) known slots.are_known)
+  rows_left = rows_without row t slot known its_tid
+      (All-weaker (IsKnown row known places) _ (λ s is. only row row known free slot_of places slots t slot at s is.found) known slots.are_known)
 
   module _ (weight : ℕ → ℕ) (order : List ℕ) (ready : AllByRecursion (IsReady row known weight) order) where
     pub ready_left : AllByRecursion (IsReady row (without slot known) weight) (without slot order)
@@ -109,9 +137,11 @@ module _ (row : ℕ → Known) (known free : List ℕ) (slot_of slot_of' : ℕ �
         (without slot order) (All-without (IsReady row known weight) slot order ready)
 
     pub tids_left : map (λ s. (row s).tid) (without slot order) ≡ without t (map (λ s. (row s).tid) order)
-    tids_left = tids_without (λ s. (row s).tid) t slot order its_tid (All-weaker (IsReady row known weight) _ (λ s is. only row row known free slot_of places slots t slot at s is.found) order ready)
+    tids_left = tids_without (λ s. (row s).tid) t slot order its_tid
+        (All-weaker (IsReady row known weight) _ (λ s is. only row row known free slot_of places slots t slot at s is.found) order ready)
 
-module _ (slots : Lists) (order : Order) (rows : List Known) (slot_of : ℕ → Option ℕ) (map_len room width maxpri places : ℕ) (held : IsHeld slots order rows slot_of map_len room width maxpri places) (t slot : ℕ) (at : slot_of t ≡ Some slot) where
+module _ (slots : Lists) (order : Order) (rows : List Known) (slot_of : ℕ → Option ℕ) (map_len room width maxpri places : ℕ)
+    (held : IsHeld slots order rows slot_of map_len room width maxpri places) (t slot : ℕ) (at : slot_of t ≡ Some slot) where
   pub key_of_slots : length slots.lists ≤ slot
   key_of_slots = omega (arith, held.lists, is_slot slots order rows slot_of map_len room width maxpri places held t slot at)
 
@@ -127,15 +157,18 @@ module _ (slots : Lists) (order : Order) (rows : List Known) (slot_of : ℕ → 
     threads_left = rows_left (row_at rows) (items slots 0) (items slots 1) slot_of slot_of' places held.are_slots t slot at puts
 
     order_left : map (tid_at rows) (without slot order.order) ≡ without t (map (tid_at rows) order.order)
-    order_left = tids_left (row_at rows) (items slots 0) (items slots 1) slot_of slot_of' places held.are_slots t slot at puts (prio_of order) order.order held.ready
+    order_left = tids_left (row_at rows) (items slots 0) (items slots 1) slot_of slot_of' places held.are_slots t slot at puts
+        (prio_of order) order.order held.ready
 
-  pub view_left : schedule_of (after_move_to_back slots 1 slot) (after_take order slot) rows maxpri places ≡ after_leave (schedule_of slots order rows maxpri places) t
+  pub view_left : schedule_of (after_move_to_back slots 1 slot) (after_take order slot) rows maxpri places
+      ≡ after_leave (schedule_of slots order rows maxpri places) t
   view_left =
       let gone : ℕ → Option ℕ = λ u. cond (eqb u t) None (slot_of u) in
       let puts : Puts slot_of gone t None = record { here = rw (eq-eqb t t refl) refl; others = λ u differs. rw (ne_eqb u t differs) refl } in
       rw (known_left, threads_left gone puts, order_left gone puts) refl
 
-  module _ (slot_of' : ℕ → Option ℕ) (map_len' room' : ℕ) (puts : Puts slot_of slot_of' t None) (shorter : map_len' + 1 ≡ map_len) (same_room : room' ≡ room) where
+  module _ (slot_of' : ℕ → Option ℕ) (map_len' room' : ℕ) (puts : Puts slot_of slot_of' t None) (shorter : map_len' + 1 ≡ map_len)
+      (same_room : room' ≡ room) where
     here_once : times_in (items slots 0) slot ≡ 1
     here_once = once_known (row_at rows) (items slots 0) (items slots 1) slot_of slot_of' places held.are_slots t slot at puts
 
@@ -151,10 +184,14 @@ module _ (slots : Lists) (order : Order) (rows : List Known) (slot_of : ℕ → 
       some_cells = held.some_cells;
       least = held.least;
       most = held.most;
-      priorities = rw (known_left, threads_left slot_of' puts) (All-filter (λ (row : Known). IsPriority maxpri row.prio) (λ r. not (is_of t r)) (map (row_at rows) (items slots 0)) held.priorities);
-      are_slots = rw (known_left, free_left) (AreSlots-left (row_at rows) (items slots 0) (items slots 1) slot_of slot_of' places held.are_slots t slot at puts);
-      ready = rw known_left (ready_left (row_at rows) (items slots 0) (items slots 1) slot_of slot_of' places held.are_slots t slot at puts (prio_of order) order.order held.ready);
-      ordered = rw (known_left, threads_left slot_of' puts, order_left slot_of' puts) (IsOrdered-left _ _ held.ordered t (row_at rows slot) (thread slots order rows slot_of map_len room width maxpri places held t slot at));
+      priorities = rw (known_left, threads_left slot_of' puts)
+          (All-filter (λ (row : Known). IsPriority maxpri row.prio) (λ r. not (is_of t r)) (map (row_at rows) (items slots 0)) held.priorities);
+      are_slots = rw (known_left, free_left)
+          (AreSlots-left (row_at rows) (items slots 0) (items slots 1) slot_of slot_of' places held.are_slots t slot at puts);
+      ready = rw known_left (ready_left (row_at rows) (items slots 0) (items slots 1) slot_of slot_of' places held.are_slots t slot at puts
+          (prio_of order) order.order held.ready);
+      ordered = rw (known_left, threads_left slot_of' puts, order_left slot_of' puts)
+          (IsOrdered-left _ _ held.ordered t (row_at rows slot) (thread slots order rows slot_of map_len room width maxpri places held t slot at));
     }
 
 -- ---- one thread more
@@ -163,7 +200,8 @@ find_push_new : (p : ℕ → Bool) (xs : List ℕ) (a : ℕ) → find p xs ≡ N
 find_push_new p [] a none is = rw is refl
 find_push_new p (x ∷ xs) a none is = by_test (p x) (find_push_new p xs a) none
   where
-    by_test : (t : Bool) → (find p xs ≡ None → p a ≡ true → find p (xs ++ a ∷ []) ≡ Some a) → cond t (Some x) (find p xs) ≡ None → cond t (Some x) (find p (xs ++ a ∷ [])) ≡ Some a
+    by_test : (t : Bool) → (find p xs ≡ None → p a ≡ true → find p (xs ++ a ∷ []) ≡ Some a) → cond t (Some x) (find p xs) ≡ None
+        → cond t (Some x) (find p (xs ++ a ∷ [])) ≡ Some a
     by_test true rest none = absurd (cc)
     by_test false rest none = rest none is
 
@@ -183,7 +221,9 @@ slot_free places (x ∷ xs) slot all is =
     let same : x ≡ slot = cc in
     subst (IsFree places) same all.0
 
-module _ (row row' : ℕ → Known) (known free : List ℕ) (slot_of slot_of' : ℕ → Option ℕ) (places : ℕ) (slots : AreSlots row known free slot_of places) (t slot : ℕ) (unknown : slot_of t ≡ None) (first : slice_get free 0 ≡ Some slot) (new : Known) (changes : Changes row row' slot new) (same_tid : new.tid ≡ t) (puts : Puts slot_of slot_of' t (Some slot)) where
+module _ (row row' : ℕ → Known) (known free : List ℕ) (slot_of slot_of' : ℕ → Option ℕ) (places : ℕ)
+    (slots : AreSlots row known free slot_of places) (t slot : ℕ) (unknown : slot_of t ≡ None) (first : slice_get free 0 ≡ Some slot)
+    (new : Known) (changes : Changes row row' slot new) (same_tid : new.tid ≡ t) (puts : Puts slot_of slot_of' t (Some slot)) where
   free_once : times_in free slot ≡ 1
   free_once = omega (arith, first_times free slot first, slots.once slot)
 
@@ -204,7 +244,8 @@ module _ (row row' : ℕ → Known) (known free : List ℕ) (slot_of slot_of' : 
   its_new_tid = ap (λ (r : Known). r.tid) changes.here ∙ same_tid
 
   find_known : (u : ℕ) → find (has_tid row' u) known ≡ find (has_tid row u) known
-  find_known u = find_agree (has_tid row' u) (has_tid row u) known (All-weaker (λ s. IsKnown row known places s × (s ≢ slot)) _ (λ s is. ap (λ (r : Known). eqb r.tid u) (changes.others s is.0.is_slot is.1)) known others)
+  find_known u = find_agree (has_tid row' u) (has_tid row u) known
+      (All-weaker (λ s. IsKnown row known places s × (s ≢ slot)) _ (λ s is. ap (λ (r : Known). eqb r.tid u) (changes.others s is.0.is_slot is.1)) known others)
 
   nobody_has : find (has_tid row t) known ≡ None
   nobody_has = sym (slots.index t) ∙ unknown
@@ -228,7 +269,16 @@ module _ (row row' : ℕ → Known) (known free : List ℕ) (slot_of slot_of' : 
   pub AreSlots-admitted : AreSlots row' (known ++ slot ∷ []) (without slot free) slot_of' places
   AreSlots-admitted = record {
     once = λ s. elim (cases_eq s slot) [
-      | inl same ↦ omega (arith, times-same (known ++ slot ∷ []) slot s same, times-same (without slot free) slot s same, count-push (λ v. eqb v slot) known slot, one_same slot, times-without_same slot free, not_known)
+      | inl same
+          ↦ omega (
+            arith,
+            times-same (known ++ slot ∷ []) slot s same,
+            times-same (without slot free) slot s same,
+            count-push (λ v. eqb v slot) known slot,
+            one_same slot,
+            times-without_same slot free,
+            not_known,
+          )
       | inr differs ↦ omega (arith, slots.once s, count-push (λ v. eqb v s) known slot, one_other slot s differs, times-without_other slot s free differs)
     ];
     count = omega (arith, slots.count, length_push known slot, length-without slot free, free_once);
@@ -240,8 +290,13 @@ module _ (row row' : ℕ → Known) (known free : List ℕ) (slot_of slot_of' : 
           found = found_kept s is.0.is_slot is.1 is.0.found;
         })
         known others)
-        (record { is_slot = free_slot.is_slot; in_range = free_slot.in_range; found = ap (λ u. find (has_tid row' u) (known ++ slot ∷ [])) its_new_tid ∙ found_new });
-    are_free = All-weaker (λ s. IsFree places s × (s ≢ slot)) (IsFree places) (λ s is. is.0) (without slot free) (All-without (IsFree places) slot free slots.are_free);
+        (record {
+          is_slot = free_slot.is_slot;
+          in_range = free_slot.in_range;
+          found = ap (λ u. find (has_tid row' u) (known ++ slot ∷ [])) its_new_tid ∙ found_new;
+        });
+    are_free = All-weaker (λ s. IsFree places s × (s ≢ slot)) (IsFree places) (λ s is. is.0) (without slot free)
+        (All-without (IsFree places) slot free slots.are_free);
     index = λ u. elim (cases_eq u t) [
       | inl same ↦ ap slot_of' same ∙ puts.here ∙ sym (ap (λ n. find (has_tid row' n) (known ++ slot ∷ [])) same ∙ found_new)
       | inr differs ↦ puts.others u differs ∙ slots.index u ∙ sym (found_old u differs)
@@ -251,14 +306,16 @@ module _ (row row' : ℕ → Known) (known free : List ℕ) (slot_of slot_of' : 
   pub rows_admitted : map row' (known ++ slot ∷ []) ≡ map row known ++ new ∷ []
   rows_admitted =
       map_push row' known slot
-      ∙ ap (λ ys. ys ++ row' slot ∷ []) (rows_same known (All-weaker (λ s. IsKnown row known places s × (s ≢ slot)) _ (λ s is. changes.others s is.0.is_slot is.1) known others))
+      ∙ ap (λ ys. ys ++ row' slot ∷ [])
+      (rows_same known (All-weaker (λ s. IsKnown row known places s × (s ≢ slot)) _ (λ s is. changes.others s is.0.is_slot is.1) known others))
       ∙ ap (λ r. map row known ++ r ∷ []) changes.here
     where
       rows_same : (xs : List ℕ) → AllByRecursion (λ s. row' s ≡ row s) xs → map row' xs ≡ map row xs
       rows_same [] same = refl
       rows_same (x ∷ xs) same = rw (same.0, rows_same xs same.1) refl
 
-  module _ (weight weight' : ℕ → ℕ) (order : List ℕ) (ready : AllByRecursion (IsReady row known weight) order) (weights : (s : ℕ) → 256 ≤ s → s ≢ slot → weight' s ≡ weight s) where
+  module _ (weight weight' : ℕ → ℕ) (order : List ℕ) (ready : AllByRecursion (IsReady row known weight) order)
+      (weights : (s : ℕ) → 256 ≤ s → s ≢ slot → weight' s ≡ weight s) where
     -- each thread in the run queue is known, and so at another slot
     ready_other : (s : ℕ) → IsReady row known weight s → s ≢ slot
     ready_other s is = (All-found (has_tid row (row s).tid) (λ n. IsKnown row known places n × (n ≢ slot)) known s others is.found).1
@@ -279,7 +336,8 @@ module _ (row row' : ℕ → Known) (known free : List ℕ) (slot_of slot_of' : 
         }) order ready
 
     pub tids_stay : map (λ s. (row' s).tid) order ≡ map (λ s. (row s).tid) order
-    tids_stay = tids_same (λ s. (row s).tid) (λ s. (row' s).tid) order (All-weaker (IsReady row known weight) _ (λ s is. ap (λ (r : Known). r.tid) (changes.others s is.is_slot (ready_other s is))) order ready)
+    tids_stay = tids_same (λ s. (row s).tid) (λ s. (row' s).tid) order
+        (All-weaker (IsReady row known weight) _ (λ s is. ap (λ (r : Known). r.tid) (changes.others s is.is_slot (ready_other s is))) order ready)
 
     pub ready_joined : weight' slot ≡ new.prio → AllByRecursion (IsReady row' (known ++ slot ∷ []) weight') (without slot order ++ slot ∷ [])
     ready_joined weighs = rw order_same (All-push (IsReady row' (known ++ slot ∷ []) weight') order slot ready_kept (record {

@@ -13,11 +13,13 @@ use Rattle.lwp_types.specs.declared.call.Flags.{Flags}
 use Rattle.lwp_types.specs.declared.rows.Block.{Block}
 use Rattle.lwp_types.specs.declared.rows.Block.TheVariants as block
 use Rattle.lwp_types.specs.declared.rows.Mark.{Mark}
-use Rattle.pod_sched.specs.Machine.{AnswersAlike, BirthsAreShown, DeathsAreShown, FlagsAreShown, IsNotDying, MarksAreHidden, Shows, TurnsAreShown, WaitsAreShown, known_of}
+use Rattle.pod_sched.specs.Machine.{AnswersAlike, BirthsAreShown, DeathsAreShown, FlagsAreShown, IsNotDying}
+use Rattle.pod_sched.specs.Machine.{MarksAreHidden, Shows, TurnsAreShown, WaitsAreShown, known_of}
 use Rattle.pod_sched.specs.Schedule as sched
 use Rattle.pod_sched.specs.Schedule.{Schedule, newcomer}
 use Rattle.pod_sched.specs.declared.rows.Known.{Known}
-use Rattle.std.proofs.Common.{Bool, List, None, Option, Some, [], ap, cond, eqb, false, inl, inr, is_some, map, not, option_map, refl, sym, true, unwrap_or, ℕ, ◌&&◌, ◌++◌, ◌∙◌, ◌∷◌, ◌≡◌, ◌≢◌}
+use Rattle.std.proofs.Common.{Bool, List, None, Option, Some, [], ap, cond, eqb, false, inl, inr, is_some, map}
+use Rattle.std.proofs.Common.{not, option_map, refl, sym, true, unwrap_or, ℕ, ◌&&◌, ◌++◌, ◌∙◌, ◌∷◌, ◌≡◌, ◌≢◌}
 use Rattle.std.proofs.lemmas.Bool.{cases_eq, eq-eqb, eqb-true, ne_eqb}
 use Rattle.std.proofs.lemmas.List.Folds.{find-append}
 use Rattle.std.specs.List.{filter, find, fold}
@@ -31,7 +33,8 @@ module _ {A : Type 0} (test : A → Bool) where
   find-moved f same [] = refl
   find-moved f same (x ∷ xs) = rw (same x) (by_test (test x) (find-moved f same xs))
     where
-      by_test : (b : Bool) → find test (map f xs) ≡ option_map f (find test xs) → cond b (Some (f x)) (find test (map f xs)) ≡ option_map f (cond b (Some x) (find test xs))
+      by_test : (b : Bool) → find test (map f xs) ≡ option_map f (find test xs)
+          → cond b (Some (f x)) (find test (map f xs)) ≡ option_map f (cond b (Some x) (find test xs))
       by_test true rest = refl
       by_test false rest = rest
 
@@ -48,11 +51,13 @@ module _ {A : Type 0} (test : A → Bool) where
   find-none gone all [] = refl
   find-none gone all (x ∷ xs) = by_gone (gone x) refl (find-none gone all xs)
     where
-      by_head : (b : Bool) → test x ≡ b → gone x ≡ false → find test (filter (λ y. not (gone y)) xs) ≡ None → cond b (Some x) (find test (filter (λ y. not (gone y)) xs)) ≡ None
+      by_head : (b : Bool) → test x ≡ b → gone x ≡ false → find test (filter (λ y. not (gone y)) xs) ≡ None
+          → cond b (Some x) (find test (filter (λ y. not (gone y)) xs)) ≡ None
       by_head true e stays rest = let both : true ≡ false = sym (all x e) ∙ stays in absurd (cc)
       by_head false e stays rest = rest
 
-      by_gone : (g : Bool) → gone x ≡ g → find test (filter (λ y. not (gone y)) xs) ≡ None → find test (cond (not g) (x ∷ filter (λ y. not (gone y)) xs) (filter (λ y. not (gone y)) xs)) ≡ None
+      by_gone : (g : Bool) → gone x ≡ g → find test (filter (λ y. not (gone y)) xs) ≡ None
+          → find test (cond (not g) (x ∷ filter (λ y. not (gone y)) xs) (filter (λ y. not (gone y)) xs)) ≡ None
       by_gone true e rest = rest
       by_gone false e rest = by_head (test x) refl e rest
 
@@ -61,11 +66,13 @@ module _ {A : Type 0} (test : A → Bool) where
   find-stays gone all [] = refl
   find-stays gone all (x ∷ xs) = by_gone (gone x) refl (find-stays gone all xs)
     where
-      by_head : (b : Bool) → test x ≡ b → gone x ≡ true → find test (filter (λ y. not (gone y)) xs) ≡ find test xs → find test (filter (λ y. not (gone y)) xs) ≡ cond b (Some x) (find test xs)
+      by_head : (b : Bool) → test x ≡ b → gone x ≡ true → find test (filter (λ y. not (gone y)) xs) ≡ find test xs
+          → find test (filter (λ y. not (gone y)) xs) ≡ cond b (Some x) (find test xs)
       by_head true e goes rest = let both : true ≡ false = sym goes ∙ all x e in absurd (cc)
       by_head false e goes rest = rest
 
-      by_gone : (g : Bool) → gone x ≡ g → find test (filter (λ y. not (gone y)) xs) ≡ find test xs → find test (cond (not g) (x ∷ filter (λ y. not (gone y)) xs) (filter (λ y. not (gone y)) xs)) ≡ cond (test x) (Some x) (find test xs)
+      by_gone : (g : Bool) → gone x ≡ g → find test (filter (λ y. not (gone y)) xs) ≡ find test xs
+          → find test (cond (not g) (x ∷ filter (λ y. not (gone y)) xs) (filter (λ y. not (gone y)) xs)) ≡ cond (test x) (Some x) (find test xs)
       by_gone true e rest = by_head (test x) refl e rest
       by_gone false e rest = ap (λ o. cond (test x) (Some x) o) rest
 
@@ -91,7 +98,8 @@ some-same : (m : Option ThreadRow) → is_some (option_map known_of m) ≡ is_so
 some-same None = refl
 some-same (Some row) = refl
 
-prio-same : (m : Option ThreadRow) → unwrap_or (option_map (λ (k : Known). k.prio) (option_map known_of m)) 0 ≡ unwrap_or (option_map (λ (row : ThreadRow). row.priority) m) 0
+prio-same : (m : Option ThreadRow)
+    → unwrap_or (option_map (λ (k : Known). k.prio) (option_map known_of m)) 0 ≡ unwrap_or (option_map (λ (row : ThreadRow). row.priority) m) 0
 prio-same None = refl
 prio-same (Some row) = refl
 
@@ -99,7 +107,8 @@ suspended-same : (m : Option ThreadRow) → passes (λ (k : Known). k.suspended)
 suspended-same None = refl
 suspended-same (Some row) = refl
 
-blocked-same : (m : Option ThreadRow) → passes (λ (k : Known). k.blocked) (option_map known_of m) ≡ passes (λ (row : ThreadRow). not (is_not_blocked row.block)) m
+blocked-same : (m : Option ThreadRow)
+    → passes (λ (k : Known). k.blocked) (option_map known_of m) ≡ passes (λ (row : ThreadRow). not (is_not_blocked row.block)) m
 blocked-same None = refl
 blocked-same (Some row) = refl
 
@@ -125,7 +134,8 @@ module _ (dying : Option ℕ) (v : Schedule) (s : State) (shows : Shows dying v 
   -- ---- rows that change
 
   -- what changes a row here changes it there
-  moved-shown : (f : Known → Known) (g : ThreadRow → ThreadRow) (u : ℕ) → ((k : Known) → sched.is_of u (f k) ≡ sched.is_of u k) → ((row : ThreadRow) → machine.is_number u (g row) ≡ machine.is_number u row) → ((row : ThreadRow) → f (known_of row) ≡ known_of (g row))
+  moved-shown : (f : Known → Known) (g : ThreadRow → ThreadRow) (u : ℕ) → ((k : Known) → sched.is_of u (f k) ≡ sched.is_of u k)
+      → ((row : ThreadRow) → machine.is_number u (g row) ≡ machine.is_number u row) → ((row : ThreadRow) → f (known_of row) ≡ known_of (g row))
       → find (sched.is_of u) (map f v.threads) ≡ cond (is_same_option dying u) None (option_map known_of (find (machine.is_number u) (map g s.threads)))
   moved-shown f g u tids numbers commutes =
       find-moved (sched.is_of u) f tids v.threads
@@ -138,7 +148,8 @@ module _ (dying : Option ℕ) (v : Schedule) (s : State) (shows : Shows dying v 
       by_dying false None = refl
       by_dying false (Some row) = ap Some (commutes row)
 
-  block-row : (t : ℕ) (b : Block) (flag : Bool) → flag ≡ not (is_not_blocked b) → (row : ThreadRow) → sched.row_with_block t flag (known_of row) ≡ known_of (machine.row_with_block t b row)
+  block-row : (t : ℕ) (b : Block) (flag : Bool) → flag ≡ not (is_not_blocked b) → (row : ThreadRow)
+      → sched.row_with_block t flag (known_of row) ≡ known_of (machine.row_with_block t b row)
   block-row t b flag is row = ap (λ (c : Bool). record (known_of row) { blocked = c }) (by_test (eqb row.number t))
     where
       by_test : (c : Bool) → cond c flag (not (is_not_blocked row.block)) ≡ not (is_not_blocked (cond c b row.block))
@@ -160,7 +171,8 @@ module _ (dying : Option ℕ) (v : Schedule) (s : State) (shows : Shows dying v 
 
     pub unblocked-shown : Shows dying (sched.after_unblock v t) (unblock.after_unblock s t)
     unblocked-shown = record {
-      threads = λ u. moved-shown (sched.row_with_block t false) (machine.row_with_block t block.Not) u (λ k. refl) (λ row. refl) (block-row t block.Not false refl);
+      threads = λ u.
+          moved-shown (sched.row_with_block t false) (machine.row_with_block t block.Not) u (λ k. refl) (λ row. refl) (block-row t block.Not false refl);
       order = ap (λ b. cond b v.order (v.order ++ t ∷ [])) same.suspended ∙ ap (λ o. cond (machine.is_suspended_in s t) o (o ++ t ∷ [])) shows.order;
       timers = ap (without_timer t) shows.timers;
       now = shows.now;
@@ -200,7 +212,9 @@ module _ (dying : Option ℕ) (v : Schedule) (s : State) (shows : Shows dying v 
 
   pub marks-hidden : (t : ℕ) (ms : List Mark) → Shows dying v (machine.with_marks_of s t ms)
   marks-hidden t ms = record {
-    threads = λ u. shows.threads u ∙ ap (λ o. cond (is_same_option dying u) None o) (by_found (machine.thread_of s u) ∙ ap (option_map known_of) (sym (find-moved (machine.is_number u) (machine.row_with_marks t ms) (λ row. refl) s.threads)));
+    threads = λ u. shows.threads u
+        ∙ ap (λ o. cond (is_same_option dying u) None o) (by_found (machine.thread_of s u)
+        ∙ ap (option_map known_of) (sym (find-moved (machine.is_number u) (machine.row_with_marks t ms) (λ row. refl) s.threads)));
     order = shows.order;
     timers = shows.timers;
     now = shows.now;
@@ -218,7 +232,8 @@ module _ (v : Schedule) (s : State) (shows : Shows None v s) where
   priority-all t = (alike None v s shows t refl).priority
 
   pub choice-same : sched.choice v ≡ choice.choice s
-  choice-same = best-same (sched.prio_in v.threads) (machine.priority_in s) priority-all None v.order ∙ ap (fold (better_by (machine.priority_in s)) None) shows.order
+  choice-same = best-same (sched.prio_in v.threads) (machine.priority_in s) priority-all None v.order
+      ∙ ap (fold (better_by (machine.priority_in s)) None) shows.order
 
   pub yielded-shown : (t to : ℕ) → Shows None (sched.after_yield v t to) (threads.after_yield s t to)
   yielded-shown t to = record {
@@ -232,7 +247,8 @@ module _ (v : Schedule) (s : State) (shows : Shows None v s) where
   pub rescheduled-shown : (p : ℕ) → Shows None (sched.after_resched v p) (threads.after_resched s p)
   rescheduled-shown p = record {
     threads = shows.threads;
-    order = ap (λ o. with_found_last o v.order) (find-same (λ t. eqb (sched.priority_in v t) p) (λ t. eqb (machine.priority_in s t) p) (λ t. ap (λ n. eqb n p) (priority-all t)) v.order)
+    order = ap (λ o. with_found_last o v.order)
+        (find-same (λ t. eqb (sched.priority_in v t) p) (λ t. eqb (machine.priority_in s t) p) (λ t. ap (λ n. eqb n p) (priority-all t)) v.order)
         ∙ ap (λ o. with_found_last (find (λ t. eqb (machine.priority_in s t) p) o) o) shows.order;
     timers = shows.timers;
     now = shows.now;
@@ -252,7 +268,9 @@ module _ (v : Schedule) (s : State) (shows : Shows None v s) where
     maxpri = shows.maxpri;
   }
     where
-      by_found : (b : Bool) (m : Option ThreadRow) → option_or (option_map known_of m) (cond b (Some (newcomer s.births prio flags.suspended)) None) ≡ option_map known_of (option_or m (cond b (Some (threads.new_thread s.births prio flags)) None))
+      by_found : (b : Bool) (m : Option ThreadRow)
+          → option_or (option_map known_of m) (cond b (Some (newcomer s.births prio flags.suspended)) None)
+          ≡ option_map known_of (option_or m (cond b (Some (threads.new_thread s.births prio flags)) None))
       by_found true None = refl
       by_found false None = refl
       by_found b (Some row) = refl
@@ -261,22 +279,31 @@ module _ (v : Schedule) (s : State) (shows : Shows None v s) where
 
 module _ (v : Schedule) (s : State) (t : ℕ) where
   -- another thread's row is as it was
-  unmoved : (u : ℕ) → t ≢ u → option_map known_of (find (machine.is_number u) (machine.with_suspension t false (machine.with_block t block.Not s.threads))) ≡ option_map known_of (machine.thread_of s u)
+  unmoved : (u : ℕ) → t ≢ u
+      → option_map known_of (find (machine.is_number u) (machine.with_suspension t false (machine.with_block t block.Not s.threads)))
+      ≡ option_map known_of (machine.thread_of s u)
   unmoved u differs =
-      ap (option_map known_of) (find-moved (machine.is_number u) (machine.row_with_suspension t false) (λ row. refl) (machine.with_block t block.Not s.threads) ∙ ap (option_map (machine.row_with_suspension t false)) (find-moved (machine.is_number u) (machine.row_with_block t block.Not) (λ row. refl) s.threads))
+      ap (option_map known_of) (find-moved (machine.is_number u) (machine.row_with_suspension t false) (λ row. refl) (machine.with_block t block.Not s.threads)
+      ∙ ap (option_map (machine.row_with_suspension t false))
+      (find-moved (machine.is_number u) (machine.row_with_block t block.Not) (λ row. refl) s.threads))
       ∙ by_found (machine.thread_of s u) refl
     where
-      by_found : (m : Option ThreadRow) → machine.thread_of s u ≡ m → option_map known_of (option_map (machine.row_with_suspension t false) (option_map (machine.row_with_block t block.Not) m)) ≡ option_map known_of m
+      by_found : (m : Option ThreadRow) → machine.thread_of s u ≡ m
+          → option_map known_of (option_map (machine.row_with_suspension t false) (option_map (machine.row_with_block t block.Not) m)) ≡ option_map known_of m
       by_found None is = refl
       by_found (Some row) is =
-          let other : eqb row.number t ≡ false = ne_eqb row.number t (λ same. differs (sym same ∙ eqb-true _ _ (found-passes (machine.is_number u) s.threads row is))) in
+          let other : eqb row.number t
+          ≡ false = ne_eqb row.number t (λ same. differs (sym same ∙ eqb-true _ _ (found-passes (machine.is_number u) s.threads row is))) in
           rw other refl
 
   pub death-begins : Shows None v s → Shows (Some t) (sched.after_leave v t) (death.withdraw t s).after
   death-begins shows = record {
     threads = λ u. elim (cases_eq t u) [
       | inl same ↦ rw (eq-eqb t u same) (find-none (sched.is_of u) (sched.is_of t) (λ k is. eq-eqb k.tid t (eqb-true _ _ is ∙ sym same)) v.threads)
-      | inr differs ↦ rw (ne_eqb t u differs) (find-stays (sched.is_of u) (sched.is_of t) (λ k is. ne_eqb k.tid t (λ here. differs (sym here ∙ eqb-true _ _ is))) v.threads ∙ (shows.threads u ∙ sym (unmoved u differs)))
+      | inr differs
+          ↦ rw (ne_eqb t u differs) (find-stays (sched.is_of u) (sched.is_of t)
+          (λ k is. ne_eqb k.tid t (λ here. differs (sym here ∙ eqb-true _ _ is))) v.threads
+          ∙ (shows.threads u ∙ sym (unmoved u differs)))
     ];
     order = ap (without t) shows.order;
     timers = ap (without_timer t) shows.timers;
@@ -287,8 +314,16 @@ module _ (v : Schedule) (s : State) (t : ℕ) where
   pub death-ends : Shows (Some t) v s → Shows None v (death.bury t s).after
   death-ends shows = record {
     threads = λ u. elim (cases_eq t u) [
-      | inl same ↦ shows.threads u ∙ (ap (λ b. cond b None (option_map known_of (machine.thread_of s u))) (eq-eqb t u same) ∙ ap (option_map known_of) (sym (find-none (machine.is_number u) (machine.is_number t) (λ row is. eq-eqb row.number t (eqb-true _ _ is ∙ sym same)) s.threads)))
-      | inr differs ↦ shows.threads u ∙ (ap (λ b. cond b None (option_map known_of (machine.thread_of s u))) (ne_eqb t u differs) ∙ ap (option_map known_of) (sym (find-stays (machine.is_number u) (machine.is_number t) (λ row is. ne_eqb row.number t (λ here. differs (sym here ∙ eqb-true _ _ is))) s.threads)))
+      | inl same
+          ↦ shows.threads u
+          ∙ (ap (λ b. cond b None (option_map known_of (machine.thread_of s u))) (eq-eqb t u same)
+          ∙ ap (option_map known_of)
+          (sym (find-none (machine.is_number u) (machine.is_number t) (λ row is. eq-eqb row.number t (eqb-true _ _ is ∙ sym same)) s.threads)))
+      | inr differs
+          ↦ shows.threads u
+          ∙ (ap (λ b. cond b None (option_map known_of (machine.thread_of s u))) (ne_eqb t u differs)
+          ∙ ap (option_map known_of) (sym (find-stays (machine.is_number u) (machine.is_number t)
+          (λ row is. ne_eqb row.number t (λ here. differs (sym here ∙ eqb-true _ _ is))) s.threads)))
     ];
     order = shows.order;
     timers = shows.timers;

@@ -30,19 +30,23 @@ blocked_known s t waits = by_case (thread_of s t) waits
     by_case None waits = absurd (cc)
     by_case (Some x) waits = refl
 
-module _ (slots : Lists) (order : Order) (rows : List Known) (slot_of : ℕ → Option ℕ) (map_len room width maxpri places : ℕ) (held : IsHeld slots order rows slot_of map_len room width maxpri places) (t slot : ℕ) (at : slot_of t ≡ Some slot) where
+module _ (slots : Lists) (order : Order) (rows : List Known) (slot_of : ℕ → Option ℕ) (map_len room width maxpri places : ℕ)
+    (held : IsHeld slots order rows slot_of map_len room width maxpri places) (t slot : ℕ) (at : slot_of t ≡ Some slot) where
   stays : Changes (row_at rows) (row_at rows) slot (row_at rows slot)
   stays = record { here = refl; others = λ s is_slot differs. refl }
 
-  pub IsHeld-requeued : is_eligible_in (schedule_of slots order rows maxpri places) t ≡ true → IsHeld slots (after_put_last order slot (row_at rows slot).prio) rows slot_of map_len room width maxpri places
+  pub IsHeld-requeued : is_eligible_in (schedule_of slots order rows maxpri places) t ≡ true
+      → IsHeld slots (after_put_last order slot (row_at rows slot).prio) rows slot_of map_len room width maxpri places
   IsHeld-requeued runs =
       IsHeld-back slots order rows slot_of map_len room width maxpri places held t slot at rows refl (row_at rows slot) stays
       (of_thread slots order rows slot_of map_len room width maxpri places held t slot at)
       (has_priority slots order rows slot_of map_len room width maxpri places held t slot at)
       (sym (ap (passes is_eligible) (thread slots order rows slot_of map_len room width maxpri places held t slot at)) ∙ runs)
 
-  pub view_requeued : schedule_of slots (after_put_last order slot (row_at rows slot).prio) rows maxpri places ≡ after_requeue (schedule_of slots order rows maxpri places) t
+  pub view_requeued : schedule_of slots (after_put_last order slot (row_at rows slot).prio) rows maxpri places
+      ≡ after_requeue (schedule_of slots order rows maxpri places) t
   view_requeued =
       view_back slots order rows slot_of map_len room width maxpri places held t slot at rows refl (row_at rows slot) stays
       (of_thread slots order rows slot_of map_len room width maxpri places held t slot at)
-      ∙ back_same (schedule_of slots order rows maxpri places) t (row_at rows slot) held.ordered (thread slots order rows slot_of map_len room width maxpri places held t slot at)
+      ∙ back_same (schedule_of slots order rows maxpri places) t (row_at rows slot) held.ordered
+      (thread slots order rows slot_of map_len room width maxpri places held t slot at)

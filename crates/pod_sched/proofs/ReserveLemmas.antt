@@ -11,15 +11,18 @@ use Rattle.pod_sched.specs.Held.{IsHeld, schedule_of, tid_at}
 use Rattle.pod_sched.specs.Schedule.{after_reserve}
 use Rattle.pod_sched.specs.Slots.{AreSlots, Extends, IsFree, IsKnown, IsReady, after_free, has_tid, row_at}
 use Rattle.pod_sched.specs.declared.rows.Known.{Known}
-use Rattle.std.proofs.Common.{List, Err, Ok, OnErr, Option, Result, Some, [], ap, arith, eqb, get_or, inl, inr, length, map, max, refl, replicate, subst, suc, sym, zero, ℕ, ◌++◌, ◌+◌, ◌-◌, ◌<◌, ◌∙◌, ◌∷◌, ◌≡◌, ◌≤◌}
+use Rattle.std.proofs.Common.{List, Err, Ok, OnErr, Option, Result, Some, [], ap, arith, eqb, get_or, inl, inr, length, map}
+use Rattle.std.proofs.Common.{max, refl, replicate, subst, suc, sym, zero, ℕ, ◌++◌, ◌+◌, ◌-◌, ◌<◌, ◌∙◌, ◌∷◌, ◌≡◌, ◌≤◌}
 use Rattle.std.proofs.lemmas.Bool.{cases_eq, cases_lt, ne_eqb}
-use Rattle.std.proofs.lemmas.List.{get_or-append_right, get_or-replicate, get_or_append_left, get_or_past, length-append, length-map, length-replicate, length_push}
+use Rattle.std.proofs.lemmas.List.{get_or-append_right, get_or-replicate, get_or_append_left, get_or_past}
+use Rattle.std.proofs.lemmas.List.{length-append, length-map, length-replicate, length_push}
 use Rattle.std.specs.List.{AllByRecursion, find}
 
 -- no list has a number beyond all of its own
 times_beyond : (m : ℕ) (xs : List ℕ) → AllByRecursion (λ s. s < m) xs → times_in xs m ≡ 0
 times_beyond m [] all = refl
-times_beyond m (x ∷ xs) all = omega (arith, count-cons (λ v. eqb v m) x xs, ap one (ne_eqb x m (λ same. absurd (omega (arith, same, all.0)))), times_beyond m xs all.1)
+times_beyond m (x ∷ xs) all =
+    omega (arith, count-cons (λ v. eqb v m) x xs, ap one (ne_eqb x m (λ same. absurd (omega (arith, same, all.0)))), times_beyond m xs all.1)
 
 -- the new slots are free
 module _ (row : ℕ → Known) (known free : List ℕ) (slot_of : ℕ → Option ℕ) (places : ℕ) (slots : AreSlots row known free slot_of places) where
@@ -32,11 +35,21 @@ module _ (row : ℕ → Known) (known free : List ℕ) (slot_of : ℕ → Option
   AreSlots-one_more : AreSlots row (without (256 + places) known) (without (256 + places) free ++ (256 + places) ∷ []) slot_of (places + 1)
   AreSlots-one_more = rw (without_none (256 + places) known beyond_known, without_none (256 + places) free beyond_free) (record {
     once = λ s. elim (cases_eq s (256 + places)) [
-      | inl same ↦ omega (arith, times-same known (256 + places) s same, times-same (free ++ (256 + places) ∷ []) (256 + places) s same, count-push (λ v. eqb v (256 + places)) free (256 + places), one_same (256 + places), beyond_known, beyond_free)
+      | inl same
+          ↦ omega (
+            arith,
+            times-same known (256 + places) s same,
+            times-same (free ++ (256 + places) ∷ []) (256 + places) s same,
+            count-push (λ v. eqb v (256 + places)) free (256 + places),
+            one_same (256 + places),
+            beyond_known,
+            beyond_free,
+          )
       | inr differs ↦ omega (arith, slots.once s, count-push (λ v. eqb v s) free (256 + places), one_other (256 + places) s differs)
     ];
     count = omega (arith, slots.count, length_push free (256 + places));
-    are_known = All-weaker (IsKnown row known places) (IsKnown row known (places + 1)) (λ s is. record { is_slot = is.is_slot; in_range = omega (arith, is.in_range); found = is.found }) known slots.are_known;
+    are_known = All-weaker (IsKnown row known places) (IsKnown row known (places + 1))
+        (λ s is. record { is_slot = is.is_slot; in_range = omega (arith, is.in_range); found = is.found }) known slots.are_known;
     are_free = All-push (IsFree (places + 1)) free (256 + places)
         (All-weaker (IsFree places) (IsFree (places + 1)) (λ s is. record { is_slot = is.is_slot; in_range = omega (arith, is.in_range) }) free slots.are_free)
         (record { is_slot = omega arith; in_range = omega arith });
@@ -49,7 +62,8 @@ module _ (row : ℕ → Known) (known free : List ℕ) (slot_of : ℕ → Option
 pub freed_lists : (slots : Lists) (from n : ℕ) → length (after_free slots from n).lists ≡ length slots.lists
 freed_lists slots from zero = refl
 freed_lists slots from (suc n) =
-    length-pushed 1 (from + n) (map (without (from + n)) (after_free slots from n).lists) ∙ length-map (after_free slots from n).lists (without (from + n)) ∙ freed_lists slots from n
+    length-pushed 1 (from + n) (map (without (from + n)) (after_free slots from n).lists)
+    ∙ length-map (after_free slots from n).lists (without (from + n)) ∙ freed_lists slots from n
 
 pub freed_limit : (slots : Lists) (from n : ℕ) → (after_free slots from n).limit ≡ slots.limit
 freed_limit slots from zero = refl
@@ -62,16 +76,25 @@ record Freed (slots slots' : Lists) (row : ℕ → Known) (slot_of : ℕ → Opt
   known : items slots' 0 ≡ items slots 0
   are_slots : AreSlots row (items slots' 0) (items slots' 1) slot_of places
 
-Freed-freed : (slots : Lists) (row : ℕ → Known) (slot_of : ℕ → Option ℕ) (places n : ℕ) → length slots.lists ≡ 256 → AreSlots row (items slots 0) (items slots 1) slot_of places → Freed slots (after_free slots (256 + places) n) row slot_of (places + n)
-Freed-freed slots row slot_of places zero lists are = record { lists = refl; limit = refl; known = refl; are_slots = subst (AreSlots row (items slots 0) (items slots 1) slot_of) (omega arith) are }
+Freed-freed : (slots : Lists) (row : ℕ → Known) (slot_of : ℕ → Option ℕ) (places n : ℕ) → length slots.lists ≡ 256
+    → AreSlots row (items slots 0) (items slots 1) slot_of places → Freed slots (after_free slots (256 + places) n) row slot_of (places + n)
+Freed-freed slots row slot_of places zero lists are = record {
+  lists = refl;
+  limit = refl;
+  known = refl;
+  are_slots = subst (AreSlots row (items slots 0) (items slots 1) slot_of) (omega arith) are;
+}
 Freed-freed slots row slot_of places (suc n) lists are =
     let before = Freed-freed slots row slot_of places n lists are in
     let here : 256 + (places + n) ≡ (256 + places) + n = omega arith in
     let long : length (after_free slots (256 + places) n).lists ≡ 256 = before.lists ∙ lists in
     let at_one = items_moved_same (after_free slots (256 + places) n) 1 ((256 + places) + n) (omega (arith, long)) in
-    let at_zero = items_moved_other (after_free slots (256 + places) n) 1 ((256 + places) + n) (omega (arith, long)) 0 (omega (arith, long)) (λ same. absurd (omega arith)) in
-    let more = AreSlots-one_more row (items (after_free slots (256 + places) n) 0) (items (after_free slots (256 + places) n) 1) slot_of (places + n) before.are_slots in
-    let same_known = known_one_more row (items (after_free slots (256 + places) n) 0) (items (after_free slots (256 + places) n) 1) slot_of (places + n) before.are_slots in
+    let at_zero = items_moved_other (after_free slots (256 + places) n) 1 ((256 + places) + n) (omega (arith, long)) 0 (omega (arith, long))
+    (λ same. absurd (omega arith)) in
+    let more = AreSlots-one_more row (items (after_free slots (256 + places) n) 0) (items (after_free slots (256 + places) n) 1) slot_of
+    (places + n) before.are_slots in
+    let same_known = known_one_more row (items (after_free slots (256 + places) n) 0) (items (after_free slots (256 + places) n) 1) slot_of
+    (places + n) before.are_slots in
     let count : (places + n) + 1 ≡ places + suc n = omega arith in
     record {
       lists = lists_moved (after_free slots (256 + places) n) 1 ((256 + places) + n) (omega (arith, long)) ∙ before.lists;
@@ -80,7 +103,8 @@ Freed-freed slots row slot_of places (suc n) lists are =
       are_slots = rw (at_zero, at_one) (rw (here, count) at more);
     }
 
-module _ (slots : Lists) (order : Order) (rows : List Known) (slot_of : ℕ → Option ℕ) (map_len room width maxpri places : ℕ) (held : IsHeld slots order rows slot_of map_len room width maxpri places) where
+module _ (slots : Lists) (order : Order) (rows : List Known) (slot_of : ℕ → Option ℕ) (map_len room width maxpri places : ℕ)
+    (held : IsHeld slots order rows slot_of map_len room width maxpri places) where
   -- memory was taken for more slots
   pub IsHeld-limit : (limit : ℕ) → IsHeld (with_limit slots limit) order rows slot_of map_len room width maxpri places
   IsHeld-limit limit = record {
@@ -105,16 +129,22 @@ module _ (slots : Lists) (order : Order) (rows : List Known) (slot_of : ℕ → 
     row_kept s is_slot in_range = extends.kept s is_slot (omega (arith, in_range, held.row_room))
 
     find_kept : (u : ℕ) → find (has_tid (row_at rows') u) (items slots 0) ≡ find (has_tid (row_at rows) u) (items slots 0)
-    find_kept u = find_agree (has_tid (row_at rows') u) (has_tid (row_at rows) u) (items slots 0) (All-weaker (IsKnown (row_at rows) (items slots 0) places) _ (λ s is. ap (λ (r : Known). eqb r.tid u) (row_kept s is.is_slot is.in_range)) (items slots 0) held.are_slots.are_known)
+    find_kept u = find_agree (has_tid (row_at rows') u) (has_tid (row_at rows) u) (items slots 0)
+        (All-weaker (IsKnown (row_at rows) (items slots 0) places) _
+        (λ s is. ap (λ (r : Known). eqb r.tid u) (row_kept s is.is_slot is.in_range)) (items slots 0) held.are_slots.are_known)
 
-    found_kept : (s : ℕ) → 256 ≤ s → s < 256 + places → find (has_tid (row_at rows) (row_at rows s).tid) (items slots 0) ≡ Some s → find (has_tid (row_at rows') (row_at rows' s).tid) (items slots 0) ≡ Some s
-    found_kept s is_slot in_range found = ap (λ (r : Known). find (has_tid (row_at rows') r.tid) (items slots 0)) (row_kept s is_slot in_range) ∙ find_kept (row_at rows s).tid ∙ found
+    found_kept : (s : ℕ) → 256 ≤ s → s < 256 + places → find (has_tid (row_at rows) (row_at rows s).tid) (items slots 0) ≡ Some s
+        → find (has_tid (row_at rows') (row_at rows' s).tid) (items slots 0) ≡ Some s
+    found_kept s is_slot in_range found = ap (λ (r : Known). find (has_tid (row_at rows') r.tid) (items slots 0)) (row_kept s is_slot in_range)
+        ∙ find_kept (row_at rows s).tid ∙ found
 
     slots_kept : AreSlots (row_at rows') (items slots 0) (items slots 1) slot_of places
     slots_kept = record {
       once = held.are_slots.once;
       count = held.are_slots.count;
-      are_known = All-weaker (IsKnown (row_at rows) (items slots 0) places) (IsKnown (row_at rows') (items slots 0) places) (λ s is. record { is_slot = is.is_slot; in_range = is.in_range; found = found_kept s is.is_slot is.in_range is.found }) (items slots 0) held.are_slots.are_known;
+      are_known = All-weaker (IsKnown (row_at rows) (items slots 0) places) (IsKnown (row_at rows') (items slots 0) places)
+          (λ s is. record { is_slot = is.is_slot; in_range = is.in_range; found = found_kept s is.is_slot is.in_range is.found })
+          (items slots 0) held.are_slots.are_known;
       are_free = held.are_slots.are_free;
       index = λ u. held.are_slots.index u ∙ sym (find_kept u);
     }
@@ -127,16 +157,20 @@ module _ (slots : Lists) (order : Order) (rows : List Known) (slot_of : ℕ → 
         rows_same (x ∷ xs) all = rw (row_kept x all.0.is_slot all.0.in_range, rows_same xs all.1) refl
 
     ready_range : (s : ℕ) → IsReady (row_at rows) (items slots 0) (prio_of order) s → s < 256 + places
-    ready_range s is = (All-found (has_tid (row_at rows) (row_at rows s).tid) (IsKnown (row_at rows) (items slots 0) places) (items slots 0) s held.are_slots.are_known is.found).in_range
+    ready_range s is = (All-found (has_tid (row_at rows) (row_at rows s).tid) (IsKnown (row_at rows) (items slots 0) places) (items slots 0)
+        s held.are_slots.are_known is.found).in_range
 
     tids_kept : map (tid_at rows') order.order ≡ map (tid_at rows) order.order
-    tids_kept = tids_same (tid_at rows) (tid_at rows') order.order (All-weaker (IsReady (row_at rows) (items slots 0) (prio_of order)) _ (λ s is. ap (λ (r : Known). r.tid) (row_kept s is.is_slot (ready_range s is))) order.order held.ready)
+    tids_kept = tids_same (tid_at rows) (tid_at rows') order.order (All-weaker (IsReady (row_at rows) (items slots 0) (prio_of order)) _
+        (λ s is. ap (λ (r : Known). r.tid) (row_kept s is.is_slot (ready_range s is))) order.order held.ready)
 
     module _ (limit keys room' : ℕ) (longer : room ≤ room') where
       more_prios : (s : ℕ) → prio_of (with_keys order keys) s ≡ prio_of order s
       more_prios s = elim (cases_lt (s - order.levels) (length order.prios)) [
         | inl inside ↦ get_or_append_left order.prios (replicate (keys - length order.prios) 0) 0 (s - order.levels) inside
-        | inr past ↦ get_or-append_right order.prios (replicate (keys - length order.prios) 0) (length order.prios) (s - order.levels) 0 refl past ∙ zeros (keys - length order.prios) ((s - order.levels) - length order.prios) ∙ sym (get_or_past order.prios (s - order.levels) 0 past)
+        | inr past
+            ↦ get_or-append_right order.prios (replicate (keys - length order.prios) 0) (length order.prios) (s - order.levels) 0 refl past
+            ∙ zeros (keys - length order.prios) ((s - order.levels) - length order.prios) ∙ sym (get_or_past order.prios (s - order.levels) 0 past)
       ]
         where
           zeros : (n j : ℕ) → ◌≡◌ {A = ℕ} (get_or (replicate n 0) j 0) 0
@@ -173,7 +207,8 @@ module _ (slots : Lists) (order : Order) (rows : List Known) (slot_of : ℕ → 
       view_grown = rw (threads_kept, tids_kept) refl
 
   -- there is memory for so many, and the new slots are free
-  module _ (n : ℕ) (slot_room : 256 + n ≤ slots.limit) (order_room : n ≤ length order.prios) (row_room : n ≤ length rows) (map_room : n ≤ room) (more : places ≤ n) where
+  module _ (n : ℕ) (slot_room : 256 + n ≤ slots.limit) (order_room : n ≤ length order.prios) (row_room : n ≤ length rows)
+      (map_room : n ≤ room) (more : places ≤ n) where
     new_slots : Freed slots (after_free slots (256 + places) (n - places)) (row_at rows) slot_of (places + (n - places))
     new_slots = Freed-freed slots (row_at rows) slot_of places (n - places) held.lists held.are_slots
 
@@ -193,17 +228,22 @@ module _ (slots : Lists) (order : Order) (rows : List Known) (slot_of : ℕ → 
       least = held.least;
       most = held.most;
       priorities = rw new_slots.known held.priorities;
-      are_slots = subst (AreSlots (row_at rows) (items (after_free slots (256 + places) (n - places)) 0) (items (after_free slots (256 + places) (n - places)) 1) slot_of) in_all new_slots.are_slots;
+      are_slots = subst
+          (AreSlots (row_at rows) (items (after_free slots (256 + places) (n - places)) 0) (items (after_free slots (256 + places) (n - places)) 1) slot_of)
+          in_all new_slots.are_slots;
       ready = rw new_slots.known held.ready;
       ordered = rw new_slots.known held.ordered;
     }
 
-    pub view_freed : schedule_of (after_free slots (256 + places) (n - places)) order rows maxpri n ≡ after_reserve (schedule_of slots order rows maxpri places) n
+    pub view_freed : schedule_of (after_free slots (256 + places) (n - places)) order rows maxpri n
+        ≡ after_reserve (schedule_of slots order rows maxpri places) n
     view_freed =
         let most : max places n ≡ n = omega arith in
         rw (new_slots.known, most) refl
 
-module _ (slots : Lists) (order : Order) (rows : List Known) (slot_of : ℕ → Option ℕ) (map_len room width maxpri places : ℕ) (held : IsHeld slots order rows slot_of map_len room width maxpri places) (rows' : List Known) (extends : Extends rows rows') (n room' count : ℕ) (longer : room ≤ room') (row_room : n ≤ length rows') (map_room : n ≤ room') (more : places ≤ n) (counts : count ≡ n - places) where
+module _ (slots : Lists) (order : Order) (rows : List Known) (slot_of : ℕ → Option ℕ) (map_len room width maxpri places : ℕ)
+    (held : IsHeld slots order rows slot_of map_len room width maxpri places) (rows' : List Known) (extends : Extends rows rows')
+    (n room' count : ℕ) (longer : room ≤ room') (row_room : n ≤ length rows') (map_room : n ≤ room') (more : places ≤ n) (counts : count ≡ n - places) where
   grown : IsHeld (with_limit slots (256 + n)) (with_keys order n) rows' slot_of map_len room' width maxpri places
   grown = IsHeld-grown slots order rows slot_of map_len room width maxpri places held rows' extends (256 + n) n room' longer
 
@@ -211,11 +251,14 @@ module _ (slots : Lists) (order : Order) (rows : List Known) (slot_of : ℕ → 
   order_room = omega (arith, length-append order.prios (replicate (n - length order.prios) 0), length-replicate {A = ℕ} (n - length order.prios) 0)
 
   pub IsHeld-reserved : IsHeld (after_free (with_limit slots (256 + n)) (256 + places) count) (with_keys order n) rows' slot_of map_len room' width maxpri n
-  IsHeld-reserved = rw counts (IsHeld-freed (with_limit slots (256 + n)) (with_keys order n) rows' slot_of map_len room' width maxpri places grown n (omega arith) order_room row_room map_room more)
+  IsHeld-reserved = rw counts (IsHeld-freed (with_limit slots (256 + n)) (with_keys order n) rows' slot_of map_len room' width maxpri places
+      grown n (omega arith) order_room row_room map_room more)
 
-  pub view_reserved : schedule_of (after_free (with_limit slots (256 + n)) (256 + places) count) (with_keys order n) rows' maxpri n ≡ after_reserve (schedule_of slots order rows maxpri places) n
+  pub view_reserved : schedule_of (after_free (with_limit slots (256 + n)) (256 + places) count) (with_keys order n) rows' maxpri n
+      ≡ after_reserve (schedule_of slots order rows maxpri places) n
   view_reserved =
-      rw counts (view_freed (with_limit slots (256 + n)) (with_keys order n) rows' slot_of map_len room' width maxpri places grown n (omega arith) order_room row_room map_room more)
+      rw counts (view_freed (with_limit slots (256 + n)) (with_keys order n) rows' slot_of map_len room' width maxpri places grown n
+      (omega arith) order_room row_room map_room more)
       ∙ ap (λ s. after_reserve s n) (view_grown slots order rows slot_of map_len room width maxpri places held rows' extends (256 + n) n room' longer)
 
 -- a fact of what is left after an error

@@ -9,7 +9,8 @@ use Rattle.pod_sched.specs.Timers.Clock.{Clock, after_drop, after_pop, after_res
 use Rattle.pod_sched.specs.Schedule as sched
 use Rattle.pod_sched.specs.Schedule.{Schedule, is_of, without_row}
 use Rattle.pod_sched.specs.declared.rows.Known.{Known}
-use Rattle.std.proofs.Common.{Bool, Err, List, None, Ok, Option, Result, Some, [], ap, arith, count_by, eqb, false, inl, inr, length, map, max, not, refl, sym, true, ℕ, ◌&&◌, ◌++◌, ◌+◌, ◌∙◌, ◌∷◌, ◌≡◌, ◌≢◌, ◌≤◌}
+use Rattle.std.proofs.Common.{Bool, Err, List, None, Ok, Option, Result, Some, [], ap, arith, count_by, eqb, false, inl, inr}
+use Rattle.std.proofs.Common.{length, map, max, not, refl, sym, true, ℕ, ◌&&◌, ◌++◌, ◌+◌, ◌∙◌, ◌∷◌, ◌≡◌, ◌≢◌, ◌≤◌}
 use Rattle.std.proofs.lemmas.Bool.{cases_eq, eq-eqb, ne_eqb}
 use Rattle.std.proofs.lemmas.List.{length_push}
 use Rattle.std.proofs.lemmas.List.Sums.{length-filter}
@@ -19,14 +20,16 @@ use Rattle.std.specs.Result.{OnErr, OnOk}
 -- the elements of one key are gone, and all others stay
 module _ {X : Type 0} (key : X → ℕ) (t : ℕ) where
   none_left : (xs : List X) → count_by (λ x. eqb (key x) t) (filter (λ x. not (eqb (key x) t)) xs) ≡ 0
-  none_left xs = count-filter (λ x. eqb (key x) t) (λ x. not (eqb (key x) t)) xs ∙ count_never (λ x. not (eqb (key x) t) && eqb (key x) t) (λ x. apart (eqb (key x) t)) xs
+  none_left xs = count-filter (λ x. eqb (key x) t) (λ x. not (eqb (key x) t)) xs
+      ∙ count_never (λ x. not (eqb (key x) t) && eqb (key x) t) (λ x. apart (eqb (key x) t)) xs
     where
       apart : (b : Bool) → (not b && b) ≡ false
       apart true = refl
       apart false = refl
 
   others_left : (u : ℕ) → t ≢ u → (xs : List X) → count_by (λ x. eqb (key x) u) (filter (λ x. not (eqb (key x) t)) xs) ≡ count_by (λ x. eqb (key x) u) xs
-  others_left u away xs = count-filter (λ x. eqb (key x) u) (λ x. not (eqb (key x) t)) xs ∙ count_agree (λ x. not (eqb (key x) t) && eqb (key x) u) (λ x. eqb (key x) u) other xs
+  others_left u away xs = count-filter (λ x. eqb (key x) u) (λ x. not (eqb (key x) t)) xs
+      ∙ count_agree (λ x. not (eqb (key x) t) && eqb (key x) u) (λ x. eqb (key x) u) other xs
     where
       other : (x : X) → (not (eqb (key x) t) && eqb (key x) u) ≡ eqb (key x) u
       other x = elim (cases_eq (key x) t) [
@@ -44,7 +47,8 @@ both p (x ∷ xs) = omega (arith, count-cons p x xs, count-cons (λ x. not (p x)
     halves false = refl
 
 -- no more timers than threads
-pub few_timers : (rows : List Known) (xs : List TimerRow) → ((t : ℕ) → timers_of xs t ≤ count_by (is_of t) rows) → ((t : ℕ) → count_by (is_of t) rows ≤ 1) → length xs ≤ length rows
+pub few_timers : (rows : List Known) (xs : List TimerRow) → ((t : ℕ) → timers_of xs t ≤ count_by (is_of t) rows)
+    → ((t : ℕ) → count_by (is_of t) rows ≤ 1) → length xs ≤ length rows
 few_timers [] [] owned once = omega arith
 few_timers [] (x ∷ xs) owned once = absurd (omega (arith, owned x.tid, count-cons (is_timer_of x.tid) x xs, ap one (eq-eqb x.tid x.tid refl)))
 few_timers (row ∷ rows) xs owned once = omega (
@@ -59,7 +63,8 @@ few_timers (row ∷ rows) xs owned once = omega (
     owned_rest : (t : ℕ) → timers_of (without_timer row.tid xs) t ≤ count_by (is_of t) rows
     owned_rest t = elim (cases_eq row.tid t) [
       | inl e ↦ omega (arith, none_left (λ (x : TimerRow). x.tid) row.tid xs, ap (timers_of (without_timer row.tid xs)) e)
-      | inr away ↦ omega (arith, others_left (λ (x : TimerRow). x.tid) row.tid t away xs, owned t, count-cons (is_of t) row rows, ap one (ne_eqb row.tid t away))
+      | inr away
+          ↦ omega (arith, others_left (λ (x : TimerRow). x.tid) row.tid t away xs, owned t, count-cons (is_of t) row rows, ap one (ne_eqb row.tid t away))
     ]
 
 -- a thread that is known to be blocked is known
@@ -74,7 +79,8 @@ module _ {threads : List Known} {c : Clock} {places : ℕ} (was : IsTimed thread
   -- the rows change, and are of the same threads
   pub IsTimed-mapped : (g : Known → Known) → ((row : Known) → (g row).tid ≡ row.tid) → IsTimed (map g threads) c places
   IsTimed-mapped g keeps = record {
-    owned = λ t. omega (arith, was.owned t, count-map (is_of t) g threads, count_agree (λ row. is_of t (g row)) (is_of t) (λ row. ap (λ n. eqb n t) (keeps row)) threads);
+    owned = λ t. omega
+        (arith, was.owned t, count-map (is_of t) g threads, count_agree (λ row. is_of t (g row)) (is_of t) (λ row. ap (λ n. eqb n t) (keeps row)) threads);
     roomy = was.roomy;
   }
 
@@ -82,7 +88,10 @@ module _ {threads : List Known} {c : Clock} {places : ℕ} (was : IsTimed thread
   IsTimed-admitted row = record { owned = λ t. omega (arith, was.owned t, count-push (is_of t) threads row); roomy = was.roomy }
 
   pub IsTimed-dropped : (t : ℕ) → IsTimed threads (after_drop c t) places
-  IsTimed-dropped t = record { owned = λ u. omega (arith, was.owned u, count-filter-le (is_timer_of u) (λ row. not (is_timer_of t row)) c.timers); roomy = was.roomy }
+  IsTimed-dropped t = record {
+    owned = λ u. omega (arith, was.owned u, count-filter-le (is_timer_of u) (λ row. not (is_timer_of t row)) c.timers);
+    roomy = was.roomy;
+  }
 
   pub IsTimed-left : (t : ℕ) → IsTimed (without_row t threads) (after_drop c t) places
   IsTimed-left t = record {
@@ -114,14 +123,24 @@ module _ {threads : List Known} {c : Clock} {places : ℕ} (was : IsTimed thread
   pub IsTimed-set : (t due : ℕ) → 1 ≤ count_by (is_of t) threads → list_any (is_timer_of t) c.timers ≡ false → IsTimed threads (after_set c t due) places
   IsTimed-set t due known none = record {
     owned = λ u. elim (cases_eq t u) [
-      | inl e ↦ omega (arith, count-push (is_timer_of u) c.timers (record { tid = t; due = due }), ap one (eq-eqb t u e), count_none (is_timer_of t) c.timers none, ap (timers_of c.timers) e, known, ap (λ n. count_by (is_of n) threads) e)
+      | inl e
+          ↦ omega (
+            arith,
+            count-push (is_timer_of u) c.timers (record { tid = t; due = due }),
+            ap one (eq-eqb t u e),
+            count_none (is_timer_of t) c.timers none,
+            ap (timers_of c.timers) e,
+            known,
+            ap (λ n. count_by (is_of n) threads) e,
+          )
       | inr away ↦ omega (arith, was.owned u, count-push (is_timer_of u) c.timers (record { tid = t; due = due }), ap one (ne_eqb t u away))
     ];
     roomy = was.roomy;
   }
 
   -- and there is a place for it
-  pub set_fits : (t due : ℕ) → 1 ≤ count_by (is_of t) threads → list_any (is_timer_of t) c.timers ≡ false → ((t : ℕ) → count_by (is_of t) threads ≤ 1) → length threads ≤ places → length c.timers + 1 ≤ c.places
+  pub set_fits : (t due : ℕ) → 1 ≤ count_by (is_of t) threads → list_any (is_timer_of t) c.timers ≡ false
+      → ((t : ℕ) → count_by (is_of t) threads ≤ 1) → length threads ≤ places → length c.timers + 1 ≤ c.places
   set_fits t due known none once few = omega (
     arith,
     few_timers threads (after_set c t due).timers (IsTimed-set t due known none).owned once,
@@ -131,6 +150,7 @@ module _ {threads : List Known} {c : Clock} {places : ℕ} (was : IsTimed thread
   )
 
   -- more places, or no memory for them
-  pub IsTimed-either : (n : ℕ) (T E : Type 0) (r : Result T E) (old new : Schedule) → OnOk r (new ≡ sched.after_reserve old n) → OnErr r (new ≡ old) → old.threads ≡ threads → old.places ≡ places → IsTimed new.threads (after_reserve c n) new.places
+  pub IsTimed-either : (n : ℕ) (T E : Type 0) (r : Result T E) (old new : Schedule) → OnOk r (new ≡ sched.after_reserve old n)
+      → OnErr r (new ≡ old) → old.threads ≡ threads → old.places ≡ places → IsTimed new.threads (after_reserve c n) new.places
   IsTimed-either n T E (Ok x) old new ok err rows room = rw (ok, rows, room) (IsTimed-reserved n)
   IsTimed-either n T E (Err e) old new ok err rows room = rw (err, rows, room) (IsTimed-roomier n)

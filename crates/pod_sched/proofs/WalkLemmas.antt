@@ -2,7 +2,8 @@
 use Rattle.pod_sched.specs.Buckets.Order.{Order}
 use Rattle.pod_sched.specs.Held.{HasRow}
 use Rattle.pod_sched.specs.declared.rows.Known.{Known}
-use Rattle.std.proofs.Common.{List, None, Option, Some, [], ap, arith, drop, length, map, refl, slice_get, subst, suc, sym, take, zero, ℕ, ◌++◌, ◌+◌, ◌<◌, ◌∙◌, ◌∷◌, ◌≡◌}
+use Rattle.std.proofs.Common.{List, None, Option, Some, [], ap, arith, drop, length, map, refl, slice_get}
+use Rattle.std.proofs.Common.{subst, suc, sym, take, zero, ℕ, ◌++◌, ◌+◌, ◌<◌, ◌∙◌, ◌∷◌, ◌≡◌}
 use Rattle.std.specs.List.{AllByRecursion}
 
 -- what was told so far, and the key that comes next

@@ -22,7 +22,8 @@ absent slots d x filed none = by_place (place_of d.senders x) none (filed.found 
     by_place None is at = at
     by_place (Some i) is at = absurd (cc)
 
-pub present : (slots : List (Option Letter)) (d : Directory) (x i : ℕ) → IsFiled slots d → place_of d.senders x ≡ Some i → passes (is_letter_of x) (get_or slots i None) ≡ true
+pub present : (slots : List (Option Letter)) (d : Directory) (x i : ℕ) → IsFiled slots d → place_of d.senders x ≡ Some i
+    → passes (is_letter_of x) (get_or slots i None) ≡ true
 present slots d x i filed some = by_place (place_of d.senders x) some (filed.found x)
   where
     by_place : (o : Option ℕ) → o ≡ Some i → IsSlotOf slots x o → passes (is_letter_of x) (get_or slots i None) ≡ true

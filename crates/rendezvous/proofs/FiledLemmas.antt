@@ -6,11 +6,14 @@ use Rattle.lwp_types.specs.Messages.{as_received, is_letter_of, is_to, letters_o
 use Rattle.lwp_types.specs.State.{passes}
 use Rattle.lwp_types.specs.declared.rows.Letter.{Letter}
 use Rattle.rendezvous.proofs.Found.{marked_there, removed_there}
-use Rattle.rendezvous.proofs.SlotLemmas.{counted_at, few_living, first_none, first_some, has_one, keys-alike, keys-nothing, keys-out, keys-push, keys_below, living-push, ranked, slot_at-none, slot_at-past, slot_at-push, slot_within}
+use Rattle.rendezvous.proofs.SlotLemmas.{counted_at, few_living, first_none, first_some, has_one, keys-alike, keys-nothing, keys-out, keys-push}
+use Rattle.rendezvous.proofs.SlotLemmas.{keys_below, living-push, ranked, slot_at-none, slot_at-past, slot_at-push, slot_within}
 use Rattle.rendezvous.specs.Kept.{IsFiled, IsSound, keys_of}
 use Rattle.rendezvous.specs.Slots.{IsFirstAt, IsOnce, IsSlotOf, is_unread_by, keys_from}
 use Rattle.rendezvous.specs.declared.directory.Directory.{Directory}
-use Rattle.std.proofs.Common.{Bool, IfSome, IsSome, List, None, Option, Some, [], ap, append-nil, arith, false, get_or, get_or-set_other, get_or-set_same, inl, inr, length, length-take, map, not, refl, set, slice_get, sym, take, true, ℕ, ◌&&◌, ◌++◌, ◌+◌, ◌-◌, ◌<◌, ◌^◌, ◌∙◌, ◌∷◌, ◌≡◌, ◌≢◌, ◌≤◌, suc, zero}
+use Rattle.std.proofs.Common.{Bool, IfSome, IsSome, List, None, Option, Some, [], ap, append-nil, arith, false, get_or, get_or-set_other}
+use Rattle.std.proofs.Common.{get_or-set_same, inl, inr, length, length-take, map, not, refl, set, slice_get, sym, take, true}
+use Rattle.std.proofs.Common.{ℕ, ◌&&◌, ◌++◌, ◌+◌, ◌-◌, ◌<◌, ◌^◌, ◌∙◌, ◌∷◌, ◌≡◌, ◌≢◌, ◌≤◌, suc, zero}
 use Rattle.std.proofs.lemmas.Bool.{cases_eq, eq-eqb, eqb-true, ne_eqb}
 use Rattle.std.proofs.lemmas.List.{length-map, length_push, take_more}
 use Rattle.lists.specs.ThreadIndex.{Found, IsEmpty, Puts, count_of, place_of, width_of}
@@ -78,7 +81,9 @@ and-false false = refl
 
 -- ---- slots that have the same letters
 
-module _ (old new : List (Option Letter)) (d : Directory) (letters : living new ≡ living old) (at : (i : ℕ) → get_or new i None ≡ get_or old i None) (keys : (n : ℕ) (p : Letter → Bool) → keys_from n p new ≡ keys_from n p old) (was : IsFiled old d) where
+module _ (old new : List (Option Letter)) (d : Directory) (letters : living new ≡ living old)
+    (at : (i : ℕ) → get_or new i None ≡ get_or old i None) (keys : (n : ℕ) (p : Letter → Bool) → keys_from n p new ≡ keys_from n p old)
+    (was : IsFiled old d) where
   found_same : (x : ℕ) (o : Option ℕ) → IsSlotOf old x o → IsSlotOf new x o
   found_same x None none = ap (λ ls. letters_of ls x) letters ∙ none
   found_same x (Some i) its = ap (passes (is_letter_of x)) (at i) ∙ its
@@ -99,7 +104,8 @@ module _ (slots : List (Option Letter)) (d : Directory) where
   IsFiled-nothing was = IsFiled-same slots (slots ++ None ∷ []) d living-nothing (slot_at-none slots) (λ n p. keys-nothing p n slots) was
 
   pub IsFiled-trimmed : IsFiled (slots ++ None ∷ []) d → IsFiled slots d
-  IsFiled-trimmed was = IsFiled-same (slots ++ None ∷ []) slots d (sym living-nothing) (λ i. sym (slot_at-none slots i)) (λ n p. sym (keys-nothing p n slots)) was
+  IsFiled-trimmed was = IsFiled-same (slots ++ None ∷ []) slots d (sym living-nothing) (λ i. sym (slot_at-none slots i))
+      (λ n p. sym (keys-nothing p n slots)) was
 
 -- ---- the first letter of a list
 
@@ -127,7 +133,10 @@ IsFiled-bare d senders boxes = record {
   unread = λ t. rw (boxes.nobody t) refl;
 }
 
-pub IsSound-bare : (d : Directory) → d.used ≡ 0 → d.width ≤ 2 ^ 62 → IsEmpty d.boxes → ((b : ℕ) → items d.held b ≡ []) → ((b : ℕ) → items d.unread b ≡ []) → width_of d.senders ≡ d.width → d.width ≤ d.senders.room → width_of d.boxes ≡ d.width → d.width ≤ d.boxes.room → length d.held.lists ≡ d.width → length d.unread.lists ≡ d.width → d.held.limit ≡ d.width + d.width → d.unread.limit ≡ d.width + d.width → IsSound d
+pub IsSound-bare : (d : Directory) → d.used ≡ 0 → d.width ≤ 2 ^ 62 → IsEmpty d.boxes → ((b : ℕ) → items d.held b ≡ [])
+    → ((b : ℕ) → items d.unread b ≡ []) → width_of d.senders ≡ d.width → d.width ≤ d.senders.room → width_of d.boxes ≡ d.width
+    → d.width ≤ d.boxes.room → length d.held.lists ≡ d.width → length d.unread.lists ≡ d.width → d.held.limit ≡ d.width + d.width
+    → d.unread.limit ≡ d.width + d.width → IsSound d
 IsSound-bare d unused most boxes held unread sender_cells sender_room box_cells box_room held_lists unread_lists held_limit unread_limit = record {
   low = λ t. rw (boxes.nobody t) tt;
   apart = λ t u b its other. let none : None ≡ Some b = sym (boxes.nobody t) ∙ its in absurd (cc);
@@ -148,8 +157,10 @@ IsSound-bare d unused most boxes held unread sender_cells sender_room box_cells 
 
 -- ---- a thread has a list from now on
 
-module _ (d : Directory) (sound : IsSound d) (t : ℕ) (boxes' : Found) (none : place_of d.boxes t ≡ None) (puts : Puts (place_of d.boxes) (place_of boxes') t (Some d.used)) where
-  module _ (more : d.used < d.width) (count : count_of boxes' ≡ count_of d.boxes + 1) (cells : width_of boxes' ≡ width_of d.boxes) (room : boxes'.room ≡ d.boxes.room) where
+module _ (d : Directory) (sound : IsSound d) (t : ℕ) (boxes' : Found) (none : place_of d.boxes t ≡ None)
+    (puts : Puts (place_of d.boxes) (place_of boxes') t (Some d.used)) where
+  module _ (more : d.used < d.width) (count : count_of boxes' ≡ count_of d.boxes + 1) (cells : width_of boxes' ≡ width_of d.boxes)
+      (room : boxes'.room ≡ d.boxes.room) where
     apart_boxed : (u v b : ℕ) → place_of boxes' u ≡ Some b → place_of boxes' v ≡ Some b → u ≡ v
     apart_boxed u v b of_u of_v = elim (cases_eq u t) [
       | inl u_is ↦ elim (cases_eq v t) [
@@ -209,7 +220,8 @@ module _ (d : Directory) (sound : IsSound d) (t : ℕ) (boxes' : Found) (none : 
 
 -- ---- one letter more
 
-module _ (d : Directory) (sound : IsSound d) (list key : ℕ) (to : ℕ) (its : place_of d.boxes to ≡ Some list) (s : Lists) (lists : length s.lists ≡ d.width) where
+module _ (d : Directory) (sound : IsSound d) (list key : ℕ) (to : ℕ) (its : place_of d.boxes to ≡ Some list) (s : Lists)
+    (lists : length s.lists ≡ d.width) where
   list_in : list < length s.lists
   list_in = omega (arith, is_below (place_of d.boxes to) list d.used its (sound.low to), sound.used_fit, lists)
 
@@ -228,7 +240,8 @@ module _ (d : Directory) (sound : IsSound d) (list key : ℕ) (to : ℕ) (its : 
       by_place None is = refl
       by_place (Some b) is = items_moved_other s list key b (λ same. away (sound.apart t to b is (its ∙ ap Some (sym same))))
 
-  module _ (p : ℕ → Letter → Bool) (slots : List (Option Letter)) (letter : Letter) (key_is : key ≡ d.width + length slots) (others : (t : ℕ) → t ≢ to → p t letter ≡ false) (was : (t : ℕ) → keys_of s (place_of d.boxes t) ≡ keys_from d.width (p t) slots) where
+  module _ (p : ℕ → Letter → Bool) (slots : List (Option Letter)) (letter : Letter) (key_is : key ≡ d.width + length slots)
+      (others : (t : ℕ) → t ≢ to → p t letter ≡ false) (was : (t : ℕ) → keys_of s (place_of d.boxes t) ≡ keys_from d.width (p t) slots) where
     push_past : (t : ℕ) → p t letter ≡ false → keys_from d.width (p t) slots ≡ keys_from d.width (p t) (slots ++ Some letter ∷ [])
     push_past t out = sym (keys-push (p t) d.width key slots (Some letter) key_is ∙ rw out (append-nil (keys_from d.width (p t) slots)))
 
@@ -240,7 +253,8 @@ module _ (d : Directory) (sound : IsSound d) (list key : ℕ) (to : ℕ) (its : 
     ]
 
     -- it is the last of these
-    pub keys_moved : p to letter ≡ true → (t : ℕ) → keys_of (after_move_to_back s list key) (place_of d.boxes t) ≡ keys_from d.width (p t) (slots ++ Some letter ∷ [])
+    pub keys_moved : p to letter ≡ true → (t : ℕ)
+        → keys_of (after_move_to_back s list key) (place_of d.boxes t) ≡ keys_from d.width (p t) (slots ++ Some letter ∷ [])
     keys_moved in_it t = elim (cases_eq t to) [
       | inl same ↦ rw same (
           keys_moved_here
@@ -254,11 +268,15 @@ module _ (d : Directory) (sound : IsSound d) (list key : ℕ) (to : ℕ) (its : 
           ∙ push_past t (others t away)
     ]
 
-module _ (d : Directory) (sound : IsSound d) (slot list : ℕ) (letter : Letter) (its : place_of d.boxes letter.to ≡ Some list) (senders' : Found) (puts : Puts (place_of d.senders) (place_of senders') letter.from (Some slot)) (count : count_of senders' ≡ count_of d.senders + 1) (unread' : Lists) where
+module _ (d : Directory) (sound : IsSound d) (slot list : ℕ) (letter : Letter) (its : place_of d.boxes letter.to ≡ Some list)
+    (senders' : Found) (puts : Puts (place_of d.senders) (place_of senders') letter.from (Some slot))
+    (count : count_of senders' ≡ count_of d.senders + 1) (unread' : Lists) where
   after_added : Directory
   after_added = record d { senders = senders'; held = after_move_to_back d.held list (d.width + slot); unread = unread' }
 
-  pub IsSound-added : width_of senders' ≡ width_of d.senders → senders'.room ≡ d.senders.room → ((b : ℕ) → d.used ≤ b → items unread' b ≡ []) → length unread'.lists ≡ d.width → unread'.limit ≡ d.unread.limit → IsSound (record d { senders = senders'; held = after_move_to_back d.held list (d.width + slot); unread = unread' })
+  pub IsSound-added : width_of senders' ≡ width_of d.senders → senders'.room ≡ d.senders.room
+      → ((b : ℕ) → d.used ≤ b → items unread' b ≡ []) → length unread'.lists ≡ d.width → unread'.limit ≡ d.unread.limit
+      → IsSound (record d { senders = senders'; held = after_move_to_back d.held list (d.width + slot); unread = unread' })
   IsSound-added cells room spare lists limit = record {
     low = sound.low;
     apart = sound.apart;
@@ -294,11 +312,13 @@ module _ (d : Directory) (sound : IsSound d) (slot list : ℕ) (letter : Letter)
             let inside = slot_within slots i one_there.letter one_there.is in
             ap (passes (is_letter_of x)) (slot_at-past slots (Some letter) i (λ same. absurd (omega (arith, same, inside)))) ∙ at
 
-    pub IsFiled-added : ((t : ℕ) → keys_of unread' (place_of d.boxes t) ≡ keys_from d.width (is_unread_by t) (slots ++ Some letter ∷ [])) → IsFiled (slots ++ Some letter ∷ []) (record d { senders = senders'; held = after_move_to_back d.held list (d.width + slot); unread = unread' })
+    pub IsFiled-added : ((t : ℕ) → keys_of unread' (place_of d.boxes t) ≡ keys_from d.width (is_unread_by t) (slots ++ Some letter ∷ []))
+        → IsFiled (slots ++ Some letter ∷ []) (record d { senders = senders'; held = after_move_to_back d.held list (d.width + slot); unread = unread' })
     IsFiled-added unread = record {
       found = found_added;
       counted = omega (arith, count, was.counted, ap length (living-push slots (Some letter)), length_push (living slots) letter);
-      held = keys_moved d sound list (d.width + slot) letter.to its d.held sound.held_lists is_to slots letter (omega (arith, last)) (λ t away. ne_eqb letter.to t (λ same. away (sym same))) was.held (eq-eqb letter.to letter.to refl);
+      held = keys_moved d sound list (d.width + slot) letter.to its d.held sound.held_lists is_to slots letter (omega (arith, last))
+          (λ t away. ne_eqb letter.to t (λ same. away (sym same))) was.held (eq-eqb letter.to letter.to refl);
       unread = unread;
     }
 
@@ -335,7 +355,8 @@ module _ (d : Directory) (sound : IsSound d) (key : ℕ) where
     unread_limit = sound.unread_limit;
   }
 
-  module _ (slots : List (Option Letter)) (slot : ℕ) (letter : Letter) (key_is : key ≡ d.width + slot) (is : get_or slots slot None ≡ Some letter) (once : IsOnce slots) where
+  module _ (slots : List (Option Letter)) (slot : ℕ) (letter : Letter) (key_is : key ≡ d.width + slot)
+      (is : get_or slots slot None ≡ Some letter) (once : IsOnce slots) where
     pub living_received : living (set slots slot (Some (as_received letter))) ≡ map (letter_with_reception letter.from) (living slots)
     living_received =
         let r = ranked slots slot letter is in
@@ -357,12 +378,14 @@ module _ (d : Directory) (sound : IsSound d) (key : ℕ) where
       found = λ x. found_received x (place_of d.senders x) (was.found x);
       counted = omega (arith, was.counted, ap length living_received, length-map (living slots) (letter_with_reception letter.from));
       held = λ t. was.held t ∙ sym (keys-alike (is_to t) d.width slots slot (Some (as_received letter)) (sym (ap (passes (is_to t)) is)));
-      unread = λ t. keys_removed key d.unread (place_of d.boxes t) ∙ ap (without key) (was.unread t) ∙ sym (keys-out (is_unread_by t) d.width key slots slot (Some (as_received letter)) key_is (and-false (is_to t letter)));
+      unread = λ t. keys_removed key d.unread (place_of d.boxes t) ∙ ap (without key) (was.unread t)
+          ∙ sym (keys-out (is_unread_by t) d.width key slots slot (Some (as_received letter)) key_is (and-false (is_to t letter)));
     }
 
 -- ---- a letter goes
 
-pub living_gone : (slots : List (Option Letter)) (slot from : ℕ) → IsOnce slots → passes (is_letter_of from) (get_or slots slot None) ≡ true → living (set slots slot None) ≡ filter (λ l. not (is_letter_of from l)) (living slots)
+pub living_gone : (slots : List (Option Letter)) (slot from : ℕ) → IsOnce slots → passes (is_letter_of from) (get_or slots slot None) ≡ true
+    → living (set slots slot None) ≡ filter (λ l. not (is_letter_of from l)) (living slots)
 living_gone slots slot from once its =
     let there = has_one (is_letter_of from) (get_or slots slot None) its in
     let r = ranked slots slot there.letter there.is in
@@ -370,7 +393,8 @@ living_gone slots slot from once its =
     r.emptied ∙ removed_there (living slots) r.rank there.letter once r.here r.within ∙ ap (λ x. filter (λ l. not (is_letter_of x l)) (living slots)) same
 
 module _ (d : Directory) (sound : IsSound d) (key from : ℕ) (senders' : Found) where
-  pub IsSound-taken : width_of senders' ≡ width_of d.senders → senders'.room ≡ d.senders.room → IsSound (record d { senders = senders'; held = after_remove d.held key; unread = after_remove d.unread key })
+  pub IsSound-taken : width_of senders' ≡ width_of d.senders → senders'.room ≡ d.senders.room
+      → IsSound (record d { senders = senders'; held = after_remove d.held key; unread = after_remove d.unread key })
   IsSound-taken cells room = record {
     low = sound.low;
     apart = sound.apart;
@@ -389,7 +413,9 @@ module _ (d : Directory) (sound : IsSound d) (key from : ℕ) (senders' : Found)
     unread_limit = sound.unread_limit;
   }
 
-  module _ (puts : Puts (place_of d.senders) (place_of senders') from None) (count : count_of senders' + 1 ≡ count_of d.senders) (slots : List (Option Letter)) (slot : ℕ) (key_is : key ≡ d.width + slot) (once : IsOnce slots) (its : passes (is_letter_of from) (get_or slots slot None) ≡ true) where
+  module _ (puts : Puts (place_of d.senders) (place_of senders') from None) (count : count_of senders' + 1 ≡ count_of d.senders)
+      (slots : List (Option Letter)) (slot : ℕ) (key_is : key ≡ d.width + slot) (once : IsOnce slots)
+      (its : passes (is_letter_of from) (get_or slots slot None) ≡ true) where
     living_taken : living (set slots slot None) ≡ filter (λ l. not (is_letter_of from l)) (living slots)
     living_taken = living_gone slots slot from once its
 
@@ -407,7 +433,8 @@ module _ (d : Directory) (sound : IsSound d) (key from : ℕ) (senders' : Found)
             let one_letter : there.letter ≡ here.letter = cc in
             away (sym (eqb-true here.letter.from x here.passed) ∙ ap (λ (l : Letter). l.from) (sym one_letter) ∙ eqb-true there.letter.from from there.passed)
 
-    pub IsFiled-taken : IsFiled slots d → IsFiled (set slots slot None) (record d { senders = senders'; held = after_remove d.held key; unread = after_remove d.unread key })
+    pub IsFiled-taken : IsFiled slots d
+        → IsFiled (set slots slot None) (record d { senders = senders'; held = after_remove d.held key; unread = after_remove d.unread key })
     IsFiled-taken was = record {
       found = λ x. elim (cases_eq x from) [
         | inl same ↦ rw (same, puts.here) (ap (λ ls. letters_of ls from) living_taken ∙ count-failed (is_letter_of from) (living slots))
@@ -415,21 +442,37 @@ module _ (d : Directory) (sound : IsSound d) (key from : ℕ) (senders' : Found)
       ];
       counted =
           let there = has_one (is_letter_of from) (get_or slots slot None) its in
-          omega (arith, count, was.counted, ap length living_taken, length-failed (is_letter_of from) (living slots), once from, counted_at slots slot there.letter from there.is there.passed);
-      held = λ t. keys_removed key d.held (place_of d.boxes t) ∙ ap (without key) (was.held t) ∙ sym (keys-out (is_to t) d.width key slots slot None key_is refl);
-      unread = λ t. keys_removed key d.unread (place_of d.boxes t) ∙ ap (without key) (was.unread t) ∙ sym (keys-out (is_unread_by t) d.width key slots slot None key_is refl);
+          omega (
+            arith,
+            count,
+            was.counted,
+            ap length living_taken,
+            length-failed (is_letter_of from) (living slots),
+            once from,
+            counted_at slots slot there.letter from there.is there.passed,
+          );
+      held = λ t. keys_removed key d.held (place_of d.boxes t) ∙ ap (without key) (was.held t)
+          ∙ sym (keys-out (is_to t) d.width key slots slot None key_is refl);
+      unread = λ t. keys_removed key d.unread (place_of d.boxes t) ∙ ap (without key) (was.unread t)
+          ∙ sym (keys-out (is_unread_by t) d.width key slots slot None key_is refl);
     }
 
 -- ---- filing one after the other
 
-once_before : (slots : List (Option Letter)) (i : ℕ) (letter : Letter) → get_or slots i None ≡ Some letter → letters_of (living (take i slots)) letter.from + 1 ≤ letters_of (living slots) letter.from
+once_before : (slots : List (Option Letter)) (i : ℕ) (letter : Letter) → get_or slots i None ≡ Some letter
+    → letters_of (living (take i slots)) letter.from + 1 ≤ letters_of (living slots) letter.from
 once_before [] i letter is = absurd (cc)
 once_before (None ∷ slots) zero letter is = absurd (cc)
 once_before (Some x ∷ slots) zero letter is =
     let same : x ≡ letter = cc in
     omega (arith, count-cons (is_letter_of letter.from) x (living slots), ap one (eq-eqb x.from letter.from (ap (λ (l : Letter). l.from) same)))
 once_before (None ∷ slots) (suc i) letter is = once_before slots i letter is
-once_before (Some x ∷ slots) (suc i) letter is = omega (arith, once_before slots i letter is, count-cons (is_letter_of letter.from) x (living slots), count-cons (is_letter_of letter.from) x (living (take i slots)))
+once_before (Some x ∷ slots) (suc i) letter is = omega (
+  arith,
+  once_before slots i letter is,
+  count-cons (is_letter_of letter.from) x (living slots),
+  count-cons (is_letter_of letter.from) x (living (take i slots)),
+)
 
 -- a thread without a letter is not found
 pub unfiled : (slots : List (Option Letter)) (d : Directory) (x : ℕ) → IsFiled slots d → letters_of (living slots) x ≡ 0 → place_of d.senders x ≡ None
@@ -442,7 +485,8 @@ unfiled slots d x was none = by_place (place_of d.senders x) refl (was.found x)
         absurd (omega (arith, none, counted_at slots i there.letter x there.is there.passed))
 
 -- a thread with a letter is found
-pub some_filed : (slots : List (Option Letter)) (d : Directory) (x slot : ℕ) → IsFiled slots d → passes (is_letter_of x) (get_or slots slot None) ≡ true → IsSome (place_of d.senders x)
+pub some_filed : (slots : List (Option Letter)) (d : Directory) (x slot : ℕ) → IsFiled slots d
+    → passes (is_letter_of x) (get_or slots slot None) ≡ true → IsSome (place_of d.senders x)
 some_filed slots d x slot was its = by_place (place_of d.senders x) (was.found x)
   where
     by_place : (o : Option ℕ) → IsSlotOf slots x o → IsSome o
@@ -464,5 +508,6 @@ module _ (slots : List (Option Letter)) (once : IsOnce slots) (d : Directory) (i
   pub unfiled_next : (letter : Letter) → get_or slots i None ≡ Some letter → place_of d.senders letter.from ≡ None
   unfiled_next letter is = unfiled (take i slots) d letter.from was (omega (arith, once letter.from, once_before slots i letter is))
 
-  pub next_some : (letter : Letter) → get_or slots i None ≡ Some letter → (d' : Directory) → IsFiled (take i slots ++ Some letter ∷ []) d' → IsFiled (take (i + 1) slots) d'
+  pub next_some : (letter : Letter) → get_or slots i None ≡ Some letter → (d' : Directory) → IsFiled (take i slots ++ Some letter ∷ []) d'
+      → IsFiled (take (i + 1) slots) d'
   next_some letter is d' now = rw (take_more slots i None within, is) now

@@ -2,7 +2,8 @@
 use Rattle.lwp_types.specs.declared.rows.Letter.{Letter}
 use Rattle.lwp_types.specs.State.{passes}
 use Rattle.rendezvous.specs.Slots.{keys_from}
-use Rattle.std.proofs.Common.{Bool, List, None, Option, Some, [], ap, arith, cond, drop, get_or, length, map, refl, slice_get, suc, take, zero, ℕ, ◌+◌, ◌-◌, ◌++◌, ◌<◌, ◌∙◌, ◌∷◌, ◌≡◌, ◌≤◌, true, false}
+use Rattle.std.proofs.Common.{Bool, List, None, Option, Some, [], ap, arith, cond, drop, get_or, length, map, refl, slice_get}
+use Rattle.std.proofs.Common.{suc, take, zero, ℕ, ◌+◌, ◌-◌, ◌++◌, ◌<◌, ◌∙◌, ◌∷◌, ◌≡◌, ◌≤◌, true, false}
 use Rattle.std.specs.List.{filter}
 use Rattle.lists.specs.Living.{living}
 
@@ -15,19 +16,24 @@ from_or (Some letter) = letter.from
 abbrev pub sender_of : ℕ → List (Option Letter) → ℕ → ℕ
 sender_of n slots key = from_or (get_or slots (key - n) None)
 
-told_by : (f : ℕ → ℕ) (n : ℕ) (p : Letter → Bool) (slots : List (Option Letter)) → ((i : ℕ) → f (n + i) ≡ from_or (get_or slots i None)) → map f (keys_from n p slots) ≡ map (λ (l : Letter). l.from) (filter p (living slots))
+told_by : (f : ℕ → ℕ) (n : ℕ) (p : Letter → Bool) (slots : List (Option Letter)) → ((i : ℕ) → f (n + i) ≡ from_or (get_or slots i None))
+    → map f (keys_from n p slots) ≡ map (λ (l : Letter). l.from) (filter p (living slots))
 told_by f n p [] agree = refl
 told_by f n p (None ∷ slots) agree = told_by f (suc n) p slots (λ i. let next : suc n + i ≡ n + suc i = omega arith in ap f next ∙ agree (suc i))
-told_by f n p (Some l ∷ slots) agree = by_test (told_by f (suc n) p slots (λ i. let next : suc n + i ≡ n + suc i = omega arith in ap f next ∙ agree (suc i))) (p l)
+told_by f n p (Some l ∷ slots) agree =
+    by_test (told_by f (suc n) p slots (λ i. let next : suc n + i ≡ n + suc i = omega arith in ap f next ∙ agree (suc i))) (p l)
   where
     here : f n ≡ l.from
     here = let same : n ≡ n + 0 = omega arith in ap f same ∙ agree 0
 
-    by_test : map f (keys_from (suc n) p slots) ≡ map (λ (m : Letter). m.from) (filter p (living slots)) → (b : Bool) → map f (cond b (n ∷ keys_from (suc n) p slots) (keys_from (suc n) p slots)) ≡ map (λ (m : Letter). m.from) (cond b (l ∷ filter p (living slots)) (filter p (living slots)))
+    by_test : map f (keys_from (suc n) p slots) ≡ map (λ (m : Letter). m.from) (filter p (living slots)) → (b : Bool)
+        → map f (cond b (n ∷ keys_from (suc n) p slots) (keys_from (suc n) p slots))
+        ≡ map (λ (m : Letter). m.from) (cond b (l ∷ filter p (living slots)) (filter p (living slots)))
     by_test rest true = rw here (ap (λ ys. l.from ∷ ys) rest)
     by_test rest false = rest
 
-pub told : (n : ℕ) (p : Letter → Bool) (slots : List (Option Letter)) → map (sender_of n slots) (keys_from n p slots) ≡ map (λ (l : Letter). l.from) (filter p (living slots))
+pub told : (n : ℕ) (p : Letter → Bool) (slots : List (Option Letter))
+    → map (sender_of n slots) (keys_from n p slots) ≡ map (λ (l : Letter). l.from) (filter p (living slots))
 told n p slots = told_by (sender_of n slots) n p slots (λ i. let same : (n + i) - n ≡ i = omega arith in ap (λ j. from_or (get_or slots j None)) same)
 
 -- what a key says
@@ -44,7 +50,8 @@ a_key n p (o ∷ slots) i key is = by_test (λ j later. a_key (suc n) p slots j 
     later_key : IsKey (suc n) p slots key → IsKey n p (o ∷ slots) key
     later_key k = record { place = suc k.place; is = omega (arith, k.is); within = omega (arith, k.within); passed = k.passed }
 
-    by_test : ((j : ℕ) → slice_get (keys_from (suc n) p slots) j ≡ Some key → IsKey (suc n) p slots key) → (i : ℕ) (b : Bool) → passes p o ≡ b → slice_get (cond b (n ∷ keys_from (suc n) p slots) (keys_from (suc n) p slots)) i ≡ Some key → IsKey n p (o ∷ slots) key
+    by_test : ((j : ℕ) → slice_get (keys_from (suc n) p slots) j ≡ Some key → IsKey (suc n) p slots key) → (i : ℕ) (b : Bool)
+        → passes p o ≡ b → slice_get (cond b (n ∷ keys_from (suc n) p slots) (keys_from (suc n) p slots)) i ≡ Some key → IsKey n p (o ∷ slots) key
     by_test rest zero true e is = let same : n ≡ key = cc in record { place = 0; is = omega (arith, same); within = omega arith; passed = e }
     by_test rest (suc i) true e is = later_key (rest i is)
     by_test rest i false e is = later_key (rest i is)
@@ -53,7 +60,8 @@ pub few_keys : (n : ℕ) (p : Letter → Bool) (slots : List (Option Letter)) �
 few_keys n p [] = omega arith
 few_keys n p (o ∷ slots) = by_test (few_keys (suc n) p slots) (passes p o)
   where
-    by_test : length (keys_from (suc n) p slots) ≤ length slots → (b : Bool) → length (cond b (n ∷ keys_from (suc n) p slots) (keys_from (suc n) p slots)) ≤ suc (length slots)
+    by_test : length (keys_from (suc n) p slots) ≤ length slots → (b : Bool)
+        → length (cond b (n ∷ keys_from (suc n) p slots) (keys_from (suc n) p slots)) ≤ suc (length slots)
     by_test rest true = omega (arith, rest)
     by_test rest false = omega (arith, rest)
 

@@ -5,7 +5,8 @@ use Rattle.lwp_types.specs.State.{passes}
 use Rattle.lwp_types.specs.declared.rows.Letter.{Letter}
 use Rattle.rendezvous.specs.Slots.{IsFirstAt, keys_from}
 use Rattle.lists.specs.ChainLists.{without}
-use Rattle.std.proofs.Common.{Bool, List, None, Option, Some, [], ap, arith, cond, eqb, false, get_or, is_some, length, refl, set, slice_get, suc, sym, take, true, zero, ℕ, ◌++◌, ◌+◌, ◌<◌, ◌∙◌, ◌∷◌, ◌≡◌, ◌≢◌, ◌≤◌}
+use Rattle.std.proofs.Common.{Bool, List, None, Option, Some, [], ap, arith, cond, eqb, false, get_or, is_some, length, refl}
+use Rattle.std.proofs.Common.{set, slice_get, suc, sym, take, true, zero, ℕ, ◌++◌, ◌+◌, ◌<◌, ◌∙◌, ◌∷◌, ◌≡◌, ◌≢◌, ◌≤◌}
 use Rattle.std.proofs.lemmas.Bool.{eq-eqb, ne_eqb}
 use Rattle.std.specs.List.{filter, find, remove}
 use Rattle.lists.specs.Living.{living}
@@ -106,7 +107,8 @@ ranked (Some x ∷ slots) (suc i) letter is =
     }
 
 -- a letter in a slot is counted
-pub counted_at : (slots : List (Option Letter)) (i : ℕ) (letter : Letter) (x : ℕ) → get_or slots i None ≡ Some letter → is_letter_of x letter ≡ true → 1 ≤ letters_of (living slots) x
+pub counted_at : (slots : List (Option Letter)) (i : ℕ) (letter : Letter) (x : ℕ) → get_or slots i None ≡ Some letter
+    → is_letter_of x letter ≡ true → 1 ≤ letters_of (living slots) x
 counted_at [] i letter x is its = absurd (cc)
 counted_at (None ∷ slots) zero letter x is its = absurd (cc)
 counted_at (None ∷ slots) (suc i) letter x is its = counted_at slots i letter x is its
@@ -125,7 +127,8 @@ module _ (x : ℕ) (q : Letter → Bool) (only : (l : Letter) → q l ≡ true �
       by_test rest true e = absurd (omega (arith, none, count-cons (is_letter_of x) l letters, ap one (only l e)))
       by_test rest false e = rw e (rest (omega (arith, none, count-cons (is_letter_of x) l letters)))
 
-  pub find_only : (slots : List (Option Letter)) (i : ℕ) (letter : Letter) → get_or slots i None ≡ Some letter → is_letter_of x letter ≡ true → letters_of (living slots) x ≤ 1 → find q (living slots) ≡ cond (q letter) (Some letter) None
+  pub find_only : (slots : List (Option Letter)) (i : ℕ) (letter : Letter) → get_or slots i None ≡ Some letter
+      → is_letter_of x letter ≡ true → letters_of (living slots) x ≤ 1 → find q (living slots) ≡ cond (q letter) (Some letter) None
   find_only [] i letter is its once = absurd (cc)
   find_only (None ∷ slots) zero letter is its once = absurd (cc)
   find_only (None ∷ slots) (suc i) letter is its once = find_only slots i letter is its once
@@ -135,7 +138,8 @@ module _ (x : ℕ) (q : Letter → Bool) (only : (l : Letter) → q l ≡ true �
       rw (none, same) refl
   find_only (Some y ∷ slots) (suc i) letter is its once = by_test (λ later. find_only slots i letter is its later) (q y) refl
     where
-      by_test : (letters_of (living slots) x ≤ 1 → find q (living slots) ≡ cond (q letter) (Some letter) None) → (b : Bool) → q y ≡ b → find q (y ∷ living slots) ≡ cond (q letter) (Some letter) None
+      by_test : (letters_of (living slots) x ≤ 1 → find q (living slots) ≡ cond (q letter) (Some letter) None) → (b : Bool) → q y ≡ b
+          → find q (y ∷ living slots) ≡ cond (q letter) (Some letter) None
       by_test rest true e = absurd (omega (arith, once, count-cons (is_letter_of x) y (living slots), ap one (only y e), counted_at slots i letter x is its))
       by_test rest false e = rw e (rest (omega (arith, once, count-cons (is_letter_of x) y (living slots))))
 
@@ -147,7 +151,8 @@ module _ (p : Letter → Bool) where
   keys_above n k [] less = refl
   keys_above n k (o ∷ slots) less = by_test (keys_above (suc n) k slots (omega (arith, less))) (passes p o)
     where
-      by_test : without k (keys_from (suc n) p slots) ≡ keys_from (suc n) p slots → (b : Bool) → without k (cond b (n ∷ keys_from (suc n) p slots) (keys_from (suc n) p slots)) ≡ cond b (n ∷ keys_from (suc n) p slots) (keys_from (suc n) p slots)
+      by_test : without k (keys_from (suc n) p slots) ≡ keys_from (suc n) p slots → (b : Bool)
+          → without k (cond b (n ∷ keys_from (suc n) p slots) (keys_from (suc n) p slots)) ≡ cond b (n ∷ keys_from (suc n) p slots) (keys_from (suc n) p slots)
       by_test rest true =
           let other : eqb n k ≡ false = ne_eqb n k (λ same. absurd (omega (arith, same, less))) in
           rw other (ap (λ ks. n ∷ ks) rest)
@@ -158,19 +163,23 @@ module _ (p : Letter → Bool) where
   keys_below n k [] less = refl
   keys_below n k (o ∷ slots) less = by_test (keys_below (suc n) k slots (omega (arith, less))) (passes p o)
     where
-      by_test : without k (keys_from (suc n) p slots) ≡ keys_from (suc n) p slots → (b : Bool) → without k (cond b (n ∷ keys_from (suc n) p slots) (keys_from (suc n) p slots)) ≡ cond b (n ∷ keys_from (suc n) p slots) (keys_from (suc n) p slots)
+      by_test : without k (keys_from (suc n) p slots) ≡ keys_from (suc n) p slots → (b : Bool)
+          → without k (cond b (n ∷ keys_from (suc n) p slots) (keys_from (suc n) p slots)) ≡ cond b (n ∷ keys_from (suc n) p slots) (keys_from (suc n) p slots)
       by_test rest true =
           let other : eqb n k ≡ false = ne_eqb n k (λ same. absurd (omega (arith, same, less))) in
           rw other (ap (λ ks. n ∷ ks) rest)
       by_test rest false = rest
 
-  pub keys-push : (n k : ℕ) (slots : List (Option Letter)) (o : Option Letter) → k ≡ n + length slots → keys_from n p (slots ++ o ∷ []) ≡ keys_from n p slots ++ cond (passes p o) (k ∷ []) []
+  pub keys-push : (n k : ℕ) (slots : List (Option Letter)) (o : Option Letter) → k ≡ n + length slots
+      → keys_from n p (slots ++ o ∷ []) ≡ keys_from n p slots ++ cond (passes p o) (k ∷ []) []
   keys-push n k [] o is =
       let same : n ≡ k = omega (arith, is) in
       rw same refl
   keys-push n k (x ∷ slots) o is = by_test (keys-push (suc n) k slots o (omega (arith, is))) (passes p x)
     where
-      by_test : keys_from (suc n) p (slots ++ o ∷ []) ≡ keys_from (suc n) p slots ++ cond (passes p o) (k ∷ []) [] → (b : Bool) → cond b (n ∷ keys_from (suc n) p (slots ++ o ∷ [])) (keys_from (suc n) p (slots ++ o ∷ [])) ≡ cond b (n ∷ keys_from (suc n) p slots) (keys_from (suc n) p slots) ++ cond (passes p o) (k ∷ []) []
+      by_test : keys_from (suc n) p (slots ++ o ∷ []) ≡ keys_from (suc n) p slots ++ cond (passes p o) (k ∷ []) [] → (b : Bool)
+          → cond b (n ∷ keys_from (suc n) p (slots ++ o ∷ [])) (keys_from (suc n) p (slots ++ o ∷ []))
+          ≡ cond b (n ∷ keys_from (suc n) p slots) (keys_from (suc n) p slots) ++ cond (passes p o) (k ∷ []) []
       by_test rest true = ap (λ ks. n ∷ ks) rest
       by_test rest false = rest
 
@@ -178,35 +187,44 @@ module _ (p : Letter → Bool) where
   keys-nothing n [] = refl
   keys-nothing n (x ∷ slots) = by_test (keys-nothing (suc n) slots) (passes p x)
     where
-      by_test : keys_from (suc n) p (slots ++ None ∷ []) ≡ keys_from (suc n) p slots → (b : Bool) → cond b (n ∷ keys_from (suc n) p (slots ++ None ∷ [])) (keys_from (suc n) p (slots ++ None ∷ [])) ≡ cond b (n ∷ keys_from (suc n) p slots) (keys_from (suc n) p slots)
+      by_test : keys_from (suc n) p (slots ++ None ∷ []) ≡ keys_from (suc n) p slots → (b : Bool)
+          → cond b (n ∷ keys_from (suc n) p (slots ++ None ∷ [])) (keys_from (suc n) p (slots ++ None ∷ []))
+          ≡ cond b (n ∷ keys_from (suc n) p slots) (keys_from (suc n) p slots)
       by_test rest true = ap (λ ks. n ∷ ks) rest
       by_test rest false = rest
 
   -- what a slot has from now on doesn't pass
-  pub keys-out : (n k : ℕ) (slots : List (Option Letter)) (i : ℕ) (o : Option Letter) → k ≡ n + i → passes p o ≡ false → keys_from n p (set slots i o) ≡ without k (keys_from n p slots)
+  pub keys-out : (n k : ℕ) (slots : List (Option Letter)) (i : ℕ) (o : Option Letter) → k ≡ n + i → passes p o ≡ false
+      → keys_from n p (set slots i o) ≡ without k (keys_from n p slots)
   keys-out n k [] i o is out = refl
   keys-out n k (x ∷ slots) zero o is out =
       let same : k ≡ n = omega (arith, is) in
       rw (out, same) (by_test (keys_above (suc n) n slots (omega arith)) (passes p x))
     where
-      by_test : without n (keys_from (suc n) p slots) ≡ keys_from (suc n) p slots → (b : Bool) → keys_from (suc n) p slots ≡ without n (cond b (n ∷ keys_from (suc n) p slots) (keys_from (suc n) p slots))
+      by_test : without n (keys_from (suc n) p slots) ≡ keys_from (suc n) p slots → (b : Bool)
+          → keys_from (suc n) p slots ≡ without n (cond b (n ∷ keys_from (suc n) p slots) (keys_from (suc n) p slots))
       by_test rest true = rw (eq-eqb n n refl) (sym rest)
       by_test rest false = sym rest
   keys-out n k (x ∷ slots) (suc i) o is out = by_test (keys-out (suc n) k slots i o (omega (arith, is)) out) (passes p x)
     where
-      by_test : keys_from (suc n) p (set slots i o) ≡ without k (keys_from (suc n) p slots) → (b : Bool) → cond b (n ∷ keys_from (suc n) p (set slots i o)) (keys_from (suc n) p (set slots i o)) ≡ without k (cond b (n ∷ keys_from (suc n) p slots) (keys_from (suc n) p slots))
+      by_test : keys_from (suc n) p (set slots i o) ≡ without k (keys_from (suc n) p slots) → (b : Bool)
+          → cond b (n ∷ keys_from (suc n) p (set slots i o)) (keys_from (suc n) p (set slots i o))
+          ≡ without k (cond b (n ∷ keys_from (suc n) p slots) (keys_from (suc n) p slots))
       by_test rest true =
           let other : eqb n k ≡ false = ne_eqb n k (λ same. absurd (omega (arith, same, is))) in
           rw other (ap (λ ks. n ∷ ks) rest)
       by_test rest false = rest
 
   -- what a slot has passes from now on as it did
-  pub keys-alike : (n : ℕ) (slots : List (Option Letter)) (i : ℕ) (o : Option Letter) → passes p o ≡ passes p (get_or slots i None) → keys_from n p (set slots i o) ≡ keys_from n p slots
+  pub keys-alike : (n : ℕ) (slots : List (Option Letter)) (i : ℕ) (o : Option Letter) → passes p o ≡ passes p (get_or slots i None)
+      → keys_from n p (set slots i o) ≡ keys_from n p slots
   keys-alike n [] i o alike = refl
   keys-alike n (x ∷ slots) zero o alike = rw alike refl
   keys-alike n (x ∷ slots) (suc i) o alike = by_test (keys-alike (suc n) slots i o alike) (passes p x)
     where
-      by_test : keys_from (suc n) p (set slots i o) ≡ keys_from (suc n) p slots → (b : Bool) → cond b (n ∷ keys_from (suc n) p (set slots i o)) (keys_from (suc n) p (set slots i o)) ≡ cond b (n ∷ keys_from (suc n) p slots) (keys_from (suc n) p slots)
+      by_test : keys_from (suc n) p (set slots i o) ≡ keys_from (suc n) p slots → (b : Bool)
+          → cond b (n ∷ keys_from (suc n) p (set slots i o)) (keys_from (suc n) p (set slots i o))
+          ≡ cond b (n ∷ keys_from (suc n) p slots) (keys_from (suc n) p slots)
       by_test rest true = ap (λ ks. n ∷ ks) rest
       by_test rest false = rest
 
@@ -216,7 +234,8 @@ module _ (p : Letter → Bool) where
   first_none n (None ∷ slots) none = first_none (suc n) slots none
   first_none n (Some x ∷ slots) none = by_test (λ later. first_none (suc n) slots later) (p x) refl none
     where
-      by_test : (slice_get (keys_from (suc n) p slots) 0 ≡ None → find p (living slots) ≡ None) → (b : Bool) → p x ≡ b → slice_get (cond b (n ∷ keys_from (suc n) p slots) (keys_from (suc n) p slots)) 0 ≡ None → find p (x ∷ living slots) ≡ None
+      by_test : (slice_get (keys_from (suc n) p slots) 0 ≡ None → find p (living slots) ≡ None) → (b : Bool) → p x ≡ b
+          → slice_get (cond b (n ∷ keys_from (suc n) p slots) (keys_from (suc n) p slots)) 0 ≡ None → find p (x ∷ living slots) ≡ None
       by_test rest true e none = absurd (cc)
       by_test rest false e none = rw e (rest none)
 
@@ -224,7 +243,9 @@ module _ (p : Letter → Bool) where
   first_some n k i [] is some = absurd (cc)
   first_some n k i (o ∷ slots) is some = by_test (λ j at later. first_some (suc n) k j slots at later) o i (passes p o) refl is some
     where
-      by_test : ((j : ℕ) → k ≡ suc n + j → slice_get (keys_from (suc n) p slots) 0 ≡ Some k → IsFirstAt p slots j) → (o : Option Letter) (i : ℕ) (b : Bool) → passes p o ≡ b → k ≡ n + i → slice_get (cond b (n ∷ keys_from (suc n) p slots) (keys_from (suc n) p slots)) 0 ≡ Some k → IsFirstAt p (o ∷ slots) i
+      by_test : ((j : ℕ) → k ≡ suc n + j → slice_get (keys_from (suc n) p slots) 0 ≡ Some k → IsFirstAt p slots j)
+          → (o : Option Letter) (i : ℕ) (b : Bool) → passes p o ≡ b → k ≡ n + i
+          → slice_get (cond b (n ∷ keys_from (suc n) p slots) (keys_from (suc n) p slots)) 0 ≡ Some k → IsFirstAt p (o ∷ slots) i
       by_test rest None i true e is some = absurd (cc)
       by_test rest (Some x) zero true e is some = record { within = omega arith; passed = e; first = rw e refl }
       by_test rest (Some x) (suc i) true e is some = let same : n ≡ k = cc in absurd (omega (arith, same, is))
@@ -234,7 +255,8 @@ module _ (p : Letter → Bool) where
           low m k [] some = absurd (cc)
           low m k (o ∷ slots) some = by_pass (λ later. low (suc m) k slots later) (passes p o) some
             where
-              by_pass : (slice_get (keys_from (suc m) p slots) 0 ≡ Some k → suc m ≤ k) → (b : Bool) → slice_get (cond b (m ∷ keys_from (suc m) p slots) (keys_from (suc m) p slots)) 0 ≡ Some k → m ≤ k
+              by_pass : (slice_get (keys_from (suc m) p slots) 0 ≡ Some k → suc m ≤ k) → (b : Bool)
+                  → slice_get (cond b (m ∷ keys_from (suc m) p slots) (keys_from (suc m) p slots)) 0 ≡ Some k → m ≤ k
               by_pass rest true some = let same : m ≡ k = cc in omega (arith, same)
               by_pass rest false some = omega (arith, rest some)
       by_test rest None (suc i) false e is some =
@@ -251,5 +273,6 @@ here_at [] i o within here = absurd (omega (arith, within))
 here_at (x ∷ slots) zero o within here = sym here
 here_at (x ∷ slots) (suc i) o within here = here_at slots i o (omega (arith, within)) here
 
-pub some_at : (slots : List (Option Letter)) (i : ℕ) (o : Option Letter) (letter : Letter) → i < length slots → o ≡ get_or slots i o → o ≡ Some letter → get_or slots i None ≡ Some letter
+pub some_at : (slots : List (Option Letter)) (i : ℕ) (o : Option Letter) (letter : Letter) → i < length slots → o ≡ get_or slots i o
+    → o ≡ Some letter → get_or slots i None ≡ Some letter
 some_at slots i o letter within here is = here_at slots i o within here ∙ is

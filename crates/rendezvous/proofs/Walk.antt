@@ -12,10 +12,12 @@ pub listed : (n t : ℕ) (slots : List (Option Letter)) → keys_from n (is_to t
 listed n t slots none = ap (map (sender_of n slots)) (sym none) ∙ told n (is_to t) slots
 
 -- after the last key all senders were told
-pub whole : (n t : ℕ) (slots : List (Option Letter)) (i : ℕ) (ids : List ℕ) → slice_get (keys_from n (is_to t) slots) i ≡ None → ids ≡ map (sender_of n slots) (take i (keys_from n (is_to t) slots)) → ids ≡ senders_to (living slots) t
+pub whole : (n t : ℕ) (slots : List (Option Letter)) (i : ℕ) (ids : List ℕ) → slice_get (keys_from n (is_to t) slots) i ≡ None
+    → ids ≡ map (sender_of n slots) (take i (keys_from n (is_to t) slots)) → ids ≡ senders_to (living slots) t
 whole n t slots i ids none is = is ∙ ap (map (sender_of n slots)) (take_whole (keys_from n (is_to t) slots) i none) ∙ told n (is_to t) slots
 
-pub sender_known : (n : ℕ) (slots : List (Option Letter)) (key from : ℕ) → option_map (λ (l : Letter). l.from) (get_or slots (key - n) None) ≡ Some from → from ≡ sender_of n slots key
+pub sender_known : (n : ℕ) (slots : List (Option Letter)) (key from : ℕ)
+    → option_map (λ (l : Letter). l.from) (get_or slots (key - n) None) ≡ Some from → from ≡ sender_of n slots key
 sender_known n slots key from is = by_slot (get_or slots (key - n) None) refl is
   where
     by_slot : (o : Option Letter) → get_or slots (key - n) None ≡ o → option_map (λ (l : Letter). l.from) o ≡ Some from → from ≡ sender_of n slots key
@@ -23,7 +25,8 @@ sender_known n slots key from is = by_slot (get_or slots (key - n) None) refl is
     by_slot (Some l) at is = let same : l.from ≡ from = cc in rw at (sym same)
 
 -- a key is of a slot that has a letter
-pub sender_there : (n t : ℕ) (slots : List (Option Letter)) (i key : ℕ) {P : Type 0} → slice_get (keys_from n (is_to t) slots) i ≡ Some key → option_map (λ (l : Letter). l.from) (get_or slots (key - n) None) ≡ None → P
+pub sender_there : (n t : ℕ) (slots : List (Option Letter)) (i key : ℕ) {P : Type 0} → slice_get (keys_from n (is_to t) slots) i ≡ Some key
+    → option_map (λ (l : Letter). l.from) (get_or slots (key - n) None) ≡ None → P
 sender_there n t slots i key is none =
     let k = a_key n (is_to t) slots i key is in
     let one = has_one (is_to t) (get_or slots k.place None) k.passed in

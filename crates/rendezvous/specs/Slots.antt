@@ -4,7 +4,8 @@ use Rattle.lwp_types.specs.Messages.{is_letter_of, is_open, is_to, letters_of}
 use Rattle.lwp_types.specs.State.{passes}
 use Rattle.lwp_types.specs.declared.rows.Letter.{Letter}
 use Rattle.std.specs.List.{find}
-use Rattle.std.specs.Prelude.{Bool, List, None, Option, Some, [], if◌then◌else◌, length, slice_index_or, slice_set, suc, true, ℕ, ◌&&◌, ◌++◌, ◌<◌, ◌∷◌, ◌≡◌, ◌≢◌, ◌≤◌}
+use Rattle.std.specs.Prelude.{Bool, List, None, Option, Some, [], if◌then◌else◌, length, slice_index_or}
+use Rattle.std.specs.Prelude.{slice_set, suc, true, ℕ, ◌&&◌, ◌++◌, ◌<◌, ◌∷◌, ◌≡◌, ◌≢◌, ◌≤◌}
 use Rattle.lists.specs.Living.{living}
 
 -- what the slot has

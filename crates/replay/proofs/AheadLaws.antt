@@ -5,7 +5,8 @@ use Rattle.replay.proofs.LineLaws.{count-append, count-cons, one}
 use Rattle.replay.specs.Following.{Departs, Following, IsUnlike, bytes_told}
 use Rattle.replay.specs.Recorded.{is_newline, line_count}
 use Rattle.std.specs.Int.{from_le_bytes, to_le_bytes, w64}
-use Rattle.std.proofs.Common.{Bool, List, [], ap, append-nil, append_assoc, arith, drop, drop-drop, false, get_or, inl, inr, length, length-append, length-drop, length-take, refl, subst, suc, sym, take, take-add, true, zero, ℕ, ◌++◌, ◌+◌, ◌-◌, ◌<◌, ◌∙◌, ◌∷◌, ◌≡◌, ◌≢◌, ◌≤◌}
+use Rattle.std.proofs.Common.{Bool, List, [], ap, append-nil, append_assoc, arith, drop, drop-drop, false, get_or, inl, inr, length, length-append, length-drop}
+use Rattle.std.proofs.Common.{length-take, refl, subst, suc, sym, take, take-add, true, zero, ℕ, ◌++◌, ◌+◌, ◌-◌, ◌<◌, ◌∙◌, ◌∷◌, ◌≡◌, ◌≢◌, ◌≤◌}
 use Rattle.std.specs.Prelude.{MatchBool, nat_eq}
 use Rattle.std.proofs.lemmas.Bool.{eq-eqb, eqb-true}
 use Rattle.std.proofs.lemmas.List.{drop-take, take_rest}
@@ -17,7 +18,8 @@ pub same-on : (a b : List ℕ) (i k : ℕ) → take i a ≡ take i b → take k 
 same-on a b i k front behind = take-add i k a ∙ ap (λ l. l ++ take k (drop i a)) front ∙ ap (λ l. take i b ++ l) behind ∙ sym (take-add i k b)
 
 pub same-next : (a b : List ℕ) (i : ℕ) → i < length a → i < length b → take i a ≡ take i b → get_or a i 0 ≡ get_or b i 0 → take (i + 1) a ≡ take (i + 1) b
-same-next a b i low low_other front same = take-next a i low ∙ ap (λ l. l ++ get_or a i 0 ∷ []) front ∙ ap (λ x. take i b ++ x ∷ []) same ∙ sym (take-next b i low_other)
+same-next a b i low low_other front same = take-next a i low ∙ ap (λ l. l ++ get_or a i 0 ∷ []) front ∙ ap (λ x. take i b ++ x ∷ []) same
+    ∙ sym (take-next b i low_other)
 
 -- the bytes in the midst of both
 pub middle-same : (a b : List ℕ) (i k : ℕ) → i + k ≤ length b → take (length b) a ≡ b → take k (drop i a) ≡ take k (drop i b)
@@ -38,10 +40,12 @@ departs-short a b short same = omega (arith, short, ap length same, length-take 
 
 -- ---- eight bytes as a number
 
-pub departs-number : (a b : List ℕ) (i x y : ℕ) → i + 8 ≤ length b → x ≡ from_le_bytes w64 (take 8 (drop i a)) → y ≡ from_le_bytes w64 (take 8 (drop i b)) → x ≢ y → Departs a b
+pub departs-number : (a b : List ℕ) (i x y : ℕ) → i + 8 ≤ length b → x ≡ from_le_bytes w64 (take 8 (drop i a))
+    → y ≡ from_le_bytes w64 (take 8 (drop i b)) → x ≢ y → Departs a b
 departs-number a b i x y low one other apart same = apart (one ∙ ap (from_le_bytes w64) (middle-same a b i 8 low same) ∙ sym other)
 
-pub same-number : (a b : List ℕ) (i x y : ℕ) → take i a ≡ take i b → to_le_bytes w64 x ≡ take 8 (drop i a) → to_le_bytes w64 y ≡ take 8 (drop i b) → x ≡ y → take (i + 8) a ≡ take (i + 8) b
+pub same-number : (a b : List ℕ) (i x y : ℕ) → take i a ≡ take i b → to_le_bytes w64 x ≡ take 8 (drop i a)
+    → to_le_bytes w64 y ≡ take 8 (drop i b) → x ≡ y → take (i + 8) a ≡ take (i + 8) b
 same-number a b i x y front one other same = same-on a b i 8 front (sym one ∙ ap (to_le_bytes w64) same ∙ other)
 
 -- the last eight
@@ -50,7 +54,8 @@ pub same-last : (a b : List ℕ) (i x y : ℕ) → 8 ≤ length b → length b -
 same-last a b i x y long past front one other same =
     let n = length b - 8 in
     let before : take n a ≡ take n b = sym (fewer n i a past) ∙ ap (take n) front ∙ fewer n i b past in
-    ap (λ k. take k a) {y = n + 8} (omega (arith, long)) ∙ same-number a b n x y before one other same ∙ ap (λ k. take k b) {y = length b} (omega (arith, long)) ∙ all-taken b
+    ap (λ k. take k a) {y = n + 8} (omega (arith, long)) ∙ same-number a b n x y before one other same
+    ∙ ap (λ k. take k b) {y = length b} (omega (arith, long)) ∙ all-taken b
 
 -- by these the whole front is known
 pub last-eight : (a b : List ℕ) (i x y : ℕ) → 8 ≤ length b → length b - 8 ≤ i → take i a ≡ take i b
@@ -76,8 +81,10 @@ count-few (x ∷ xs) = omega (arith, count-cons x xs, one-few (is_newline x), co
 pub count-front : (xs : List ℕ) (n : ℕ) → line_count (take n xs) ≤ n
 count-front xs n = omega (arith, count-few (take n xs), length-take n xs)
 
-pub count-next : (xs : List ℕ) (i n : ℕ) → i < length xs → n ≡ line_count (take i xs) → (t : Bool) → is_newline (get_or xs i 0) ≡ t → n + one t ≡ line_count (take (i + 1) xs)
-count-next xs i n low so_far t is = omega (arith, so_far, ap line_count (take-next xs i low), count-append (take i xs) (get_or xs i 0 ∷ []), count-cons (get_or xs i 0) [], ap one is)
+pub count-next : (xs : List ℕ) (i n : ℕ) → i < length xs → n ≡ line_count (take i xs) → (t : Bool) → is_newline (get_or xs i 0) ≡ t
+    → n + one t ≡ line_count (take (i + 1) xs)
+count-next xs i n low so_far t is =
+    omega (arith, so_far, ap line_count (take-next xs i low), count-append (take i xs) (get_or xs i 0 ∷ []), count-cons (get_or xs i 0) [], ap one is)
 
 -- ---- what a step has told
 
@@ -89,8 +96,10 @@ pub count-on : (xs : List ℕ) (i k n m : ℕ) → n ≡ line_count (take i xs) 
 count-on xs i k n m front behind = omega (arith, front, behind, ap line_count (take-add i k xs), count-append (take i xs) (take k (drop i xs)))
 
 -- all that are left
-pub count-rest : (xs : List ℕ) (i n m : ℕ) → i ≤ length xs → n ≡ line_count (take i xs) → m ≡ line_count (take (length xs - i) (drop i xs)) → n + m ≡ line_count xs
-count-rest xs i n m within front behind = count-on xs i (length xs - i) n m front behind ∙ ap (λ k. line_count (take k xs)) {y = length xs} (omega (arith, within)) ∙ ap line_count (all-taken xs)
+pub count-rest : (xs : List ℕ) (i n m : ℕ) → i ≤ length xs → n ≡ line_count (take i xs) → m ≡ line_count (take (length xs - i) (drop i xs))
+    → n + m ≡ line_count xs
+count-rest xs i n m within front behind = count-on xs i (length xs - i) n m front behind
+    ∙ ap (λ k. line_count (take k xs)) {y = length xs} (omega (arith, within)) ∙ ap line_count (all-taken xs)
 
 module _ (rest : List ℕ) (ahead : ℕ) (low : ahead ≤ length rest) where
   -- all of it was recorded
@@ -114,11 +123,13 @@ module _ (rest : List ℕ) (ahead : ℕ) (low : ahead ≤ length rest) where
 
   -- so much more
   pub ahead-on : (more : List ℕ) → take (length more) (drop ahead rest) ≡ more → take (ahead + length more) rest ++ [] ≡ (take ahead rest ++ []) ++ more
-  ahead-on more same = append-nil (take (ahead + length more) rest) ∙ take-add ahead (length more) rest ∙ ap (λ l. take ahead rest ++ l) same ∙ ap (λ l. l ++ more) (sym (append-nil (take ahead rest)))
+  ahead-on more same = append-nil (take (ahead + length more) rest) ∙ take-add ahead (length more) rest
+      ∙ ap (λ l. take ahead rest ++ l) same ∙ ap (λ l. l ++ more) (sym (append-nil (take ahead rest)))
 
 -- more bytes after some that differ
 pub departs-on : (rest bytes more : List ℕ) → Departs rest bytes → Departs rest (bytes ++ more)
-departs-on rest bytes more departs same = departs (sym (fewer (length bytes) (length (bytes ++ more)) rest (omega (arith, length-append bytes more))) ∙ ap (take (length bytes)) same ∙ front bytes more)
+departs-on rest bytes more departs same = departs
+    (sym (fewer (length bytes) (length (bytes ++ more)) rest (omega (arith, length-append bytes more))) ∙ ap (take (length bytes)) same ∙ front bytes more)
   where
     front : (xs ys : List ℕ) → take (length xs) (xs ++ ys) ≡ xs
     front [] ys = refl
@@ -176,7 +187,10 @@ pub passes : (f : Following) (recorded extra : List ℕ) (at ahead ticks faults 
     → (take (length f.step) (drop f.at f.recorded) ≡ f.step) × (seen recorded extra (at + ahead) ticks faults ≡ told_on f)
 passes f recorded extra at ahead ticks faults is none low =
     subst (λ (g : Following). (take (length g.step) (drop g.at g.recorded) ≡ g.step) × (seen recorded extra (at + ahead) ticks faults ≡ told_on g)) is
-    (subst (λ (e : List ℕ). (take (length (take ahead rest ++ e)) rest ≡ take ahead rest ++ e) × (seen recorded e (at + ahead) ticks faults ≡ told_on (seen recorded (take ahead rest ++ e) at ticks faults))) (sym none)
+    (subst
+    (λ (e : List ℕ). (take (length (take ahead rest ++ e)) rest ≡ take ahead rest ++ e)
+    × (seen recorded e (at + ahead) ticks faults ≡ told_on (seen recorded (take ahead rest ++ e) at ticks faults)))
+    (sym none)
     (ahead-same rest ahead within, moved))
   where
     rest : List ℕ
@@ -191,7 +205,8 @@ passes f recorded extra at ahead ticks faults is none low =
     moved : seen recorded [] (at + ahead) ticks faults ≡ told_on (seen recorded (take ahead rest ++ []) at ticks faults)
     moved = ap (λ n. with_lines (at + n) (line_count (take (at + ahead) recorded))) (sym (ahead-length rest ahead within))
         ∙ ap (λ n. with_lines (at + length (take ahead rest ++ [])) n)
-        (ap line_count (take-add at ahead recorded) ∙ count-append (take at recorded) (take ahead rest) ∙ ap (λ l. line_count (take at recorded) + line_count l) (sym (append-nil (take ahead rest))))
+        (ap line_count (take-add at ahead recorded) ∙ count-append (take at recorded) (take ahead rest)
+        ∙ ap (λ l. line_count (take at recorded) + line_count l) (sym (append-nil (take ahead rest))))
 
 -- where not all of it was
 pub stays : (f : Following) (recorded extra : List ℕ) (at ahead ticks faults : ℕ)

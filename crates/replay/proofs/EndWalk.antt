@@ -27,7 +27,8 @@ use Rattle.trace_text.specs.Lines.{end_text}
 use Rattle.trace_text.specs.declared.ends.Halt.{Halt}
 use Rattle.std.specs.List.{list_any, range_with_len}
 use Rattle.std.specs.Prelude.{IsTrue, Option, if◌then◌else◌, is_some, nat_le, nat_lt, not, slice_index_or, unwrap_or, ◌&&◌, ◌==◌, ◌||◌}
-use Rattle.std.proofs.Common.{Bool, List, None, Some, [], ap, append-nil, arith, cond, drop, false, inl, inr, length, map, refl, slice_get, subst, suc, sym, take, take-append-drop, true, zero, ℕ, ◌++◌, ◌+◌, ◌<◌, ◌∙◌, ◌∷◌, ◌≡◌, ◌≤◌, ◌⊎◌}
+use Rattle.std.proofs.Common.{Bool, List, None, Some, [], ap, append-nil, arith, cond, drop, false, inl, inr, length, map, refl, slice_get}
+use Rattle.std.proofs.Common.{subst, suc, sym, take, take-append-drop, true, zero, ℕ, ◌++◌, ◌+◌, ◌<◌, ◌∙◌, ◌∷◌, ◌≡◌, ◌≤◌, ◌⊎◌}
 use Rattle.std.proofs.lemmas.Bool.{cases_eq, eq-eqb, eqb-true}
 use Rattle.std.proofs.lemmas.Bool.Decides.{nat_tests}
 use Rattle.std.proofs.lemmas.List.Elements.{recursion_from_All}
@@ -39,9 +40,11 @@ use Rattle.trace_text.specs.declared.ends.Halt.TheVariants as halt
 
 module _ (f : ℕ → Option (List ℕ)) (test : ℕ → Bool) where
   -- where one gives something where the other holds
-  given-any : (a n : ℕ) → ((k : ℕ) → a ≤ k → k < a + n → is_some (f k) ≡ test k) → is_some (first_result f (range_with_len a n)) ≡ list_any test (range_with_len a n)
+  given-any : (a n : ℕ) → ((k : ℕ) → a ≤ k → k < a + n → is_some (f k) ≡ test k)
+      → is_some (first_result f (range_with_len a n)) ≡ list_any test (range_with_len a n)
   given-any a zero same = refl
-  given-any a (suc n) same = head (f a) (test a) (same a (omega arith) (omega arith)) (given-any (a + 1) n (λ k low under. same k (omega (arith, low)) (omega (arith, under))))
+  given-any a (suc n) same =
+      head (f a) (test a) (same a (omega arith) (omega arith)) (given-any (a + 1) n (λ k low under. same k (omega (arith, low)) (omega (arith, under))))
     where
       head : (o : Option (List ℕ)) (b : Bool) → is_some o ≡ b → is_some (first_result f (range_with_len (a + 1) n)) ≡ list_any test (range_with_len (a + 1) n)
           → is_some (or_else o (first_result f (range_with_len (a + 1) n))) ≡ (b || list_any test (range_with_len (a + 1) n))
@@ -59,7 +62,8 @@ given-some-at : (f : ℕ → Option (List ℕ)) (ns : List ℕ) → is_some (fir
 given-some-at f [] h = absurd (cc)
 given-some-at f (n ∷ ns) h = head (f n) refl h (given-some-at f ns)
   where
-    head : (o : Option (List ℕ)) → f n ≡ o → is_some (or_else o (first_result f ns)) ≡ true → (is_some (first_result f ns) ≡ true → (k : ℕ) × (is_some (f k) ≡ true)) → (k : ℕ) × (is_some (f k) ≡ true)
+    head : (o : Option (List ℕ)) → f n ≡ o → is_some (or_else o (first_result f ns)) ≡ true
+        → (is_some (first_result f ns) ≡ true → (k : ℕ) × (is_some (f k) ≡ true)) → (k : ℕ) × (is_some (f k) ≡ true)
     head (Some x) e h rest = (n, ap is_some e)
     head None e h rest = rest h
 
@@ -70,7 +74,8 @@ given-at f a (suc n) k low under h = head (f a) refl (elim (cases_eq a k) [
   | inr other ↦ inr (given-at f (a + 1) n k (omega (arith, low, other)) (omega (arith, under)) h)
 ])
   where
-    head : (o : Option (List ℕ)) → f a ≡ o → (is_some (f a) ≡ true) ⊎ (is_some (first_result f (range_with_len (a + 1) n)) ≡ true) → is_some (or_else o (first_result f (range_with_len (a + 1) n))) ≡ true
+    head : (o : Option (List ℕ)) → f a ≡ o → (is_some (f a) ≡ true) ⊎ (is_some (first_result f (range_with_len (a + 1) n)) ≡ true)
+        → is_some (or_else o (first_result f (range_with_len (a + 1) n))) ≡ true
     head (Some x) e w = refl
     head None e (inl h) = absurd (let bad : false ≡ true = sym (ap is_some e) ∙ h in cc)
     head None e (inr h) = h
@@ -88,7 +93,8 @@ module _ {B : Type 0} (asked : Asked B) (fit : IsFit asked) (at : Reach) (is : I
   left-client c some =
       let w = some-line (of c at.left) some in
       let before = of c (lines_of (pairs_of at.takes)) in
-      posted-by (length asked.clients) c (length before) w.0 asked.posts (recursion_from_All (λ (line : Line). line.client < length asked.clients) asked.posts fit.posters)
+      posted-by (length asked.clients) c (length before) w.0 asked.posts
+      (recursion_from_All (λ (line : Line). line.client < length asked.clients) asked.posts fit.posters)
       (ap (λ l. slice_get l (length before)) (sym (is.history.lines_are c)) ∙ behind-front before (of c at.left) 0 refl ∙ w.1)
 
   take-some : (e c : ℕ) → event_of asked.clients c ≡ e → some_first (of c at.left) ≡ true → is_some (take_by asked state.state.now at.left e c) ≡ true
@@ -105,45 +111,56 @@ module _ {B : Type 0} (asked : Asked B) (fit : IsFit asked) (at : Reach) (is : I
       mapped None h = absurd (cc)
       mapped (Some x) h = refl
 
-      by_test : (b : Bool) → (event_of asked.clients c == e) ≡ b → is_some (cond b (take_lines state.state.now e (next_of c at.left)) None) ≡ true → (event_of asked.clients c ≡ e) × (some_first (of c at.left) ≡ true)
+      by_test : (b : Bool) → (event_of asked.clients c == e) ≡ b
+          → is_some (cond b (take_lines state.state.now e (next_of c at.left)) None) ≡ true
+          → (event_of asked.clients c ≡ e) × (some_first (of c at.left) ≡ true)
       by_test true is h = (eqb-true (event_of asked.clients c) e is, mapped (next_of c at.left) h)
       by_test false is h = absurd (cc)
 
   event-wanted : (e : ℕ) → e < 256 → is_some (take_of asked at e) ≡ can_take state (full_shelves asked.clients at.left) e
   event-wanted e high = by_armed (is_takeable state e)
     where
-      inner : is_some (first_result (take_by asked state.state.now at.left e) (range_with_len 0 (length asked.clients))) ≡ is_some (first_left (full_shelves asked.clients at.left) e)
+      inner : is_some (first_result (take_by asked state.state.now at.left e) (range_with_len 0 (length asked.clients)))
+          ≡ is_some (first_left (full_shelves asked.clients at.left) e)
       inner = bool-same _ _
           (λ h. let w = given-some-at (take_by asked state.state.now at.left e) (range_with_len 0 (length asked.clients)) h in let x = some-take e w.0 w.1 in
           ap is_some (first-for asked.clients e at.left high) ∙ client-some asked.clients e at.left w.0 x.0 x.1)
           (λ h. let w = some-client asked.clients e at.left (ap is_some (sym (first-for asked.clients e at.left high)) ∙ h) in
-          given-at (take_by asked state.state.now at.left e) 0 (length asked.clients) w.0 (omega arith) (omega (arith, left-client w.0 w.2)) (take-some e w.0 w.1 w.2))
+          given-at (take_by asked state.state.now at.left e) 0 (length asked.clients) w.0 (omega arith) (omega (arith, left-client w.0 w.2))
+          (take-some e w.0 w.1 w.2))
 
-      by_armed : (b : Bool) → is_some (if b then first_result (take_by asked state.state.now at.left e) (range_with_len 0 (length asked.clients)) else None) ≡ (b && is_some (first_left (full_shelves asked.clients at.left) e))
+      by_armed : (b : Bool)
+          → is_some (if b then first_result (take_by asked state.state.now at.left e) (range_with_len 0 (length asked.clients)) else None)
+          ≡ (b && is_some (first_left (full_shelves asked.clients at.left) e))
       by_armed true = inner
       by_armed false = refl
 
   pub lowest-wanted : is_some (lowest_take asked at) ≡ is_wanted state (full_shelves asked.clients at.left)
   unfolding events
-  lowest-wanted = given-any (take_of asked at) (λ e. can_take state (full_shelves asked.clients at.left) e) 0 32 (λ e low under. event-wanted e (omega (arith, under)))
+  lowest-wanted = given-any (take_of asked at) (λ e. can_take state (full_shelves asked.clients at.left) e) 0 32
+      (λ e low under. event-wanted e (omega (arith, under)))
 
 -- ---- how many are left
 
-counts-are : (lines : List (List Line)) (left : List Line) (a : ℕ) (clients : List ℕ) → length lines ≡ length clients → ((c : ℕ) → c < length clients → slice_index_or lines c [] ≡ of (a + c) left) → map (λ l. length l) lines ≡ counts_from a clients left
+counts-are : (lines : List (List Line)) (left : List Line) (a : ℕ) (clients : List ℕ) → length lines ≡ length clients
+    → ((c : ℕ) → c < length clients → slice_index_or lines c [] ≡ of (a + c) left) → map (λ l. length l) lines ≡ counts_from a clients left
 counts-are [] left a [] long each = refl
 counts-are [] left a (e ∷ es) long each = absurd (omega (arith, long))
 counts-are (l ∷ ls) left a [] long each = absurd (omega (arith, long))
 counts-are (l ∷ ls) left a (e ∷ es) long each =
     let first : length l ≡ length (of a left) = ap length (each 0 (omega arith) ∙ ap (λ k. of k left) (omega arith)) in
     ap (λ n. n ∷ map (λ l. length l) ls) first
-    ∙ ap (λ ns. length (of a left) ∷ ns) (counts-are ls left (a + 1) es (omega (arith, long)) (λ c low. each (suc c) (omega (arith, low)) ∙ ap (λ k. of k left) (omega arith)))
+    ∙ ap (λ ns. length (of a left) ∷ ns)
+    (counts-are ls left (a + 1) es (omega (arith, long)) (λ c low. each (suc c) (omega (arith, low)) ∙ ap (λ k. of k left) (omega arith)))
 
 -- ---- the phase of an end
 
-over-phase : (s : State) (turns calls : ℕ) (h : Halt) (w : Bool) → phase_of s turns calls ≡ phase_of_halt h → (h ≡ halt.Stuck → w ≡ false) → (if s.ended then Some (halt.Ended s.status) else halt_if turns calls w (choice s)) ≡ Some h
+over-phase : (s : State) (turns calls : ℕ) (h : Halt) (w : Bool) → phase_of s turns calls ≡ phase_of_halt h → (h ≡ halt.Stuck → w ≡ false)
+    → (if s.ended then Some (halt.Ended s.status) else halt_if turns calls w (choice s)) ≡ Some h
 over-phase s turns calls h w is stuck = by_end s.ended (choice s) h is stuck
   where
-    by_end : (b : Bool) (o : Option ℕ) (h : Halt) → cond b (phase.Ended s.status) (phase_by turns calls o) ≡ phase_of_halt h → (h ≡ halt.Stuck → w ≡ false) → (if b then Some (halt.Ended s.status) else halt_if turns calls w o) ≡ Some h
+    by_end : (b : Bool) (o : Option ℕ) (h : Halt) → cond b (phase.Ended s.status) (phase_by turns calls o) ≡ phase_of_halt h
+        → (h ≡ halt.Stuck → w ≡ false) → (if b then Some (halt.Ended s.status) else halt_if turns calls w o) ≡ Some h
     by_end true o (halt.Ended status) is stuck = let same : s.status ≡ status = cc in ap (λ n. Some (halt.Ended n)) same
     by_end true o halt.Stuck is stuck = absurd (cc)
     by_end true o halt.Spent is stuck = absurd (cc)
@@ -152,7 +169,8 @@ over-phase s turns calls h w is stuck = by_end s.ended (choice s) h is stuck
     by_end false None halt.Spent is stuck = absurd (cc)
     by_end false (Some t) h is stuck = by_count (nat_lt calls turns) (nat_le turns calls) refl refl h is
       where
-        by_count : (a b : Bool) → nat_lt calls turns ≡ a → nat_le turns calls ≡ b → (h : Halt) → cond a phase.Turn phase.Spent ≡ phase_of_halt h → (if b then Some halt.Spent else None) ≡ Some h
+        by_count : (a b : Bool) → nat_lt calls turns ≡ a → nat_le turns calls ≡ b → (h : Halt)
+            → cond a phase.Turn phase.Spent ≡ phase_of_halt h → (if b then Some halt.Spent else None) ≡ Some h
         by_count true b one two (halt.Ended status) is = absurd (cc)
         by_count true b one two halt.Stuck is = absurd (cc)
         by_count true b one two halt.Spent is = absurd (cc)
@@ -161,7 +179,8 @@ over-phase s turns calls h w is stuck = by_end s.ended (choice s) h is stuck
         by_count false true one two (halt.Ended status) is = absurd (cc)
         by_count false true one two halt.Stuck is = absurd (cc)
 
-no-call-due : (s : State) (turns calls : ℕ) (h : Halt) → phase_of s turns calls ≡ phase_of_halt h → IsTrue (not s.ended && is_some (choice s)) → calls + 1 ≤ turns → ⊥
+no-call-due : (s : State) (turns calls : ℕ) (h : Halt) → phase_of s turns calls ≡ phase_of_halt h
+    → IsTrue (not s.ended && is_some (choice s)) → calls + 1 ≤ turns → ⊥
 no-call-due s turns calls h is due room = by_end s.ended (choice s) h is due
   where
     by_end : (b : Bool) (o : Option ℕ) (h : Halt) → cond b (phase.Ended s.status) (phase_by turns calls o) ≡ phase_of_halt h → IsTrue (not b && is_some o) → ⊥
@@ -175,14 +194,16 @@ no-call-due s turns calls h is due room = by_end s.ended (choice s) h is due
         by_count true one halt.Spent is = absurd (cc)
         by_count false one h is = grind (arith, nat_tests)
 
-over-idle : (b : Bool) (o : Option ℕ) (w : Bool) (status turns calls : ℕ) → b ≡ false → o ≡ None → w ≡ true → (if b then Some (halt.Ended status) else halt_if turns calls w o) ≡ None
+over-idle : (b : Bool) (o : Option ℕ) (w : Bool) (status turns calls : ℕ) → b ≡ false → o ≡ None → w ≡ true
+    → (if b then Some (halt.Ended status) else halt_if turns calls w o) ≡ None
 over-idle b o w status turns calls e f g = rw (e, f, g) refl
 
 none-some : {A : Type 0} (o : Option A) → is_some o ≡ false → o ≡ None
 none-some None h = refl
 none-some (Some x) h = absurd (cc)
 
-module _ {B : Type 0} (asked : Asked B) (bytes : List ℕ) (fit : IsFit asked) (speaks : Speaks asked) (p : Moment) (lines : ClientsLeft) (at n ticks : ℕ) (here : Going asked bytes p lines at n ticks)
+module _ {B : Type 0} (asked : Asked B) (bytes : List ℕ) (fit : IsFit asked) (speaks : Speaks asked) (p : Moment) (lines : ClientsLeft)
+    (at n ticks : ℕ) (here : Going asked bytes p lines at n ticks)
     (none : NoneTold lines (session_of asked.setting p).live.pod (drop at bytes) (length lines.clients)) where
   abbrev rest : List ℕ
   rest = drop at bytes
@@ -191,15 +212,20 @@ module _ {B : Type 0} (asked : Asked B) (bytes : List ℕ) (fit : IsFit asked) (
   at_here = record { takes = p.takes; calls = p.calls; left = here.left }
 
   no-take-here : (t : ℕ × Line) → Due asked.setting p (Some t) → IsNext asked p t → Agree 1 rest (told_line asked bytes p t) → ⊥
-  no-take-here t due next agree = no-take asked fit speaks p lines (record { recorded = bytes; at = at; lines = n; ticks = ticks; step = []; faults = 0 }) (record { recorded = bytes; at = at; lines = n; ticks = ticks; step = []; faults = 0 }) here refl none t due next agree
+  no-take-here t due next agree =
+      no-take asked fit speaks p lines (record { recorded = bytes; at = at; lines = n; ticks = ticks; step = []; faults = 0 })
+      (record { recorded = bytes; at = at; lines = n; ticks = ticks; step = []; faults = 0 }) here refl none t due next agree
 
-  pub walk-over : (h : Halt) → phase_of (session_of asked.setting p).live.pod.state asked.turns p.calls ≡ phase_of_halt h → (h ≡ halt.Stuck → lowest_in lines (session_of asked.setting p).live.pod ≡ None)
+  pub walk-over : (h : Halt) → phase_of (session_of asked.setting p).live.pod.state asked.turns p.calls ≡ phase_of_halt h
+      → (h ≡ halt.Stuck → lowest_in lines (session_of asked.setting p).live.pod ≡ None)
       → (v : Verdict) → EndSays (end_text asked.turns (counts_in lines) h) rest n v → Says asked bytes v p.takes p.calls
   walk-over h is stuck v says = by_verdict v says
     where
       halted : halt_at asked at_here ≡ Some h
-      halted = over-phase (session_of asked.setting p).live.pod.state asked.turns p.calls h (is_wanted (session_of asked.setting p).live.pod (full_shelves asked.clients here.left)) is
-          (λ e. sym (lowest-wanted asked fit at_here here.reached) ∙ ap is_some (sym (lowest-same asked p lines here.left here.same_clients here.kept) ∙ stuck e))
+      halted = over-phase (session_of asked.setting p).live.pod.state asked.turns p.calls h
+          (is_wanted (session_of asked.setting p).live.pod (full_shelves asked.clients here.left)) is
+          (λ e. sym (lowest-wanted asked fit at_here here.reached)
+          ∙ ap is_some (sym (lowest-same asked p lines here.left here.same_clients here.kept) ∙ stuck e))
 
       counts : counts_in lines ≡ counts_from 0 asked.clients here.left
       counts = counts-are lines.left here.left 0 asked.clients (here.kept.long ∙ ap length here.same_clients)
@@ -210,21 +236,34 @@ module _ {B : Type 0} (asked : Asked B) (bytes : List ℕ) (fit : IsFit asked) (
 
       by_verdict : (v : Verdict) → EndSays (end_text asked.turns (counts_in lines) h) rest n v → Says asked bytes v p.takes p.calls
       by_verdict (verdict.Same l) says =
-          let whole = same-end asked bytes fit speaks p lines at n ticks here h halted (end_text asked.turns (counts_in lines) h) (ap (λ cs. end_text asked.turns cs h) counts) says.0 in
-          let count : line_count bytes ≡ l = omega (arith, says.1, here.stands.count, ap line_count here.stands.begins, count-append (lines_until asked.setting asked.procs p) rest, ap line_count says.0) in
+          let whole = same-end asked bytes fit speaks p lines at n ticks here h halted (end_text asked.turns (counts_in lines) h)
+          (ap (λ cs. end_text asked.turns cs h) counts) says.0 in
+          let count : line_count bytes
+          ≡ l = omega (
+            arith,
+            says.1,
+            here.stands.count,
+            ap line_count here.stands.begins,
+            count-append (lines_until asked.setting asked.procs p) rest,
+            ap line_count says.0,
+          ) in
           subst (λ k. IsSame asked bytes k p.takes p.calls) count whole
       by_verdict (verdict.Differs line want got ended) says =
           let text = end_text asked.turns (counts_in lines) h in
           let b = says.bytes in
-          says-other asked bytes (verdict.Differs line want got ended) (n + line_count (take b text) + 1) (next_line (drop b text)) (next_line (drop b rest)) (is_ended (drop b rest)) p.takes p.calls
-          (subst (λ k. DiffersBy (verdict.Differs line want got ended) (n + k + 1) (next_line (drop b text)) (next_line (drop b rest)) (is_ended (drop b rest))) says.common.count says.differs)
+          says-other asked bytes (verdict.Differs line want got ended) (n + line_count (take b text) + 1) (next_line (drop b text))
+          (next_line (drop b rest)) (is_ended (drop b rest)) p.takes p.calls
+          (subst
+          (λ k. DiffersBy (verdict.Differs line want got ended) (n + k + 1) (next_line (drop b text)) (next_line (drop b rest)) (is_ended (drop b rest)))
+          says.common.count says.differs)
           (in-end asked bytes fit speaks n p rest here.stands at_here here.reached refl here.last h halted (take b text) (drop b text) (drop b rest)
           (sym tail-is ∙ sym (take-append-drop b text)) (sym (take-append-drop b rest) ∙ ap (λ l. l ++ drop b rest) (sym says.common.same))
           says.common.closed says.common.differs says.unlike
           (λ due room. no-call-due (session_of asked.setting p).live.pod.state asked.turns p.calls h is due room) no-take-here)
 
   -- a take was to come, and none is told
-  pub walk-missing : (line : List ℕ) → lowest_in lines (session_of asked.setting p).live.pod ≡ Some line → halt_at asked at_here ≡ None → (next_lines asked at_here rest ≡ line)
+  pub walk-missing : (line : List ℕ) → lowest_in lines (session_of asked.setting p).live.pod ≡ Some line → halt_at asked at_here ≡ None
+      → (next_lines asked at_here rest ≡ line)
       → (Due asked.setting p None → p.calls + 1 ≤ asked.turns → Agree 1 rest (move_lines asked.setting asked.procs p None) → ⊥)
       → (v : Verdict) → DiffersBy v (n + 1) (next_line line) (next_line rest) (is_ended rest) → Says asked bytes v p.takes p.calls
   walk-missing line lowest goes_on next no_call v says =
@@ -242,7 +281,8 @@ module _ {B : Type 0} (asked : Asked B) (bytes : List ℕ) (fit : IsFit asked) (
   idle-none : (s : State) (turns calls : ℕ) → phase_of s turns calls ≡ phase.Idle → (s.ended ≡ false) × (choice s ≡ None)
   idle-none s turns calls h = by_end s.ended (choice s) refl refl h
     where
-      by_end : (b : Bool) (o : Option ℕ) → s.ended ≡ b → choice s ≡ o → cond b (phase.Ended s.status) (phase_by turns calls o) ≡ phase.Idle → (s.ended ≡ false) × (choice s ≡ None)
+      by_end : (b : Bool) (o : Option ℕ) → s.ended ≡ b → choice s ≡ o → cond b (phase.Ended s.status) (phase_by turns calls o) ≡ phase.Idle
+          → (s.ended ≡ false) × (choice s ≡ None)
       by_end true o e f h = absurd (cc)
       by_end false None e f h = (e, f)
       by_end false (Some t) e f h = by_count (nat_lt calls turns) h
@@ -253,7 +293,8 @@ module _ {B : Type 0} (asked : Asked B) (bytes : List ℕ) (fit : IsFit asked) (
 
   -- a take was to come, as the phase of the pod and the recorded line say, and none is told
   pub walk-asked : (line : List ℕ) → lowest_in lines (session_of asked.setting p).live.pod ≡ Some line
-      → (phase_of (session_of asked.setting p).live.pod.state asked.turns p.calls ≡ phase.Idle) ⊎ ((phase_of (session_of asked.setting p).live.pod.state asked.turns p.calls ≡ phase.Turn) × (tells_take rest ≡ true))
+      → (phase_of (session_of asked.setting p).live.pod.state asked.turns p.calls ≡ phase.Idle)
+      ⊎ ((phase_of (session_of asked.setting p).live.pod.state asked.turns p.calls ≡ phase.Turn) × (tells_take rest ≡ true))
       → (v : Verdict) → DiffersBy v (n + 1) (next_line line) (next_line rest) (is_ended rest) → Says asked bytes v p.takes p.calls
   walk-asked line lowest (inl idle) v says =
       let s = (session_of asked.setting p).live.pod.state in
@@ -261,7 +302,9 @@ module _ {B : Type 0} (asked : Asked B) (bytes : List ℕ) (fit : IsFit asked) (
       let w = idle-none s asked.turns p.calls idle in
       let low : lowest_take asked at_here ≡ Some line = sym (lowest-same asked p lines here.left here.same_clients here.kept) ∙ lowest in
       let wanted : is_wanted pod (full_shelves asked.clients here.left) ≡ true = sym (lowest-wanted asked fit at_here here.reached) ∙ ap is_some low in
-      walk-missing line lowest (over-idle s.ended (choice s) (is_wanted pod (full_shelves asked.clients here.left)) s.status asked.turns p.calls w.0 w.1 wanted) (rw w.1 (ap (λ o. unwrap_or o (call_lines asked at_here)) low))
+      walk-missing line lowest
+      (over-idle s.ended (choice s) (is_wanted pod (full_shelves asked.clients here.left)) s.status asked.turns p.calls w.0 w.1 wanted) (rw w.1 (ap (λ o.
+      unwrap_or o (call_lines asked at_here)) low))
       (λ due room agree. idle-call s w.1 due) v says
     where
       idle-call : (s : State) → choice s ≡ None → IsTrue (not s.ended && is_some (choice s)) → ⊥

@@ -16,7 +16,8 @@ use Rattle.trace_text.specs.declared.ends.Halt.{Halt}
 use Rattle.trace_text.specs.declared.ends.Halt.TheVariants.{Ended, Spent}
 use Rattle.std.specs.List.{AllByRecursion, list_any, range_with_len}
 use Rattle.std.specs.Prelude.{Option, if◌then◌else◌, is_some, nat_le, ◌&&◌, ◌||◌}
-use Rattle.std.proofs.Common.{Bool, List, None, Some, [], ap, append_assoc, arith, cond, drop, eqb, false, length, refl, slice_get, subst, suc, sym, true, zero, ℕ, ⊎_elim, ◌++◌, ◌+◌, ◌-◌, ◌<◌, ◌∙◌, ◌∷◌, ◌≡◌, ◌≢◌, ◌≤◌}
+use Rattle.std.proofs.Common.{Bool, List, None, Some, [], ap, append_assoc, arith, cond, drop, eqb, false, length, refl, slice_get}
+use Rattle.std.proofs.Common.{subst, suc, sym, true, zero, ℕ, ⊎_elim, ◌++◌, ◌+◌, ◌-◌, ◌<◌, ◌∙◌, ◌∷◌, ◌≡◌, ◌≢◌, ◌≤◌}
 use Rattle.std.proofs.lemmas.Bool.{eqb-true}
 use Rattle.std.proofs.lemmas.Bool.Decides.{nat_tests}
 use Rattle.std.proofs.lemmas.List.Elements.{All-from_recursion, recursion_from_All}
@@ -33,7 +34,8 @@ without-own c (x ∷ l) = ⊎_elim
     (λ (same : x.client ≡ c).
     ap (of c) (cond_same x.client c l (x ∷ without_first c l) same) ∙ sym (ap (drop 1) (cond_same x.client c (x ∷ of c l) (of c l) same)))
     (λ (other : x.client ≢ c).
-    ap (of c) (cond_other x.client c l (x ∷ without_first c l) other) ∙ cond_other x.client c (x ∷ of c (without_first c l)) (of c (without_first c l)) other ∙ without-own c l
+    ap (of c) (cond_other x.client c l (x ∷ without_first c l) other)
+    ∙ cond_other x.client c (x ∷ of c (without_first c l)) (of c (without_first c l)) other ∙ without-own c l
     ∙ sym (ap (drop 1) (cond_other x.client c (x ∷ of c l) (of c l) other)))
     (same_or x.client c)
 
@@ -77,7 +79,8 @@ of-own : (c n : ℕ) (l : List Line) (x : Line) → slice_get (of c l) n ≡ Som
 of-own c n [] x h = absurd (cc)
 of-own c n (y ∷ l) x h = by_test (eqb y.client c) refl n h (λ m. of-own c m l x)
   where
-    by_test : (b : Bool) → eqb y.client c ≡ b → (n : ℕ) → slice_get (cond b (y ∷ of c l) (of c l)) n ≡ Some x → ((m : ℕ) → slice_get (of c l) m ≡ Some x → x.client ≡ c) → x.client ≡ c
+    by_test : (b : Bool) → eqb y.client c ≡ b → (n : ℕ) → slice_get (cond b (y ∷ of c l) (of c l)) n ≡ Some x
+        → ((m : ℕ) → slice_get (of c l) m ≡ Some x → x.client ≡ c) → x.client ≡ c
     by_test true is zero h rest = let same : y ≡ x = cc in ap (λ (l : Line). l.client) (sym same) ∙ eqb-true y.client c is
     by_test true is (suc n) h rest = rest n h
     by_test false is n h rest = rest n h
@@ -111,9 +114,11 @@ history-take clients posts pairs left c e x numbered h at first =
     (same_or x.client d))
     ∙ h.lines_are d) in
     record {
-      events_are = All-from_recursion Fits (pairs ++ (e, x) ∷ []) (all-push Fits pairs (e, x) (recursion_from_All Fits pairs h.events_are) (ap (event_of clients) own ∙ at));
+      events_are = All-from_recursion Fits (pairs ++ (e, x) ∷ [])
+          (all-push Fits pairs (e, x) (recursion_from_All Fits pairs h.events_are) (ap (event_of clients) own ∙ at));
       lines_are = are;
-      numbered = λ d. numbered-first 0 (of d (lines_of (pairs ++ (e, x) ∷ []))) (of d (without_first c left)) (subst (λ l. IsNumbered 0 l) (sym (are d)) (numbered d));
+      numbered = λ d.
+          numbered-first 0 (of d (lines_of (pairs ++ (e, x) ∷ []))) (of d (without_first c left)) (subst (λ l. IsNumbered 0 l) (sym (are d)) (numbered d));
     }
 
 -- ---- to the end
@@ -123,7 +128,8 @@ any-in p a zero h = absurd (cc)
 any-in p a (suc n) h = by_test (p a) refl h (any-in p (a + 1) n)
   where
     by_test : (b : Bool) → p a ≡ b → (b || list_any p (range_with_len (a + 1) n)) ≡ true
-        → (list_any p (range_with_len (a + 1) n) ≡ true → (e : ℕ) × (a + 1 ≤ e) × (e < a + 1 + n) × (p e ≡ true)) → (e : ℕ) × (a ≤ e) × (e < a + suc n) × (p e ≡ true)
+        → (list_any p (range_with_len (a + 1) n) ≡ true → (e : ℕ) × (a + 1 ≤ e) × (e < a + 1 + n) × (p e ≡ true))
+        → (e : ℕ) × (a ≤ e) × (e < a + suc n) × (p e ≡ true)
     by_test true is h rest = (a, omega arith, omega arith, is)
     by_test false is h rest = let w = rest h in (w.0, omega (arith, w.1), omega (arith, w.2), w.3)
 
@@ -131,7 +137,8 @@ module _ {B : Type 0} (asked : Asked B) (fit : IsFit asked) where
   -- what may come next in a session that isn't over
   data Next (at : Reach) : Type 0 where
     Call : Due asked.setting (moment asked at) None → at.calls + 1 ≤ asked.turns → Next at
-    Take : (c e : ℕ) (x : Line) → event_of asked.clients c ≡ e → slice_get (of c at.left) 0 ≡ Some x → Due asked.setting (moment asked at) (Some (e, x)) → Next at
+    Take : (c e : ℕ) (x : Line) → event_of asked.clients c ≡ e → slice_get (of c at.left) 0 ≡ Some x
+        → Due asked.setting (moment asked at) (Some (e, x)) → Next at
 
   some-line : (l : List Line) → some_first l ≡ true → (x : Line) × (slice_get l 0 ≡ Some x)
   some-line [] h = absurd (cc)
@@ -147,15 +154,18 @@ module _ {B : Type 0} (asked : Asked B) (fit : IsFit asked) where
       let s = (session_at asked at).live.pod in
       let w = any-in (λ e. can_take s (full_shelves asked.clients at.left) e) 0 32 h in
       let both = and-parts (is_takeable s w.0) (is_some (first_left (full_shelves asked.clients at.left) w.0)) w.3 in
-      let for_it : some_first (lines_for asked.clients at.left w.0) ≡ true = ap is_some (sym (first-for asked.clients w.0 at.left (omega (arith, w.2)))) ∙ both.1 in
+      let for_it : some_first (lines_for asked.clients at.left w.0)
+      ≡ true = ap is_some (sym (first-for asked.clients w.0 at.left (omega (arith, w.2)))) ∙ both.1 in
       let who = some-client asked.clients w.0 at.left for_it in
       let line = some-line (of who.0 at.left) who.2 in
       Take who.0 w.0 line.0 who.1 line.1 both.0
 
   next-of : (at : Reach) → halt_at asked at ≡ None → Next at
-  next-of at h = by_end (session_at asked at).live.pod.state.ended (choice (session_at asked at).live.pod.state) (is_wanted (session_at asked at).live.pod (full_shelves asked.clients at.left)) refl refl refl h
+  next-of at h = by_end (session_at asked at).live.pod.state.ended (choice (session_at asked at).live.pod.state)
+      (is_wanted (session_at asked at).live.pod (full_shelves asked.clients at.left)) refl refl refl h
     where
-      by_end : (b : Bool) (o : Option ℕ) (w : Bool) → (session_at asked at).live.pod.state.ended ≡ b → choice (session_at asked at).live.pod.state ≡ o → is_wanted (session_at asked at).live.pod (full_shelves asked.clients at.left) ≡ w
+      by_end : (b : Bool) (o : Option ℕ) (w : Bool) → (session_at asked at).live.pod.state.ended ≡ b
+          → choice (session_at asked at).live.pod.state ≡ o → is_wanted (session_at asked at).live.pod (full_shelves asked.clients at.left) ≡ w
           → (if b then Some (Ended (session_at asked at).live.pod.state.status) else halt_if asked.turns at.calls w o) ≡ None → Next at
       by_end true o w e f g h = absurd (cc)
       by_end false None true e f g h = next-take at g
@@ -177,13 +187,15 @@ module _ {B : Type 0} (asked : Asked B) (fit : IsFit asked) where
     pub over : halt_at asked to ≡ Some halt
     pub way : Reaches asked.setting (moment asked at) (moment asked to)
 
-  ends-step : (fuel : ℕ) (at : Reach) → asked.turns - at.calls + length at.left ≤ fuel → IsReached asked at → ((to : Reach) → asked.turns - to.calls + length to.left + 1 ≤ fuel → IsReached asked to → Ends to) → Ends at
+  ends-step : (fuel : ℕ) (at : Reach) → asked.turns - at.calls + length at.left ≤ fuel → IsReached asked at
+      → ((to : Reach) → asked.turns - to.calls + length to.left + 1 ≤ fuel → IsReached asked to → Ends to) → Ends at
   ends-step fuel at few is rest = by_halt (halt_at asked at) refl
     where
       by_next : Next at → Ends at
       by_next (Call due room) =
           let p = moment asked at in
-          let e = rest (record at { calls = at.calls + 1 }) (omega (arith, few, room)) (record { due = IsAt-moved asked.setting p None is.due due; room = room; history = is.history }) in
+          let e = rest (record at { calls = at.calls + 1 }) (omega (arith, few, room))
+          (record { due = IsAt-moved asked.setting p None is.due due; room = room; history = is.history }) in
           record { to = e.to; reached = e.reached; halt = e.halt; over = e.over; way = reaches-first asked.setting p (moment asked e.to) None due e.way }
       by_next (Take c e x at_event first due) =
           let p = moment asked at in
@@ -195,7 +207,13 @@ module _ {B : Type 0} (asked : Asked B) (fit : IsFit asked) where
             history = subst (λ l. IsClientHistory asked.clients asked.posts l (without_first c at.left)) (sym (pairs-append at.takes (took_at p (e, x) ∷ [])))
                 (history-take asked.clients asked.posts (pairs_of at.takes) at.left c e x fit.numbered is.history at_event first);
           }) in
-          record { to = on.to; reached = on.reached; halt = on.halt; over = on.over; way = reaches-first asked.setting p (moment asked on.to) (Some (e, x)) due on.way }
+          record {
+            to = on.to;
+            reached = on.reached;
+            halt = on.halt;
+            over = on.over;
+            way = reaches-first asked.setting p (moment asked on.to) (Some (e, x)) due on.way;
+          }
 
       by_halt : (o : Option Halt) → halt_at asked at ≡ o → Ends at
       by_halt (Some h) over = record { to = at; reached = is; halt = h; over = over; way = reaches-same asked.setting (moment asked at) }

@@ -41,9 +41,12 @@ pub record Kept (old new : Following) (after : List ℕ) : Type 0 where
   pub ticks : new.ticks ≡ old.ticks
   pub told : take old.at old.recorded ++ new.step ≡ after
 
-pub kept : (old new : Following) (before after : List ℕ) → old.step ≡ [] → take old.at old.recorded ≡ before → Writes (Some (bytes_told old)) (Some (bytes_told new)) before after → Kept old new after
+pub kept : (old new : Following) (before after : List ℕ) → old.step ≡ [] → take old.at old.recorded ≡ before
+    → Writes (Some (bytes_told old)) (Some (bytes_told new)) before after → Kept old new after
 kept old new before after clean is writes =
-    let start : Some (bytes_told old) ≡ after_append (Some (front_of old)) before = ap (λ s. Some (front_of old ++ (take old.at old.recorded ++ s))) clean ∙ ap (λ l. Some (front_of old ++ l)) (append-nil (take old.at old.recorded) ∙ is) in
+    let start : Some (bytes_told old)
+    ≡ after_append (Some (front_of old)) before = ap (λ s. Some (front_of old ++ (take old.at old.recorded ++ s))) clean
+    ∙ ap (λ l. Some (front_of old ++ l)) (append-nil (take old.at old.recorded) ∙ is) in
     let wrote : bytes_told new ≡ front_of old ++ after = some-same (writes (Some (front_of old)) start) in
     let long : length new.recorded ≡ length old.recorded = ap (head_in 0) wrote in
     let one = ap tail_in wrote in

@@ -12,8 +12,10 @@ use Rattle.replay.proofs.Left.{end-same}
 use Rattle.replay.proofs.LineLaws.{agree-fewer, agree-heads, agree-peel, agree-shorter, closes-both, count-append, head-append, head_of}
 use Rattle.replay.proofs.Clock.{clock-free, takeable-small}
 use Rattle.replay.proofs.Moves.{IsAt-moved, gone-calls, gone-takes, lines_on, reached, told-gone, told-moved, told-opened}
-use Rattle.replay.specs.Walk.{Due, DueAll, Forced, IsAt, IsFit, IsNext, Moment, Move, Reaches, Speaks, Stands, after_move, after_moves, count_of, first_moment, moment, move_lines, session_of, lines_until, took_at}
-use Rattle.replay.proofs.StepLines.{Speaking, call-lines, call-some, closes-step, end-head, one-line, take-client, take-first, take-tells, tells-head, tells-same}
+use Rattle.replay.specs.Walk.{Due, DueAll, Forced, IsAt, IsFit, IsNext, Moment, Move, Reaches, Speaks, Stands, after_move}
+use Rattle.replay.specs.Walk.{after_moves, count_of, first_moment, moment, move_lines, session_of, lines_until, took_at}
+use Rattle.replay.proofs.StepLines.{Speaking, call-lines, call-some, closes-step, end-head, one-line}
+use Rattle.replay.proofs.StepLines.{take-client, take-first, take-tells, tells-head, tells-same}
 use Rattle.replay.specs.Asked.{Asked, IsReached, Reach, counts_from, end_by, halt_at, pairs_of, text_at, lines_at}
 use Rattle.replay.specs.Recorded.{Agree, closes, line_count}
 use Rattle.replay.specs.Verdict.{take_text, tells_take}
@@ -21,7 +23,8 @@ use Rattle.trace_text.specs.Lines.{ended_line, later_lines, step_lines}
 use Rattle.trace_text.specs.declared.ends.Halt.{Halt}
 use Rattle.std.specs.List.{AllByRecursion}
 use Rattle.std.specs.Prelude.{Option}
-use Rattle.std.proofs.Common.{List, None, Some, [], ap, append_assoc, append-nil, arith, false, inl, inr, length, refl, slice_get, subst, sym, true, ℕ, ◌++◌, ◌+◌, ◌<◌, ◌^◌, ◌∙◌, ◌∷◌, ◌≡◌, ◌≤◌, ◌⊎◌}
+use Rattle.std.proofs.Common.{List, None, Some, [], ap, append_assoc, append-nil, arith, false, inl, inr, length, refl}
+use Rattle.std.proofs.Common.{slice_get, subst, sym, true, ℕ, ◌++◌, ◌+◌, ◌<◌, ◌^◌, ◌∙◌, ◌∷◌, ◌≡◌, ◌≤◌, ◌⊎◌}
 use Rattle.std.proofs.lemmas.List.{map-append}
 use Rattle.std.proofs.lemmas.List.Elements.{recursion_from_All}
 
@@ -49,13 +52,17 @@ next-of asked p t takes later left is h =
     ap (λ (l : List (ℕ × Line)). of c (lines_of l)) pairs
     ∙ ap (of c) (lines-append (pairs_of p.takes) (t ∷ pairs_of later))
     ∙ of-append c (lines_of (pairs_of p.takes)) (t.1 ∷ lines_of (pairs_of later))
-    ∙ ap (λ l. of c (lines_of (pairs_of p.takes)) ++ l) (cond_same t.1.client c (t.1 ∷ of c (lines_of (pairs_of later))) (of c (lines_of (pairs_of later))) refl) in
+    ∙ ap (λ l. of c (lines_of (pairs_of p.takes)) ++ l)
+    (cond_same t.1.client c (t.1 ∷ of c (lines_of (pairs_of later))) (of c (lines_of (pairs_of later))) refl) in
     let posts : of c asked.posts ≡ of c (lines_of (pairs_of p.takes)) ++ t.1 ∷ (of c (lines_of (pairs_of later)) ++ of c left) =
-    sym (h.lines_are c) ∙ ap (λ l. l ++ of c left) mine ∙ append_assoc (of c (lines_of (pairs_of p.takes))) (t.1 ∷ of c (lines_of (pairs_of later))) (of c left) in
+    sym (h.lines_are c) ∙ ap (λ l. l ++ of c left) mine
+    ∙ append_assoc (of c (lines_of (pairs_of p.takes))) (t.1 ∷ of c (lines_of (pairs_of later))) (of c left) in
     record {
       event = all-behind (λ (u : ℕ × Line). event_of asked.clients u.1.client ≡ u.0) (pairs_of p.takes) t (pairs_of later)
-          (subst (λ l. AllByRecursion (λ (u : ℕ × Line). event_of asked.clients u.1.client ≡ u.0) l) pairs (recursion_from_All (λ (u : ℕ × Line). event_of asked.clients u.1.client ≡ u.0) (pairs_of takes) h.events_are));
-      line = ap (λ l. slice_get l (count_of c p.takes)) posts ∙ at-front (of c (lines_of (pairs_of p.takes))) (of c (lines_of (pairs_of later)) ++ of c left) t.1;
+          (subst (λ l. AllByRecursion (λ (u : ℕ × Line). event_of asked.clients u.1.client ≡ u.0) l) pairs
+          (recursion_from_All (λ (u : ℕ × Line). event_of asked.clients u.1.client ≡ u.0) (pairs_of takes) h.events_are));
+      line = ap (λ l. slice_get l (count_of c p.takes)) posts
+          ∙ at-front (of c (lines_of (pairs_of p.takes))) (of c (lines_of (pairs_of later)) ++ of c left) t.1;
     }
 
 some-same : {A : Type 0} {x y : A} → Some x ≡ Some y → x ≡ y
@@ -83,7 +90,8 @@ posted-by k c n x (y ∷ posts) all h = elim (same_or y.client c) [
 -- and the client of a next line is one that posts
 pub next-client : {B : Type 0} (asked : Asked B) (fit : IsFit asked) (p : Moment) (t : ℕ × Line) → IsNext asked p t → t.1.client < length asked.clients
 next-client asked fit p t next =
-    posted-by (length asked.clients) t.1.client (count_of t.1.client p.takes) t.1 asked.posts (recursion_from_All (λ (line : Line). line.client < length asked.clients) asked.posts fit.posters) next.line
+    posted-by (length asked.clients) t.1.client (count_of t.1.client p.takes) t.1 asked.posts
+    (recursion_from_All (λ (line : Line). line.client < length asked.clients) asked.posts fit.posters) next.line
 
 next-poster : {B : Type 0} (asked : Asked B) (fit : IsFit asked) (p : Moment) (t : ℕ × Line) → IsNext asked p t → t.1.client < 2 ^ 64
 next-poster asked fit p t next = omega (arith, next-client asked fit p t next, fit.few)
@@ -102,7 +110,8 @@ module _ {B : Type 0} (asked : Asked B) (bytes : List ℕ) where
     Stays : p ≡ moment asked at → Agree 1 rest (end_of at) → Goes p rest at
     Calls : Due asked.setting p None → p.calls + 1 ≤ asked.turns → (more : List ℕ) → Agree 1 rest (move_lines asked.setting asked.procs p None ++ more)
         → Reaches asked.setting (after_move p None) (moment asked at) → Goes p rest at
-    Takes : (t : ℕ × Line) → Due asked.setting p (Some t) → IsNext asked p t → (more : List ℕ) → Agree 1 rest (move_lines asked.setting asked.procs p (Some t) ++ more)
+    Takes : (t : ℕ × Line) → Due asked.setting p (Some t) → IsNext asked p t → (more : List ℕ)
+        → Agree 1 rest (move_lines asked.setting asked.procs p (Some t) ++ more)
         → Reaches asked.setting (after_move p (Some t)) (moment asked at) → Goes p rest at
 
   closes-lines : (steps : List Made) → closes true (lines asked.procs steps) ≡ true
@@ -122,33 +131,42 @@ module _ {B : Type 0} (asked : Asked B) (bytes : List ℕ) where
       (subst (λ b. Agree (n + 1) b (lines_until asked.setting asked.procs p ++ more)) here.begins
       (subst (λ b. Agree (n + 1) bytes b) whole agree)))
 
-  pub goes : (n : ℕ) (p : Moment) (rest : List ℕ) (at : Reach) → Stands asked bytes n p rest → IsReached asked at → Agree (n + 1) bytes (text_at asked at) → Goes p rest at
+  pub goes : (n : ℕ) (p : Moment) (rest : List ℕ) (at : Reach) → Stands asked bytes n p rest → IsReached asked at
+      → Agree (n + 1) bytes (text_at asked at) → Goes p rest at
   goes n p rest at here is agree = by_moves way.moves way.due way.comes
     where
       way : Reaches asked.setting p (moment asked at)
       way = here.forced at is (agree-fewer n (n + 1) bytes (text_at asked at) (omega arith) agree)
 
       by_moves : (ms : List Move) → DueAll asked.setting p ms → after_moves p ms ≡ moment asked at → Goes p rest at
-      by_moves [] due comes = Stays comes (next-line p rest (end_of at) n at here agree (ap (λ q. lines_until asked.setting asked.procs q ++ end_of at) (sym comes)))
+      by_moves [] due comes = Stays comes
+          (next-line p rest (end_of at) n at here agree (ap (λ q. lines_until asked.setting asked.procs q ++ end_of at) (sym comes)))
       by_moves (None ∷ ms) due comes =
           let way_told = told-gone asked.setting asked.procs (None ∷ ms) p here.made due in
           let more = lines_on asked.setting asked.procs (after_move p None) ms ++ end_of at in
           let whole : text_at asked at ≡ lines_until asked.setting asked.procs p ++ (move_lines asked.setting asked.procs p None ++ more) =
           ap (λ q. lines_until asked.setting asked.procs q ++ end_of at) (sym comes) ∙ ap (λ l. l ++ end_of at) way_told
-          ∙ append_assoc (lines_until asked.setting asked.procs p) (move_lines asked.setting asked.procs p None ++ lines_on asked.setting asked.procs (after_move p None) ms) (end_of at)
-          ∙ ap (λ l. lines_until asked.setting asked.procs p ++ l) (append_assoc (move_lines asked.setting asked.procs p None) (lines_on asked.setting asked.procs (after_move p None) ms) (end_of at)) in
-          Calls due.0 (omega (arith, gone-calls ms (after_move p None), ap (λ (q : Moment). q.calls) comes, is.room)) more (next-line p rest (move_lines asked.setting asked.procs p None ++ more) n at here agree whole)
+          ∙ append_assoc (lines_until asked.setting asked.procs p)
+          (move_lines asked.setting asked.procs p None ++ lines_on asked.setting asked.procs (after_move p None) ms) (end_of at)
+          ∙ ap (λ l. lines_until asked.setting asked.procs p ++ l)
+          (append_assoc (move_lines asked.setting asked.procs p None) (lines_on asked.setting asked.procs (after_move p None) ms) (end_of at)) in
+          Calls due.0 (omega (arith, gone-calls ms (after_move p None), ap (λ (q : Moment). q.calls) comes, is.room)) more
+          (next-line p rest (move_lines asked.setting asked.procs p None ++ more) n at here agree whole)
           (record { moves = ms; due = due.1; comes = comes })
       by_moves (Some t ∷ ms) due comes =
           let way_told = told-gone asked.setting asked.procs (Some t ∷ ms) p here.made due in
           let more = lines_on asked.setting asked.procs (after_move p (Some t)) ms ++ end_of at in
           let whole : text_at asked at ≡ lines_until asked.setting asked.procs p ++ (move_lines asked.setting asked.procs p (Some t) ++ more) =
           ap (λ q. lines_until asked.setting asked.procs q ++ end_of at) (sym comes) ∙ ap (λ l. l ++ end_of at) way_told
-          ∙ append_assoc (lines_until asked.setting asked.procs p) (move_lines asked.setting asked.procs p (Some t) ++ lines_on asked.setting asked.procs (after_move p (Some t)) ms) (end_of at)
-          ∙ ap (λ l. lines_until asked.setting asked.procs p ++ l) (append_assoc (move_lines asked.setting asked.procs p (Some t)) (lines_on asked.setting asked.procs (after_move p (Some t)) ms) (end_of at)) in
+          ∙ append_assoc (lines_until asked.setting asked.procs p)
+          (move_lines asked.setting asked.procs p (Some t) ++ lines_on asked.setting asked.procs (after_move p (Some t)) ms) (end_of at)
+          ∙ ap (λ l. lines_until asked.setting asked.procs p ++ l)
+          (append_assoc (move_lines asked.setting asked.procs p (Some t)) (lines_on asked.setting asked.procs (after_move p (Some t)) ms) (end_of at)) in
           let later = gone-takes ms (after_move p (Some t)) in
-          let takes : at.takes ≡ p.takes ++ took_at p t ∷ later.0 = sym (ap (λ (q : Moment). q.takes) comes) ∙ later.1 ∙ append_assoc p.takes (took_at p t ∷ []) later.0 in
-          Takes t due.0 (next-of asked p t at.takes later.0 at.left takes is.history) more (next-line p rest (move_lines asked.setting asked.procs p (Some t) ++ more) n at here agree whole)
+          let takes : at.takes
+          ≡ p.takes ++ took_at p t ∷ later.0 = sym (ap (λ (q : Moment). q.takes) comes) ∙ later.1 ∙ append_assoc p.takes (took_at p t ∷ []) later.0 in
+          Takes t due.0 (next-of asked p t at.takes later.0 at.left takes is.history) more
+          (next-line p rest (move_lines asked.setting asked.procs p (Some t) ++ more) n at here agree whole)
           (record { moves = ms; due = due.1; comes = comes })
 
   -- ---- how the lines begin
@@ -161,21 +179,27 @@ module _ {B : Type 0} (asked : Asked B) (bytes : List ℕ) where
   abbrev pub told_line : Moment → ℕ × Line → List ℕ
   told_line p t = ended_line (take_text (now_of p) t.0 t.1)
 
-  pub take-told : (p : Moment) (t : ℕ × Line) → IsAt asked.setting p → Due asked.setting p (Some t) → (rest : List ℕ) × (move_lines asked.setting asked.procs p (Some t) ≡ told_line p t ++ rest)
+  pub take-told : (p : Moment) (t : ℕ × Line) → IsAt asked.setting p → Due asked.setting p (Some t)
+      → (rest : List ℕ) × (move_lines asked.setting asked.procs p (Some t) ≡ told_line p t ++ rest)
   unfolding take_move
   take-told p t made due =
-      let w = take-first (session_of asked.setting p).live.pod t.0 t.1.text (clock-free asked.setting p made) due in
-      (later_lines asked.procs w.rest, ap (step_lines asked.procs (Some t.1)) w.are ∙ ap (λ l. ended_line l ++ later_lines asked.procs w.rest) (w.line asked.procs t.1))
+      let w = take-first (session_of asked.setting p).live.pod t.0 t.1.text (clock-free asked.setting p made) due in (
+        later_lines asked.procs w.rest,
+        ap (step_lines asked.procs (Some t.1)) w.are ∙ ap (λ l. ended_line l ++ later_lines asked.procs w.rest) (w.line asked.procs t.1),
+      )
 
-  pub call-told : Speaks asked → (p : Moment) (more : List ℕ) → IsAt asked.setting p → Due asked.setting p None → Speaking (move_lines asked.setting asked.procs p None ++ more)
+  pub call-told : Speaks asked → (p : Moment) (more : List ℕ) → IsAt asked.setting p → Due asked.setting p None
+      → Speaking (move_lines asked.setting asked.procs p None ++ more)
   call-told speaks p more made due =
       let w = speaks p made due in
       subst (λ es. Speaking (step_lines asked.procs None es ++ more)) (sym w.2) (call-lines asked.procs w.0 w.1 more w.3)
 
   pub call-one : Speaks asked → (p : Moment) → IsAt asked.setting p → Due asked.setting p None → 1 ≤ line_count (move_lines asked.setting asked.procs p None)
-  call-one speaks p made due = let w = speaks p made due in subst (λ es. 1 ≤ line_count (step_lines asked.procs None es)) (sym w.2) (call-some asked.procs w.0 w.1)
+  call-one speaks p made due = let w = speaks p made due in
+      subst (λ es. 1 ≤ line_count (step_lines asked.procs None es)) (sym w.2) (call-some asked.procs w.0 w.1)
 
-  pub take-one : (p : Moment) (t : ℕ × Line) → IsAt asked.setting p → Due asked.setting p (Some t) → 1 ≤ line_count (move_lines asked.setting asked.procs p (Some t))
+  pub take-one : (p : Moment) (t : ℕ × Line) → IsAt asked.setting p → Due asked.setting p (Some t)
+      → 1 ≤ line_count (move_lines asked.setting asked.procs p (Some t))
   take-one p t made due = let w = take-told p t made due in subst (λ l. 1 ≤ line_count l) (sym w.1) (one-line (take_text (now_of p) t.0 t.1) w.0)
 
   end-told : (at : Reach) (o : Option Halt) → 1 ≤ line_count (end_by asked at o) → (head_of (end_by asked at o) ≡ 115) ⊎ (head_of (end_by asked at o) ≡ 108)
@@ -191,14 +215,16 @@ module _ {B : Type 0} (asked : Asked B) (bytes : List ℕ) where
     | inr e ↦ inr (agree-heads rest (end_of at) h ∙ e)
   ]
 
-  tells-rest : Speaks asked → (p : Moment) (rest more : List ℕ) → IsAt asked.setting p → Due asked.setting p None → Agree 1 rest (move_lines asked.setting asked.procs p None ++ more) → Speaking rest
+  tells-rest : Speaks asked → (p : Moment) (rest more : List ℕ) → IsAt asked.setting p → Due asked.setting p None
+      → Agree 1 rest (move_lines asked.setting asked.procs p None ++ more) → Speaking rest
   tells-rest speaks p rest more made due h =
       let w = call-told speaks p more made due in
       let text = move_lines asked.setting asked.procs p None ++ more in
       (elim w.0 [ inl e ↦ inl (agree-heads rest text h ∙ e) | inr e ↦ inr (agree-heads rest text h ∙ e) ], tells-same rest text h ∙ w.1)
 
   -- the line of a take, where such a step comes next
-  take-line : (p : Moment) (rest more : List ℕ) (t : ℕ × Line) → IsAt asked.setting p → Due asked.setting p (Some t) → Agree 1 rest (move_lines asked.setting asked.procs p (Some t) ++ more)
+  take-line : (p : Moment) (rest more : List ℕ) (t : ℕ × Line) → IsAt asked.setting p → Due asked.setting p (Some t)
+      → Agree 1 rest (move_lines asked.setting asked.procs p (Some t) ++ more)
       → (y : List ℕ) × Agree 1 rest (told_line p t ++ y)
   take-line p rest more t made due h =
       let w = take-told p t made due in
@@ -249,7 +275,8 @@ module _ {B : Type 0} (asked : Asked B) (bytes : List ℕ) where
             subst (λ v. Reaches asked.setting (after_move p (Some v)) (moment asked at)) (sym (next-same asked p t u next other client)) way
 
     -- it is the first line of the next call: so each makes this call
-    pub forced-call : Due asked.setting p None → (x : List ℕ) → Agree 1 rest (move_lines asked.setting asked.procs p None ++ x) → Forced asked bytes (n + 1) (after_move p None)
+    pub forced-call : Due asked.setting p None → (x : List ℕ) → Agree 1 rest (move_lines asked.setting asked.procs p None ++ x)
+        → Forced asked bytes (n + 1) (after_move p None)
     forced-call may x first at is agree = by_case (goes n p rest at here is agree)
       where
         tells : Speaking rest
@@ -258,7 +285,8 @@ module _ {B : Type 0} (asked : Asked B) (bytes : List ℕ) where
         by_case : Goes p rest at → Reaches asked.setting (after_move p None) (moment asked at)
         by_case (Stays same tail) = absurd (no-both rest tells (ends-rest rest at tail))
         by_case (Calls due room more line way) = way
-        by_case (Takes u due other more line way) = let w = take-line p rest more u here.made due line in absurd (no-call rest tells (takes-rest p rest w.0 u w.1))
+        by_case (Takes u due other more line way) = let w = take-line p rest more u here.made due line in
+            absurd (no-call rest tells (takes-rest p rest w.0 u w.1))
 
     -- it is neither, nor that of an end: so none goes on with it
     pub none-more : (to : Reach) → IsReached asked to → moment asked to ≡ p
@@ -270,17 +298,21 @@ module _ {B : Type 0} (asked : Asked B) (bytes : List ℕ) where
       where
         by_case : Goes p rest at → ⊥
         by_case (Stays same tail) = no_end (subst (λ l. Agree 1 rest l) (end-same asked at to is reached (sym same ∙ sym stands)) tail)
-        by_case (Calls due room more line way) = no_call due room (agree-shorter 1 rest (move_lines asked.setting asked.procs p None) more (call-one speaks p here.made due) line)
+        by_case (Calls due room more line way) =
+            no_call due room (agree-shorter 1 rest (move_lines asked.setting asked.procs p None) more (call-one speaks p here.made due) line)
         by_case (Takes u due other more line way) =
             let w = take-line p rest more u here.made due line in
-            no_take u due other (agree-shorter 1 rest (told_line p u) w.0 (subst (λ l. 1 ≤ line_count l) (append-nil (told_line p u)) (one-line (take_text (now_of p) u.0 u.1) [])) w.1)
+            no_take u due other (agree-shorter 1 rest (told_line p u) w.0
+            (subst (λ l. 1 ≤ line_count l) (append-nil (told_line p u)) (one-line (take_text (now_of p) u.0 u.1) [])) w.1)
 
     -- the whole of a step was recorded
-    pub stands-on : (m : Move) → Due asked.setting p m → Forced asked bytes (n + 1) (after_move p m) → (after : List ℕ) → rest ≡ move_lines asked.setting asked.procs p m ++ after → 1 ≤ line_count (move_lines asked.setting asked.procs p m)
+    pub stands-on : (m : Move) → Due asked.setting p m → Forced asked bytes (n + 1) (after_move p m) → (after : List ℕ)
+        → rest ≡ move_lines asked.setting asked.procs p m ++ after → 1 ≤ line_count (move_lines asked.setting asked.procs p m)
         → Stands asked bytes (n + line_count (move_lines asked.setting asked.procs p m)) (after_move p m) after
     stands-on m due forced after is some = record {
       made = IsAt-moved asked.setting p m here.made due;
-      begins = here.begins ∙ ap (λ l. lines_until asked.setting asked.procs p ++ l) is ∙ sym (append_assoc (lines_until asked.setting asked.procs p) (move_lines asked.setting asked.procs p m) after)
+      begins = here.begins ∙ ap (λ l. lines_until asked.setting asked.procs p ++ l) is
+          ∙ sym (append_assoc (lines_until asked.setting asked.procs p) (move_lines asked.setting asked.procs p m) after)
           ∙ ap (λ l. l ++ after) (sym (told-moved asked.setting asked.procs p m here.made));
       count = ap (λ k. k + line_count (move_lines asked.setting asked.procs p m)) here.count
           ∙ sym (count-append (lines_until asked.setting asked.procs p) (move_lines asked.setting asked.procs p m))
@@ -289,7 +321,8 @@ module _ {B : Type 0} (asked : Asked B) (bytes : List ℕ) where
     }
 
     -- only the first lines of a step were recorded, and no session goes on after them
-    pub none-in-step : (m : Move) → Due asked.setting p m → Forced asked bytes (n + 1) (after_move p m) → (front more after : List ℕ) → move_lines asked.setting asked.procs p m ≡ front ++ more → rest ≡ front ++ after
+    pub none-in-step : (m : Move) → Due asked.setting p m → Forced asked bytes (n + 1) (after_move p m) → (front more after : List ℕ)
+        → move_lines asked.setting asked.procs p m ≡ front ++ more → rest ≡ front ++ after
         → closes true front ≡ true → 1 ≤ line_count front → 1 ≤ line_count more → (Agree 1 after more → ⊥)
         → (at : Reach) → IsReached asked at → Agree (n + line_count front + 1) bytes (text_at asked at) → ⊥
     none-in-step m due forced front more after split is closed some goes_on differs at reached agree =
@@ -319,12 +352,14 @@ module _ {B : Type 0} (asked : Asked B) (bytes : List ℕ) where
 
         ends : Ends rest
         ends =
-            let heads : head_of rest ≡ head_of (end_of to) = ap head_of is ∙ head-append front after some ∙ sym (head-append front more some) ∙ ap head_of (sym split) in
+            let heads : head_of rest
+            ≡ head_of (end_of to) = ap head_of is ∙ head-append front after some ∙ sym (head-append front more some) ∙ ap head_of (sym split) in
             elim (end-told to (halt_at asked to) enough) [ inl e ↦ inl (heads ∙ e) | inr e ↦ inr (heads ∙ e) ]
 
         by_case : Goes p rest at → p ≡ moment asked at
         by_case (Calls due room more line way) = absurd (no-both rest (tells-rest speaks p rest more here.made due line) ends)
-        by_case (Takes u due other more line way) = let w = take-line p rest more u here.made due line in absurd (no-end rest ends (takes-rest p rest w.0 u w.1))
+        by_case (Takes u due other more line way) = let w = take-line p rest more u here.made due line in
+            absurd (no-end rest ends (takes-rest p rest w.0 u w.1))
         by_case (Stays same tail) = same
 
     -- only the first lines of an end were recorded, one at least, and no session goes on after them
@@ -332,7 +367,8 @@ module _ {B : Type 0} (asked : Asked B) (bytes : List ℕ) where
         → closes true front ≡ true → 1 ≤ line_count front → (Agree 1 after more → ⊥)
         → (at : Reach) → IsReached asked at → Agree (n + line_count front + 1) bytes (text_at asked at) → ⊥
     none-in-end to reached stands front more after split is closed some differs at is_at agree =
-        let same = stays-in-end to front more after split is some at is_at (agree-fewer (n + 1) (n + line_count front + 1) bytes (text_at asked at) (omega (arith, some)) agree) in
+        let same = stays-in-end to front more after split is some at is_at
+        (agree-fewer (n + 1) (n + line_count front + 1) bytes (text_at asked at) (omega (arith, some)) agree) in
         let said = lines_until asked.setting asked.procs p in
         let whole : text_at asked at ≡ (said ++ front) ++ more =
         ap (λ l. lines_at asked at ++ l) (end-same asked at to is_at reached (sym same ∙ sym stands) ∙ split)

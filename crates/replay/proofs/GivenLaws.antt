@@ -12,14 +12,17 @@ use Rattle.replay.specs.Walk.{ClientsLeft}
 use Rattle.trace_text.specs.Lines.{ended_line}
 use Rattle.std.specs.List.{range_with_len}
 use Rattle.std.specs.Prelude.{Option, nat_eq, not}
-use Rattle.std.proofs.Common.{Bool, List, None, Some, [], ap, append-nil, arith, drop, false, length, refl, subst, suc, sym, take, take-append-drop, true, zero, ℕ, ⊎_elim, ◌++◌, ◌+◌, ◌<◌, ◌∙◌, ◌∷◌, ◌≡◌, ◌≢◌, ◌≤◌}
+use Rattle.std.proofs.Common.{Bool, List, None, Some, [], ap, append-nil, arith, drop, false, length, refl, subst, suc, sym}
+use Rattle.std.proofs.Common.{take, take-append-drop, true, zero, ℕ, ⊎_elim, ◌++◌, ◌+◌, ◌<◌, ◌∙◌, ◌∷◌, ◌≡◌, ◌≢◌, ◌≤◌}
 use Rattle.std.proofs.lemmas.Bool.{eqb-true}
 
 pub given-none : (f : ℕ → Option (List ℕ)) (a n : ℕ) → ((k : ℕ) → a ≤ k → k < a + n → f k ≡ None) → first_result f (range_with_len a n) ≡ None
 given-none f a zero none = refl
-given-none f a (suc n) none = ap (λ o. or_else o (first_result f (range_with_len (a + 1) n))) (none a (omega arith) (omega arith)) ∙ given-none f (a + 1) n (λ k from under. none k (omega (arith, from)) (omega (arith, under)))
+given-none f a (suc n) none = ap (λ o. or_else o (first_result f (range_with_len (a + 1) n))) (none a (omega arith) (omega arith))
+    ∙ given-none f (a + 1) n (λ k from under. none k (omega (arith, from)) (omega (arith, under)))
 
-pub given-some : (f : ℕ → Option (List ℕ)) (a n k : ℕ) (x : List ℕ) → a ≤ k → k < a + n → ((j : ℕ) → a ≤ j → j < k → f j ≡ None) → f k ≡ Some x → first_result f (range_with_len a n) ≡ Some x
+pub given-some : (f : ℕ → Option (List ℕ)) (a n k : ℕ) (x : List ℕ) → a ≤ k → k < a + n → ((j : ℕ) → a ≤ j → j < k → f j ≡ None)
+    → f k ≡ Some x → first_result f (range_with_len a n) ≡ Some x
 given-some f a zero k x from under none is = absurd (omega (arith, from, under))
 given-some f a (suc n) k x from under none is = ⊎_elim
     (λ (same : a ≡ k). ap (λ o. or_else o (first_result f (range_with_len (a + 1) n))) (ap f same ∙ is))
@@ -33,7 +36,8 @@ given-some f a (suc n) k x from under none is = ⊎_elim
 pub in-clients-none : (f : ℕ → Option (List ℕ)) (i n : ℕ) → n ≤ i → ((k : ℕ) → k < i → f k ≡ None) → first_result f (range_with_len 0 n) ≡ None
 in-clients-none f i n all none = given-none f 0 n (λ k low under. none k (omega (arith, under, all)))
 
-pub in-clients-some : (f : ℕ → Option (List ℕ)) (i n : ℕ) (x : List ℕ) → i < n → ((k : ℕ) → k < i → f k ≡ None) → f i ≡ Some x → first_result f (range_with_len 0 n) ≡ Some x
+pub in-clients-some : (f : ℕ → Option (List ℕ)) (i n : ℕ) (x : List ℕ) → i < n → ((k : ℕ) → k < i → f k ≡ None) → f i ≡ Some x
+    → first_result f (range_with_len 0 n) ≡ Some x
 in-clients-some f i n x under none is = given-some f 0 n i x (omega arith) (omega (arith, under)) (λ j low high. none j high) is
 
 pub on-none : (f : ℕ → Option (List ℕ)) (i : ℕ) → ((k : ℕ) → k < i → f k ≡ None) → f i ≡ None → (k : ℕ) → k < i + 1 → f k ≡ None
@@ -43,11 +47,13 @@ pub in-events-none : (lines : ClientsLeft) (pod : EventState) (i : ℕ) → 32 �
 unfolding events
 in-events-none lines pod i all none = in-clients-none (take_at lines pod) i 32 all none
 
-pub in-events-some : (lines : ClientsLeft) (pod : EventState) (i : ℕ) (x : List ℕ) → i < 32 → ((k : ℕ) → k < i → take_at lines pod k ≡ None) → take_at lines pod i ≡ Some x → lowest_in lines pod ≡ Some x
+pub in-events-some : (lines : ClientsLeft) (pod : EventState) (i : ℕ) (x : List ℕ) → i < 32 → ((k : ℕ) → k < i → take_at lines pod k ≡ None)
+    → take_at lines pod i ≡ Some x → lowest_in lines pod ≡ Some x
 unfolding events
 in-events-some lines pod i x under none is = in-clients-some (take_at lines pod) i 32 x under none is
 
-pub told-on : (lines : ClientsLeft) (pod : EventState) (rest : List ℕ) (i : ℕ) → NoneTold lines pod rest i → ((line : Line) → IsTold lines pod rest i line → ⊥) → NoneTold lines pod rest (i + 1)
+pub told-on : (lines : ClientsLeft) (pod : EventState) (rest : List ℕ) (i : ℕ) → NoneTold lines pod rest i
+    → ((line : Line) → IsTold lines pod rest i line → ⊥) → NoneTold lines pod rest (i + 1)
 told-on lines pod rest i none here c line under told = ⊎_elim
     (λ (same : i ≡ c). here line (subst (λ k. IsTold lines pod rest k line) (sym same) told))
     (λ (other : i ≢ c). none c line (omega (arith, under, other)) told)
@@ -55,7 +61,8 @@ told-on lines pod rest i none here c line under told = ⊎_elim
 
 -- ---- whether a line is told
 
-pub tells-of : (wanted other exact : List ℕ) (bytes lines : ℕ) → IsCommon wanted other bytes lines → wanted ≡ exact → (not (nat_eq lines 0) ≡ true → Agree 1 other exact) × (Agree 1 other exact → not (nat_eq lines 0) ≡ true)
+pub tells-of : (wanted other exact : List ℕ) (bytes lines : ℕ) → IsCommon wanted other bytes lines → wanted ≡ exact
+    → (not (nat_eq lines 0) ≡ true → Agree 1 other exact) × (Agree 1 other exact → not (nat_eq lines 0) ≡ true)
 tells-of wanted other exact bytes lines h is = (
   λ told. subst (λ l. Agree 1 other l) is (common-some wanted other bytes lines h (some lines told)),
   λ agree. by_none (nat_eq lines 0) refl agree,
@@ -75,7 +82,8 @@ tells-front wanted other text is same =
     let more = drop (length wanted) other in
     let whole : other ≡ wanted ++ more = sym (take-append-drop (length wanted) other) ∙ ap (λ l. l ++ more) same in
     let some : 1 ≤ line_count wanted = omega (arith, ap line_count is, count-append text (10 ∷ [])) in
-    subst (λ l. Agree 1 other l) is (agree-shorter 1 other wanted more some (agree-equal 1 other (wanted ++ more) whole (omega (arith, some, ap line_count whole, count-append wanted more))))
+    subst (λ l. Agree 1 other l) is (agree-shorter 1 other wanted more some
+    (agree-equal 1 other (wanted ++ more) whole (omega (arith, some, ap line_count whole, count-append wanted more))))
 
 -- where the recorded lines tell of no take, they tell of none of these
 pub none-told : (lines : ClientsLeft) (pod : EventState) (rest : List ℕ) (n : ℕ) → tells_take rest ≡ false → NoneTold lines pod rest n

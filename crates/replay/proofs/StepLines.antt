@@ -20,12 +20,14 @@ use Rattle.replay.proofs.LineLaws.{agree-behind, agree-head, closes-both, closes
 use Rattle.replay.specs.Recorded.{Agree, closes, first_lines, is_newline, line_count}
 use Rattle.replay.specs.Verdict.{begins_with, take_text, tells_take}
 use Rattle.replay.specs.Walk.{is_spoken}
-use Rattle.std.proofs.Common.{Bool, List, None, Some, [], ap, append_assoc, arith, codes, cond, false, inl, inr, refl, subst, sym, true, zero, suc, ℕ, ◌++◌, ◌+◌, ◌/◌, ◌%◌, ◌<◌, ◌^◌, ◌∙◌, ◌∷◌, ◌≡◌, ◌≤◌, ◌⊎◌}
+use Rattle.std.proofs.Common.{Bool, List, None, Some, [], ap, append_assoc, arith, codes, cond, false, inl, inr, refl, subst}
+use Rattle.std.proofs.Common.{sym, true, zero, suc, ℕ, ◌++◌, ◌+◌, ◌/◌, ◌%◌, ◌<◌, ◌^◌, ◌∙◌, ◌∷◌, ◌≡◌, ◌≤◌, ◌⊎◌}
 use Rattle.std.specs.Prelude.{IsTrue, Option, map, nat_lt, not, ◌&&◌, ◌==◌, ◌||◌}
 use Rattle.std.specs.List.{AllByRecursion, filter, list_all}
 use Rattle.std.specs.Fmt.{decimal, digit_glyph, digits, digits_onto}
 use Rattle.std.proofs.lemmas.Bool.{eqb-true, ne_eqb}
-use Rattle.trace_text.specs.Lines.{call_text, end_text, ended_line, halt_text, later_lines, left_text, left_texts, line_text, step_lines, taken_text, thread_text, ticked_text, with_space}
+use Rattle.trace_text.specs.Lines.{call_text, end_text, ended_line, halt_text, later_lines, left_text, left_texts}
+use Rattle.trace_text.specs.Lines.{line_text, step_lines, taken_text, thread_text, ticked_text, with_space}
 use Rattle.trace_text.specs.declared.ends.Halt.{Halt}
 use Rattle.lwp_types.specs.declared.call.Effect.TheVariants as effect
 use Rattle.lwp_types.specs.declared.call.LwpErr.TheVariants as error
@@ -35,11 +37,13 @@ use Rattle.trace_text.specs.declared.ends.Halt.TheVariants as halt
 
 closes-later : (procs : List (List ℕ)) (es : List Effect) → closes true (later_lines procs es) ≡ true
 closes-later procs [] = refl
-closes-later procs (e ∷ es) = closes-both (ended_line (line_text procs None e)) (later_lines procs es) (closes-line true (line_text procs None e)) (closes-later procs es)
+closes-later procs (e ∷ es) =
+    closes-both (ended_line (line_text procs None e)) (later_lines procs es) (closes-line true (line_text procs None e)) (closes-later procs es)
 
 pub closes-step : (procs : List (List ℕ)) (took : Option Line) (es : List Effect) → closes true (step_lines procs took es) ≡ true
 closes-step procs took [] = refl
-closes-step procs took (e ∷ es) = closes-both (ended_line (line_text procs took e)) (later_lines procs es) (closes-line true (line_text procs took e)) (closes-later procs es)
+closes-step procs took (e ∷ es) =
+    closes-both (ended_line (line_text procs took e)) (later_lines procs es) (closes-line true (line_text procs took e)) (closes-later procs es)
 
 closes-left : (c count : ℕ) → closes true (left_text c count) ≡ true
 closes-left c count = by_count (count == 0)
@@ -60,7 +64,8 @@ closes-lefts c (count ∷ counts) = closes-both (left_text c count) (left_texts 
 closes-halt : (turns : ℕ) (h : Halt) → closes true (halt_text turns h) ≡ true
 closes-halt turns (halt.Ended status) = refl
 closes-halt turns halt.Stuck = refl
-closes-halt turns halt.Spent = ap (closes true) (sym (append_assoc (codes "spent ") (decimal turns) (codes "\n"))) ∙ closes-line true (codes "spent " ++ decimal turns)
+closes-halt turns halt.Spent = ap (closes true) (sym (append_assoc (codes "spent ") (decimal turns) (codes "\n")))
+    ∙ closes-line true (codes "spent " ++ decimal turns)
 
 pub closes-end : (turns : ℕ) (left : List ℕ) (h : Halt) → closes true (end_text turns left h) ≡ true
 closes-end turns left h = closes-both (halt_text turns h) (left_texts 0 left) (closes-halt turns h) (closes-lefts 0 left)
@@ -79,7 +84,8 @@ begins-same [] x none = refl
 begins-same (a ∷ front) [] none = refl
 begins-same (a ∷ front) (b ∷ x) none = by_same (a == b) refl (begins-same front x none.1)
   where
-    by_same : (t : Bool) → (a == b) ≡ t → begins_with front (first_lines 1 x) ≡ begins_with front x → (t && begins_with front (first_lines (cond (is_newline b) 0 1) x)) ≡ (t && begins_with front x)
+    by_same : (t : Bool) → (a == b) ≡ t → begins_with front (first_lines 1 x) ≡ begins_with front x
+        → (t && begins_with front (first_lines (cond (is_newline b) 0 1) x)) ≡ (t && begins_with front x)
     by_same true e rest =
         let open_line : is_newline b ≡ false = ap is_newline (sym (eqb-true a b e)) ∙ none.0 in
         ap (λ t. begins_with front (first_lines (cond t 0 1) x)) open_line ∙ rest
@@ -98,7 +104,8 @@ pub tells-head : (a : List ℕ) → tells_take a ≡ true → (head_of a ≡ 101
 tells-head [] h = absurd (cc)
 tells-head (x ∷ a) h = by_first (101 == x) (116 == x) refl refl h
   where
-    by_first : (p q : Bool) → (101 == x) ≡ p → (116 == x) ≡ q → ((p && begins_with (codes "vent ") a) || (q && begins_with (codes "ick ") a)) ≡ true → (x ≡ 101) ⊎ (x ≡ 116)
+    by_first : (p q : Bool) → (101 == x) ≡ p → (116 == x) ≡ q
+        → ((p && begins_with (codes "vent ") a) || (q && begins_with (codes "ick ") a)) ≡ true → (x ≡ 101) ⊎ (x ≡ 116)
     by_first true q e f h = inl (sym (eqb-true 101 x e))
     by_first false true e f h = inr (sym (eqb-true 116 x f))
     by_first false false e f h = absurd (cc)
@@ -141,7 +148,8 @@ thread-speaks t more low = by_null (t == null_id)
     by_null true = (inr refl, refl)
     by_null false = (inl refl, no-tick (decimal t ++ more) (decimal-low t more low))
 
-line-speaks : (t : ℕ) (w rest more : List ℕ) → head_of (w ++ 10 ∷ []) < 105 → 1 ≤ line_count (w ++ 10 ∷ []) → Speaking ((ended_line (thread_text t ++ w) ++ rest) ++ more)
+line-speaks : (t : ℕ) (w rest more : List ℕ) → head_of (w ++ 10 ∷ []) < 105 → 1 ≤ line_count (w ++ 10 ∷ [])
+    → Speaking ((ended_line (thread_text t ++ w) ++ rest) ++ more)
 line-speaks t w rest more low some =
     let behind = (w ++ 10 ∷ []) ++ (rest ++ more) in
     let same : (ended_line (thread_text t ++ w) ++ rest) ++ more ≡ thread_text t ++ behind =
@@ -158,9 +166,12 @@ some-end : (w : List ℕ) → 1 ≤ line_count (w ++ 10 ∷ [])
 some-end w = omega (arith, count-append w (10 ∷ []))
 
 -- the first line of a call step tells who speaks
-pub call-lines : (procs : List (List ℕ)) (e : Effect) (es : List Effect) (more : List ℕ) → is_spoken e ≡ true → Speaking (step_lines procs None (e ∷ es) ++ more)
-call-lines procs (effect.Called t c) es more h = line-speaks t (codes ": " ++ call_text procs (Some t) c) (later_lines procs es) more (omega arith) (some-end (codes ": " ++ call_text procs (Some t) c))
-call-lines procs (effect.Trapped t e) es more h = line-speaks t (codes " trap " ++ decimal e) (later_lines procs es) more (omega arith) (some-end (codes " trap " ++ decimal e))
+pub call-lines : (procs : List (List ℕ)) (e : Effect) (es : List Effect) (more : List ℕ) → is_spoken e ≡ true
+    → Speaking (step_lines procs None (e ∷ es) ++ more)
+call-lines procs (effect.Called t c) es more h =
+    line-speaks t (codes ": " ++ call_text procs (Some t) c) (later_lines procs es) more (omega arith) (some-end (codes ": " ++ call_text procs (Some t) c))
+call-lines procs (effect.Trapped t e) es more h =
+    line-speaks t (codes " trap " ++ decimal e) (later_lines procs es) more (omega arith) (some-end (codes " trap " ++ decimal e))
 call-lines procs (effect.Answered t a) es more h = absurd (cc)
 call-lines procs (effect.Exited t reg x a) es more h = absurd (cc)
 call-lines procs (effect.Died t) es more h = absurd (cc)
@@ -186,9 +197,11 @@ step-called s t c is = by_choice (choice s) is
   where
     by_choice : (o : Option ℕ) → o ≡ Some t → (es : List Effect) × ((step_if s c o).effects ≡ effect.Called t c ∷ es)
     by_choice None e = absurd (cc)
-    by_choice (Some u) e = let same : u ≡ t = cc in ((case_of s t c).others ++ (own_effects t (case_of s t c).own ++ end_effects (case_of s t c).after), ap (λ v. (step_if s c (Some v)).effects) same)
+    by_choice (Some u) e = let same : u ≡ t = cc in
+        ((case_of s t c).others ++ (own_effects t (case_of s t c).own ++ end_effects (case_of s t c).after), ap (λ v. (step_if s c (Some v)).effects) same)
 
-called-first : (s : State) (trapped : List Bool) (t : ℕ) (c : Call) (pending : Option ℕ) → choice s ≡ Some t → FirstSpoken (after_trap_and_call s trapped t c pending).effects
+called-first : (s : State) (trapped : List Bool) (t : ℕ) (c : Call) (pending : Option ℕ) → choice s ≡ Some t
+    → FirstSpoken (after_trap_and_call s trapped t c pending).effects
 called-first s trapped t c (Some e) is = record { first = effect.Trapped t e; rest = _; are = refl; spoken = refl }
 called-first s trapped t c None is = by_trap (trap_of c)
   where
@@ -224,10 +237,12 @@ event-first es c t is = by_choice (choice es.state) is
     by_choice (Some u) e =
         let same : u ≡ t = cc in
         let out = after_trap_and_call es.state es.trapped u c es.pending in
-        said-first out.state out.effects (reports_after es.state out.state es.reports out.effects) (called-first es.state es.trapped u c es.pending (is ∙ ap Some (sym same)))
+        said-first out.state out.effects (reports_after es.state out.state es.reports out.effects)
+        (called-first es.state es.trapped u c es.pending (is ∙ ap Some (sym same)))
 
 -- the end begins otherwise, if there is anything
-pub end-head : (turns : ℕ) (left : List ℕ) (h : Halt) → 1 ≤ line_count (end_text turns left h) → (head_of (end_text turns left h) ≡ 115) ⊎ (head_of (end_text turns left h) ≡ 108)
+pub end-head : (turns : ℕ) (left : List ℕ) (h : Halt) → 1 ≤ line_count (end_text turns left h)
+    → (head_of (end_text turns left h) ≡ 115) ⊎ (head_of (end_text turns left h) ≡ 108)
 end-head turns left (halt.Ended status) some = lefts 0 left some
   where
     one_left : (c count : ℕ) (more : List ℕ) (b : Bool) → (1 ≤ line_count more → (head_of more ≡ 115) ⊎ (head_of more ≡ 108))
@@ -273,12 +288,14 @@ take-first es e text clock may = by_trapped (is_trapped es.trapped e) refl may
     no_clock false h traps = h
 
     by_agents : (rows : List AgentRow) → event_agents es.state.agents e ≡ rows → (e == 0) ≡ false → not (is_empty rows) ≡ true
-        → (first : Effect) × (rest : List Effect) × ((for_each (deliver_to text) rows es.state).effects ≡ first ∷ rest) × ((procs : List (List ℕ)) (line : Line) → line_text procs (Some line) first ≡ take_text es.state.now e line)
+        → (first : Effect) × (rest : List Effect) × ((for_each (deliver_to text) rows es.state).effects ≡ first ∷ rest)
+        × ((procs : List (List ℕ)) (line : Line) → line_text procs (Some line) first ≡ take_text es.state.now e line)
     by_agents [] is off some = absurd (cc)
     by_agents (row ∷ rows) is off some =
         let at : row.event ≡ e = eqb-true row.event e (filter-first (is_for e) es.state.agents row rows is) in (
           effect.Delivered row.number row.event,
-          (post (message text row) (record es.state { agents = with_holding row.number true es.state.agents })).effects ++ (for_each (deliver_to text) rows (deliver_to text row es.state).after).effects,
+          (post (message text row) (record es.state { agents = with_holding row.number true es.state.agents })).effects
+              ++ (for_each (deliver_to text) rows (deliver_to text row es.state).after).effects,
           refl,
           λ procs line. ap (λ k. taken_text k line) at ∙ other-text es.state.now e line off,
         )
@@ -292,15 +309,30 @@ take-first es e text clock may = by_trapped (is_trapped es.trapped e) refl may
     second false q h = absurd (cc)
 
     by_clock : (b : Bool) → (e == 0) ≡ b → is_event_armed es.state e ≡ true
-        → (first : Effect) × (rest : List Effect) × ((cond b (tick es.state) (for_each (deliver_to text) (event_agents es.state.agents e) es.state)).effects ≡ first ∷ rest)
+        → (first : Effect) × (rest : List Effect)
+        × ((cond b (tick es.state) (for_each (deliver_to text) (event_agents es.state.agents e) es.state)).effects ≡ first ∷ rest)
         × ((procs : List (List ℕ)) (line : Line) → line_text procs (Some line) first ≡ take_text es.state.now e line)
-    by_clock true h waits = (effect.Ticked (es.state.now + 1), (for_each time_out (due_threads (after_tick es.state)) (after_tick es.state)).effects, refl, λ procs line. ap (λ b. cond b (ticked_text (es.state.now + 1) line) (taken_text e line)) (sym h))
+    by_clock true h waits = (
+      effect.Ticked (es.state.now + 1),
+      (for_each time_out (due_threads (after_tick es.state)) (after_tick es.state)).effects,
+      refl,
+      λ procs line. ap (λ b. cond b (ticked_text (es.state.now + 1) line) (taken_text e line)) (sym h),
+    )
     by_clock false h waits =
-        let go = second (not es.state.ended) (cond (e == 0) (may_tick es.state) (not (is_empty (event_agents es.state.agents e)) && list_all (λ (row : AgentRow). not row.holding) (event_agents es.state.agents e))) waits in
-        let is_armed_now = subst (λ b. cond b (may_tick es.state) (not (is_empty (event_agents es.state.agents e)) && list_all (λ (row : AgentRow). not row.holding) (event_agents es.state.agents e)) ≡ true) h go in
-        by_agents (event_agents es.state.agents e) refl h (both (not (is_empty (event_agents es.state.agents e))) (list_all (λ (row : AgentRow). not row.holding) (event_agents es.state.agents e)) is_armed_now)
+        let go = second (not es.state.ended)
+        (cond (e == 0) (may_tick es.state)
+        (not (is_empty (event_agents es.state.agents e)) && list_all (λ (row : AgentRow). not row.holding) (event_agents es.state.agents e)))
+        waits in
+        let is_armed_now = subst
+        (λ b. cond b (may_tick es.state)
+        (not (is_empty (event_agents es.state.agents e)) && list_all (λ (row : AgentRow). not row.holding) (event_agents es.state.agents e))
+        ≡ true)
+        h go in
+        by_agents (event_agents es.state.agents e) refl h (both (not (is_empty (event_agents es.state.agents e)))
+        (list_all (λ (row : AgentRow). not row.holding) (event_agents es.state.agents e)) is_armed_now)
 
-    by_trapped : (b : Bool) → is_trapped es.trapped e ≡ b → cond b (may_trap es) (nat_lt e rites_event && is_event_armed es.state e) ≡ true → FirstTaken es e text
+    by_trapped : (b : Bool) → is_trapped es.trapped e ≡ b → cond b (may_trap es) (nat_lt e rites_event && is_event_armed es.state e) ≡ true
+        → FirstTaken es e text
     by_trapped true h may = record {
       first = effect.Delivered null_id e;
       rest = [];
@@ -309,7 +341,12 @@ take-first es e text clock may = by_trapped (is_trapped es.trapped e) refl may
     }
     by_trapped false h may =
         let w = by_clock (e == 0) refl (second (nat_lt e rites_event) (is_event_armed es.state e) may) in
-        record { first = w.0; rest = w.1; are = ap (λ b. (cond b (after_take_trap es e) (after_pass_on es (deliver es.state e text))).effects) h ∙ w.2; line = w.3 }
+        record {
+          first = w.0;
+          rest = w.1;
+          are = ap (λ b. (cond b (after_take_trap es e) (after_pass_on es (deliver es.state e text))).effects) h ∙ w.2;
+          line = w.3;
+        }
 
 -- ---- lines of takes
 
@@ -318,10 +355,12 @@ abbrev behind_client : Line → List ℕ → List ℕ
 behind_client line more = codes "seq " ++ (decimal line.seq ++ (with_space line.text ++ more))
 
 -- a word, a number, and what a client has posted
-posted-shape : (word : List ℕ) (n : ℕ) (line : Line) (more : List ℕ) → ended_line (word ++ (decimal n ++ (codes " client " ++ (decimal line.client ++ (codes " seq " ++ (decimal line.seq ++ with_space line.text)))))) ++ more
+posted-shape : (word : List ℕ) (n : ℕ) (line : Line) (more : List ℕ)
+    → ended_line (word ++ (decimal n ++ (codes " client " ++ (decimal line.client ++ (codes " seq " ++ (decimal line.seq ++ with_space line.text)))))) ++ more
     ≡ word ++ (decimal n ++ (codes " client " ++ (decimal line.client ++ 32 ∷ behind_client line (10 ∷ more))))
 posted-shape word n line more =
-    append_assoc (word ++ (decimal n ++ (codes " client " ++ (decimal line.client ++ (codes " seq " ++ (decimal line.seq ++ with_space line.text)))))) (10 ∷ []) more
+    append_assoc
+    (word ++ (decimal n ++ (codes " client " ++ (decimal line.client ++ (codes " seq " ++ (decimal line.seq ++ with_space line.text)))))) (10 ∷ []) more
     ∙ append_assoc word (decimal n ++ (codes " client " ++ (decimal line.client ++ (codes " seq " ++ (decimal line.seq ++ with_space line.text))))) (10 ∷ more)
     ∙ ap (λ l. word ++ l) (
     append_assoc (decimal n) (codes " client " ++ (decimal line.client ++ (codes " seq " ++ (decimal line.seq ++ with_space line.text)))) (10 ∷ more)
@@ -331,12 +370,16 @@ posted-shape word n line more =
 
 -- texts that begin so, with the same first line, tell of the same client
 posted-client : (word : List ℕ) (n : ℕ) (line other : Line) (x y : List ℕ) → line_count word ≡ 0 → n < 2 ^ 64 → line.client < 2 ^ 64 → other.client < 2 ^ 64
-    → first_lines 1 (word ++ (decimal n ++ (codes " client " ++ (decimal line.client ++ 32 ∷ x)))) ≡ first_lines 1 (word ++ (decimal n ++ (codes " client " ++ (decimal other.client ++ 32 ∷ y))))
+    → first_lines 1 (word ++ (decimal n ++ (codes " client " ++ (decimal line.client ++ 32 ∷ x))))
+    ≡ first_lines 1 (word ++ (decimal n ++ (codes " client " ++ (decimal other.client ++ 32 ∷ y))))
     → line.client ≡ other.client
 posted-client word n line other x y none low lc lo h =
-    let numbers = agree-behind word (decimal n ++ (codes " client " ++ (decimal line.client ++ 32 ∷ x))) (decimal n ++ (codes " client " ++ (decimal other.client ++ 32 ∷ y))) none h in
-    let clients = agree-behind (decimal n) (codes " client " ++ (decimal line.client ++ 32 ∷ x)) (codes " client " ++ (decimal other.client ++ 32 ∷ y)) (decimal-no-line n low) numbers in
-    number-split line.client other.client x y lc lo (agree-behind (codes " client ") (decimal line.client ++ 32 ∷ x) (decimal other.client ++ 32 ∷ y) refl clients)
+    let numbers = agree-behind word (decimal n ++ (codes " client " ++ (decimal line.client ++ 32 ∷ x)))
+    (decimal n ++ (codes " client " ++ (decimal other.client ++ 32 ∷ y))) none h in
+    let clients = agree-behind (decimal n) (codes " client " ++ (decimal line.client ++ 32 ∷ x))
+    (codes " client " ++ (decimal other.client ++ 32 ∷ y)) (decimal-no-line n low) numbers in
+    number-split line.client other.client x y lc lo
+    (agree-behind (codes " client ") (decimal line.client ++ 32 ∷ x) (decimal other.client ++ 32 ∷ y) refl clients)
 
 -- lines of takes of other events than the clock's
 event-client : (e f : ℕ) (line other : Line) (x y : List ℕ) → e < 2 ^ 64 → f < 2 ^ 64 → line.client < 2 ^ 64 → other.client < 2 ^ 64
@@ -344,15 +387,19 @@ event-client : (e f : ℕ) (line other : Line) (x y : List ℕ) → e < 2 ^ 64 �
 event-client e f line other x y le lf lc lo h =
     let u = behind_client line (10 ∷ x) in
     let v = behind_client other (10 ∷ y) in
-    let shaped : first_lines 1 (codes "event " ++ (decimal e ++ (codes " client " ++ (decimal line.client ++ 32 ∷ u)))) ≡ first_lines 1 (codes "event " ++ (decimal f ++ (codes " client " ++ (decimal other.client ++ 32 ∷ v)))) =
+    let shaped : first_lines 1 (codes "event " ++ (decimal e ++ (codes " client " ++ (decimal line.client ++ 32 ∷ u))))
+    ≡ first_lines 1 (codes "event " ++ (decimal f ++ (codes " client " ++ (decimal other.client ++ 32 ∷ v)))) =
     sym (ap (first_lines 1) (posted-shape (codes "event ") e line x)) ∙ h ∙ ap (first_lines 1) (posted-shape (codes "event ") f other y) in
-    let events = agree-behind (codes "event ") (decimal e ++ (codes " client " ++ (decimal line.client ++ 32 ∷ u))) (decimal f ++ (codes " client " ++ (decimal other.client ++ 32 ∷ v))) refl shaped in
-    let same : e ≡ f = number-split e f (codes "client " ++ (decimal line.client ++ 32 ∷ u)) (codes "client " ++ (decimal other.client ++ 32 ∷ v)) le lf events in
+    let events = agree-behind (codes "event ") (decimal e ++ (codes " client " ++ (decimal line.client ++ 32 ∷ u)))
+    (decimal f ++ (codes " client " ++ (decimal other.client ++ 32 ∷ v))) refl shaped in
+    let same : e
+    ≡ f = number-split e f (codes "client " ++ (decimal line.client ++ 32 ∷ u)) (codes "client " ++ (decimal other.client ++ 32 ∷ v)) le lf events in
     posted-client (codes "event ") e line other u v refl le lc lo
     (shaped ∙ ap (λ k. first_lines 1 (codes "event " ++ (decimal k ++ (codes " client " ++ (decimal other.client ++ 32 ∷ v))))) (sym same))
 
 -- lines of takes that are the same tell of the same client; the clock has ticked equally often
-pub take-client : (now e f : ℕ) (line other : Line) (x y : List ℕ) → e < 2 ^ 64 → f < 2 ^ 64 → line.client < 2 ^ 64 → other.client < 2 ^ 64 → (f ≡ 0 → now + 1 < 2 ^ 64)
+pub take-client : (now e f : ℕ) (line other : Line) (x y : List ℕ) → e < 2 ^ 64 → f < 2 ^ 64 → line.client < 2 ^ 64 → other.client < 2 ^ 64
+    → (f ≡ 0 → now + 1 < 2 ^ 64)
     → first_lines 1 (ended_line (take_text now e line) ++ x) ≡ first_lines 1 (ended_line (take_text now f other) ++ y) → line.client ≡ other.client
 take-client now e f line other x y le lf lc lo small h = by_clock (e == 0) (f == 0) refl h
   where
@@ -362,13 +409,17 @@ take-client now e f line other x y le lf lc lo small h = by_clock (e == 0) (f ==
     event_behind : ℕ → Line → List ℕ → List ℕ
     event_behind k l more = codes "vent " ++ (decimal k ++ (codes " client " ++ (decimal l.client ++ 32 ∷ behind_client l (10 ∷ more))))
 
-    by_clock : (a b : Bool) → (f == 0) ≡ b → first_lines 1 (ended_line (cond a (ticked_text (now + 1) line) (taken_text e line)) ++ x) ≡ first_lines 1 (ended_line (cond b (ticked_text (now + 1) other) (taken_text f other)) ++ y)
+    by_clock : (a b : Bool) → (f == 0) ≡ b
+        → first_lines 1 (ended_line (cond a (ticked_text (now + 1) line) (taken_text e line)) ++ x)
+        ≡ first_lines 1 (ended_line (cond b (ticked_text (now + 1) other) (taken_text f other)) ++ y)
         → line.client ≡ other.client
     by_clock true true is h =
         posted-client (codes "tick ") (now + 1) line other (behind_client line (10 ∷ x)) (behind_client other (10 ∷ y)) refl (small (eqb-true f 0 is)) lc lo
         (sym (ap (first_lines 1) (posted-shape (codes "tick ") (now + 1) line x)) ∙ h ∙ ap (first_lines 1) (posted-shape (codes "tick ") (now + 1) other y))
-    by_clock true false is h = absurd (omega (arith, agree-head 116 101 (ticks_behind line x) (event_behind f other y) (sym (ap (first_lines 1) (posted-shape (codes "tick ") (now + 1) line x)) ∙ h ∙ ap (first_lines 1) (posted-shape (codes "event ") f other y))))
-    by_clock false true is h = absurd (omega (arith, agree-head 101 116 (event_behind e line x) (ticks_behind other y) (sym (ap (first_lines 1) (posted-shape (codes "event ") e line x)) ∙ h ∙ ap (first_lines 1) (posted-shape (codes "tick ") (now + 1) other y))))
+    by_clock true false is h =
+        absurd (omega (arith, agree-head 116 101 (ticks_behind line x) (event_behind f other y) (sym (ap (first_lines 1) (posted-shape (codes "tick ") (now + 1) line x)) ∙ h ∙ ap (first_lines 1) (posted-shape (codes "event ") f other y))))
+    by_clock false true is h =
+        absurd (omega (arith, agree-head 101 116 (event_behind e line x) (ticks_behind other y) (sym (ap (first_lines 1) (posted-shape (codes "event ") e line x)) ∙ h ∙ ap (first_lines 1) (posted-shape (codes "tick ") (now + 1) other y))))
     by_clock false false is h = event-client e f line other x y le lf lc lo h
 
 -- it tells of a take

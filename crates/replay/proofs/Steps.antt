@@ -15,10 +15,12 @@ use Rattle.replay.specs.Asked.{Asked, IsReached, Reach, end_by, halt_at, pairs_o
 use Rattle.replay.specs.Recorded.{Agree, first_lines, line_count}
 use Rattle.replay.specs.Next.{without_next}
 use Rattle.replay.specs.Verdict.{IsSame}
-use Rattle.replay.specs.Walk.{AreLeft, ClientsLeft, Due, Forced, Going, IsFit, IsLast, IsNext, Moment, Move, Speaks, Stands, after_move, count_of, first_moment, move_lines, ticks_after, lines_until, took_at}
+use Rattle.replay.specs.Walk.{AreLeft, ClientsLeft, Due, Forced, Going, IsFit, IsLast, IsNext, Moment, Move, Speaks, Stands}
+use Rattle.replay.specs.Walk.{after_move, count_of, first_moment, move_lines, ticks_after, lines_until, took_at}
 use Rattle.trace_text.specs.declared.ends.Halt.{Halt}
 use Rattle.std.specs.Prelude.{slice_index_or, set}
-use Rattle.std.proofs.Common.{List, None, Some, [], ap, append-nil, arith, drop, drop-drop, get_or, get_or-set_other, get_or-set_same, inl, length, length-set, refl, slice_get, subst, sym, take, take-add, take-append-drop, ℕ, ⊎_elim, ◌++◌, ◌+◌, ◌<◌, ◌∙◌, ◌∷◌, ◌≡◌, ◌≢◌, ◌≤◌}
+use Rattle.std.proofs.Common.{List, None, Some, [], ap, append-nil, arith, drop, drop-drop, get_or, get_or-set_other, get_or-set_same, inl, length, length-set}
+use Rattle.std.proofs.Common.{refl, slice_get, subst, sym, take, take-add, take-append-drop, ℕ, ⊎_elim, ◌++◌, ◌+◌, ◌<◌, ◌∙◌, ◌∷◌, ◌≡◌, ◌≢◌, ◌≤◌}
 use Rattle.event_gate.proofs.Lines.{same_or}
 
 pub behind-front : {A : Type 0} (xs ys : List A) (n : ℕ) → n ≡ 0 → slice_get (xs ++ ys) (length xs) ≡ slice_get ys n
@@ -30,7 +32,8 @@ module _ {B : Type 0} (asked : Asked B) (bytes : List ℕ) where
   at_moment p left = record { takes = p.takes; calls = p.calls; left = left }
 
   -- the first line left of a client is its next
-  pub next-left : (p : Moment) (left : List Line) (c : ℕ) (x : Line) → IsReached asked (at_moment p left) → slice_get (of c left) 0 ≡ Some x → IsNext asked p (event_of asked.clients c, x)
+  pub next-left : (p : Moment) (left : List Line) (c : ℕ) (x : Line) → IsReached asked (at_moment p left) → slice_get (of c left) 0 ≡ Some x
+      → IsNext asked p (event_of asked.clients c, x)
   next-left p left c x is first =
       let own : x.client ≡ c = client-own c 0 left x first in
       record {
@@ -41,14 +44,16 @@ module _ {B : Type 0} (asked : Asked B) (bytes : List ℕ) where
       }
 
   -- and the next line of a client is the first that it has left
-  pub left-next : (p : Moment) (left : List Line) (t : ℕ × Line) → IsReached asked (at_moment p left) → IsNext asked p t → slice_get (of t.1.client left) 0 ≡ Some t.1
+  pub left-next : (p : Moment) (left : List Line) (t : ℕ × Line) → IsReached asked (at_moment p left) → IsNext asked p t
+      → slice_get (of t.1.client left) 0 ≡ Some t.1
   left-next p left t is next =
       sym (behind-front (of t.1.client (lines_of (pairs_of p.takes))) (of t.1.client left) 0 refl)
       ∙ ap (λ l. slice_get l (count_of t.1.client p.takes)) (is.history.lines_are t.1.client) ∙ next.line
 
   -- ---- before the first step
 
-  pub going-opened : (fit : IsFit asked) (clients : ClientsLeft) → clients.clients ≡ asked.clients → AreLeft clients asked.posts → Going asked bytes first_moment clients 0 0 0
+  pub going-opened : (fit : IsFit asked) (clients : ClientsLeft) → clients.clients ≡ asked.clients → AreLeft clients asked.posts
+      → Going asked bytes first_moment clients 0 0 0
   going-opened fit clients same kept = record {
     left = asked.posts;
     reached = record {
@@ -64,7 +69,8 @@ module _ {B : Type 0} (asked : Asked B) (bytes : List ℕ) where
     clock = ap (λ (s : Session B). s.live.pod.state.now) (play-zero asked.setting);
   }
 
-  module _ (fit : IsFit asked) (speaks : Speaks asked) (p : Moment) (clients : ClientsLeft) (at n ticks : ℕ) (here : Going asked bytes p clients at n ticks) where
+  module _ (fit : IsFit asked) (speaks : Speaks asked) (p : Moment) (clients : ClientsLeft) (at n ticks : ℕ)
+      (here : Going asked bytes p clients at n ticks) where
     abbrev rest : List ℕ
     rest = drop at bytes
 
@@ -82,10 +88,13 @@ module _ {B : Type 0} (asked : Asked B) (bytes : List ℕ) where
       same = ap (first_lines 1) is ∙ first-append 1 w more some ∙ sym (ap (first_lines 1) (append-nil w));
     }
 
-    said-on : (m : Move) (w : List ℕ) → w ≡ lines_of_move m → take (length w) rest ≡ w → take (at + length w) bytes ≡ lines_until asked.setting asked.procs (after_move p m)
-    said-on m w is front = take-add at (length w) bytes ∙ ap (λ l. l ++ take (length w) rest) here.said ∙ ap (λ l. lines_until asked.setting asked.procs p ++ l) (front ∙ is) ∙ sym (told-moved asked.setting asked.procs p m here.stands.made)
+    said-on : (m : Move) (w : List ℕ) → w ≡ lines_of_move m → take (length w) rest ≡ w
+        → take (at + length w) bytes ≡ lines_until asked.setting asked.procs (after_move p m)
+    said-on m w is front = take-add at (length w) bytes ∙ ap (λ l. l ++ take (length w) rest) here.said
+        ∙ ap (λ l. lines_until asked.setting asked.procs p ++ l) (front ∙ is) ∙ sym (told-moved asked.setting asked.procs p m here.stands.made)
 
-    stands-by : (m : Move) (w : List ℕ) → w ≡ lines_of_move m → take (length w) rest ≡ w → Due asked.setting p m → 1 ≤ line_count w → Forced asked bytes (n + 1) (after_move p m) → Stands asked bytes (n + line_count w) (after_move p m) (drop (at + length w) bytes)
+    stands-by : (m : Move) (w : List ℕ) → w ≡ lines_of_move m → take (length w) rest ≡ w → Due asked.setting p m → 1 ≤ line_count w
+        → Forced asked bytes (n + 1) (after_move p m) → Stands asked bytes (n + line_count w) (after_move p m) (drop (at + length w) bytes)
     stands-by m w is front due some forced =
         subst (λ l. Stands asked bytes (n + line_count l) (after_move p m) (drop (at + length w) bytes)) (sym is)
         (stands-on asked bytes fit speaks n p rest here.stands m due forced (drop (at + length w) bytes)
@@ -96,10 +105,12 @@ module _ {B : Type 0} (asked : Asked B) (bytes : List ℕ) where
     last-by m w some = last-moved asked p m here.stands.made (n + line_count w) (omega (arith, here.stands.count, some))
 
     -- a call whose lines were recorded
-    pub going-call : (w : List ℕ) → Due asked.setting p None → p.calls + 1 ≤ asked.turns → w ≡ lines_of_move None → take (length w) rest ≡ w → Going asked bytes (after_move p None) clients (at + length w) (n + line_count w) ticks
+    pub going-call : (w : List ℕ) → Due asked.setting p None → p.calls + 1 ≤ asked.turns → w ≡ lines_of_move None → take (length w) rest ≡ w
+        → Going asked bytes (after_move p None) clients (at + length w) (n + line_count w) ticks
     going-call w due room is front =
         let some : 1 ≤ line_count w = subst (λ l. 1 ≤ line_count l) (sym is) (call-one asked bytes speaks p here.stands.made due) in
-        let forced = forced-call asked bytes fit speaks n p rest here.stands due [] (subst (λ l. Agree 1 rest (l ++ [])) is (agrees w (drop (at + length w) bytes) (recorded w front) some)) in
+        let forced = forced-call asked bytes fit speaks n p rest here.stands due []
+        (subst (λ l. Agree 1 rest (l ++ [])) is (agrees w (drop (at + length w) bytes) (recorded w front) some)) in
         record {
           left = here.left;
           reached = record { due = IsAt-moved asked.setting p None here.stands.made due; room = room; history = here.reached.history };
@@ -123,17 +134,21 @@ module _ {B : Type 0} (asked : Asked B) (bytes : List ℕ) where
           ∙ get_or-set_same clients.left c (drop 1 (slice_index_or clients.left c [])) [] (omega (arith, low, here.kept.long))
           ∙ ap (drop 1) (here.kept.each c low) ∙ sym (without-own c here.left) ∙ ap (λ k. of k (without_first c here.left)) same)
           (λ (apart : c ≢ d).
-          get_or-set_other clients.left c d (drop 1 (slice_index_or clients.left c [])) [] (λ e. apart (sym e)) ∙ here.kept.each d there ∙ sym (without-other c d here.left apart))
+          get_or-set_other clients.left c d (drop 1 (slice_index_or clients.left c [])) [] (λ e. apart (sym e)) ∙ here.kept.each d there
+          ∙ sym (without-other c d here.left apart))
           (same_or c d);
     }
 
     first-of : (c : ℕ) (x : Line) → c < length clients.clients → slice_get (slice_index_or clients.left c []) 0 ≡ Some x → slice_get (of c here.left) 0 ≡ Some x
     first-of c x low first = ap (λ l. slice_get l 0) (sym (here.kept.each c low)) ∙ first
 
-    pub next-of : (c : ℕ) (x : Line) → c < length clients.clients → slice_get (slice_index_or clients.left c []) 0 ≡ Some x → IsNext asked p (event_of clients.clients c, x)
-    next-of c x low first = subst (λ es. IsNext asked p (event_of es c, x)) (sym here.same_clients) (next-left p here.left c x here.reached (first-of c x low first))
+    pub next-of : (c : ℕ) (x : Line) → c < length clients.clients → slice_get (slice_index_or clients.left c []) 0 ≡ Some x
+        → IsNext asked p (event_of clients.clients c, x)
+    next-of c x low first = subst (λ es. IsNext asked p (event_of es c, x)) (sym here.same_clients)
+        (next-left p here.left c x here.reached (first-of c x low first))
 
-    pub reached-take : (c : ℕ) (x : Line) → c < length clients.clients → slice_get (slice_index_or clients.left c []) 0 ≡ Some x → Due asked.setting p (Some (event_of clients.clients c, x))
+    pub reached-take : (c : ℕ) (x : Line) → c < length clients.clients → slice_get (slice_index_or clients.left c []) 0 ≡ Some x
+        → Due asked.setting p (Some (event_of clients.clients c, x))
         → IsReached asked (at_moment (after_move p (Some (event_of clients.clients c, x))) (without_first c here.left))
     reached-take c x low first due =
         let e = event_of clients.clients c in
@@ -141,19 +156,24 @@ module _ {B : Type 0} (asked : Asked B) (bytes : List ℕ) where
           due = IsAt-moved asked.setting p (Some (e, x)) here.stands.made due;
           room = here.reached.room;
           history = subst (λ l. IsClientHistory asked.clients asked.posts l (without_first c here.left)) (sym (pairs-append p.takes (took_at p (e, x) ∷ [])))
-              (history-take asked.clients asked.posts (pairs_of p.takes) here.left c e x fit.numbered here.reached.history (ap (λ es. event_of es c) (sym here.same_clients)) (first-of c x low first));
+              (history-take asked.clients asked.posts (pairs_of p.takes) here.left c e x fit.numbered here.reached.history
+              (ap (λ es. event_of es c) (sym here.same_clients)) (first-of c x low first));
         }
 
     pub forced-by : (c : ℕ) (x : Line) → c < length clients.clients → slice_get (slice_index_or clients.left c []) 0 ≡ Some x
-        → Agree 1 rest (told_line asked bytes p (event_of clients.clients c, x)) → Forced asked bytes (n + 1) (after_move p (Some (event_of clients.clients c, x)))
+        → Agree 1 rest (told_line asked bytes p (event_of clients.clients c, x))
+        → Forced asked bytes (n + 1) (after_move p (Some (event_of clients.clients c, x)))
     forced-by c x low first agree =
         forced-take asked bytes fit speaks n p rest here.stands (event_of clients.clients c, x) (next-of c x low first) []
         (subst (λ l. Agree 1 rest l) (sym (append-nil (told_line asked bytes p (event_of clients.clients c, x)))) agree)
 
     -- a take whose lines were recorded
-    pub going-take : (c : ℕ) (x : Line) (w : List ℕ) → c < length clients.clients → slice_get (slice_index_or clients.left c []) 0 ≡ Some x → Due asked.setting p (Some (event_of clients.clients c, x))
-        → Agree 1 rest (told_line asked bytes p (event_of clients.clients c, x)) → w ≡ lines_of_move (Some (event_of clients.clients c, x)) → take (length w) rest ≡ w
-        → Going asked bytes (after_move p (Some (event_of clients.clients c, x))) (without_next clients c) (at + length w) (n + line_count w) (ticks_after (event_of clients.clients c) ticks)
+    pub going-take : (c : ℕ) (x : Line) (w : List ℕ) → c < length clients.clients → slice_get (slice_index_or clients.left c []) 0 ≡ Some x
+        → Due asked.setting p (Some (event_of clients.clients c, x))
+        → Agree 1 rest (told_line asked bytes p (event_of clients.clients c, x)) → w ≡ lines_of_move (Some (event_of clients.clients c, x))
+        → take (length w) rest ≡ w
+        → Going asked bytes (after_move p (Some (event_of clients.clients c, x))) (without_next clients c) (at + length w)
+        (n + line_count w) (ticks_after (event_of clients.clients c) ticks)
     going-take c x w low first due agree is front =
         let e = event_of clients.clients c in
         let some : 1 ≤ line_count w = subst (λ l. 1 ≤ line_count l) (sym is) (take-one asked bytes p (e, x) here.stands.made due) in
@@ -169,7 +189,8 @@ module _ {B : Type 0} (asked : Asked B) (bytes : List ℕ) where
         }
 
     -- the end was recorded
-    pub same-end : (h : Halt) → halt_at asked (at_moment p here.left) ≡ Some h → (w : List ℕ) → w ≡ end_by asked (at_moment p here.left) (Some h) → rest ≡ w → IsSame asked bytes (line_count bytes) p.takes p.calls
+    pub same-end : (h : Halt) → halt_at asked (at_moment p here.left) ≡ Some h → (w : List ℕ)
+        → w ≡ end_by asked (at_moment p here.left) (Some h) → rest ≡ w → IsSame asked bytes (line_count bytes) p.takes p.calls
     same-end h over w is all = record {
       left = here.left;
       trace = record {

@@ -12,7 +12,8 @@ use Rattle.replay.specs.Stock.{AreFrom, lines_by_places, with_place, without_fir
 use Rattle.script_text.specs.Script.{line_of, lines_posted}
 use Rattle.script_text.specs.declared.script.Post.{Post}
 use Rattle.script_text.specs.declared.script.Script.{Script}
-use Rattle.std.proofs.Common.{List, [], add-one, ap, arith, drop, get_or, get_or-set_other, get_or-set_same, length, length-set, map, refl, set, slice_get, subst, suc, sym, take, zero, ℕ, ⊎_elim, ◌++◌, ◌+◌, ◌<◌, ◌^◌, ◌∙◌, ◌∷◌, ◌≡◌, ◌≢◌, ◌≤◌}
+use Rattle.std.proofs.Common.{List, [], add-one, ap, arith, drop, get_or, get_or-set_other, get_or-set_same, length, length-set, map, refl}
+use Rattle.std.proofs.Common.{set, slice_get, subst, suc, sym, take, zero, ℕ, ⊎_elim, ◌++◌, ◌+◌, ◌<◌, ◌^◌, ◌∙◌, ◌∷◌, ◌≡◌, ◌≢◌, ◌≤◌}
 use Rattle.std.proofs.lemmas.List.{drop-map, drop_all, drop_more, get_or-map, length-map, map-set}
 use Rattle.std.proofs.lemmas.List.Elements.{All-get_or, recursion_from_All}
 use Rattle.std.proofs.lemmas.Option.{slice_get-map}
@@ -31,7 +32,8 @@ from-none posts place n all at none c low =
     ∙ sym (ap (of c) (drop_all place posts (omega (arith, at))))
 
 -- one line before
-pub from-before : (posts : List Line) (all : List (List ℕ)) (k c : ℕ) → k < length posts → (line_at posts k).client ≡ c → AreFrom posts (k + 1) all → AreFrom posts k (with_place c k all)
+pub from-before : (posts : List Line) (all : List (List ℕ)) (k c : ℕ) → k < length posts → (line_at posts k).client ≡ c
+    → AreFrom posts (k + 1) all → AreFrom posts k (with_place c k all)
 from-before posts all k c low own was d there = ⊎_elim
     (λ (same : c ≡ d).
     ap (λ e. map (line_at posts) (slice_index_or (with_place c k all) e [])) (sym same)
@@ -42,7 +44,8 @@ from-before posts all k c low own was d there = ⊎_elim
     (λ (apart : c ≢ d).
     ap (map (line_at posts)) (get_or-set_other all c d (k ∷ slice_index_or all c []) [] (λ e. apart (sym e)))
     ∙ was d within
-    ∙ sym (ap (of d) front ∙ cond_other (line_at posts k).client d (line_at posts k ∷ of d (drop (k + 1) posts)) (of d (drop (k + 1) posts)) (λ e. apart (sym own ∙ e))))
+    ∙ sym (ap (of d) front
+    ∙ cond_other (line_at posts k).client d (line_at posts k ∷ of d (drop (k + 1) posts)) (of d (drop (k + 1) posts)) (λ e. apart (sym own ∙ e))))
     (same_or c d)
   where
     within : d < length all
@@ -55,44 +58,52 @@ module _ (posts : List Line) where
   left-at : (all : List (List ℕ)) (c : ℕ) → c < length all → slice_index_or (lines_by_places posts all) c [] ≡ map (line_at posts) (slice_index_or all c [])
   left-at all c low = get_or-map (λ places. map (line_at posts) places) all c [] [] low
 
-  pub are-left : (clients : List ℕ) (all : List (List ℕ)) → length all ≡ length clients → AreFrom posts 0 all → AreLeft (record { clients = clients; left = lines_by_places posts all }) posts
+  pub are-left : (clients : List ℕ) (all : List (List ℕ)) → length all ≡ length clients → AreFrom posts 0 all
+      → AreLeft (record { clients = clients; left = lines_by_places posts all }) posts
   are-left clients all long from = record {
     long = length-map all (λ places. map (line_at posts) places) ∙ long;
     each = λ c low. left-at all c (omega (arith, low, long)) ∙ from c (omega (arith, low, long));
   }
 
-  pub next-at : (clients : List ℕ) (all : List (List ℕ)) (c : ℕ) → c < length all → next_in (record { clients = clients; left = lines_by_places posts all }) c ≡ option_map (line_at posts) (slice_get (slice_index_or all c []) 0)
+  pub next-at : (clients : List ℕ) (all : List (List ℕ)) (c : ℕ) → c < length all
+      → next_in (record { clients = clients; left = lines_by_places posts all }) c ≡ option_map (line_at posts) (slice_get (slice_index_or all c []) 0)
   next-at clients all c low = ap (λ l. slice_get l 0) (left-at all c low) ∙ slice_get-map (line_at posts) (slice_index_or all c []) 0
 
   pub left-without : (clients : List ℕ) (all : List (List ℕ)) (c : ℕ) → c < length all
-      → ◌≡◌ {A = ClientsLeft} (record { clients = clients; left = lines_by_places posts (without_first c all) }) (without_next (record { clients = clients; left = lines_by_places posts all }) c)
+      → ◌≡◌ {A = ClientsLeft} (record { clients = clients; left = lines_by_places posts (without_first c all) })
+      (without_next (record { clients = clients; left = lines_by_places posts all }) c)
   left-without clients all c low = ap (λ (l : List (List Line)). record { clients = clients; left = l })
       (map-set (λ places. map (line_at posts) places) all c (drop 1 (slice_index_or all c []))
       ∙ ap (set (lines_by_places posts all) c) (sym (drop-map (line_at posts) 1 (slice_index_or all c [])) ∙ ap (drop 1) (sym (left-at all c low))))
 
   pub counts-are : (all : List (List ℕ)) → map (λ (l : List Line). length l) (lines_by_places posts all) ≡ map (λ (l : List ℕ). length l) all
   counts-are [] = refl
-  counts-are (places ∷ all) = ap (λ n. n ∷ map (λ (l : List Line). length l) (lines_by_places posts all)) (length-map places (line_at posts)) ∙ ap (λ ns. length places ∷ ns) (counts-are all)
+  counts-are (places ∷ all) = ap (λ n. n ∷ map (λ (l : List Line). length l) (lines_by_places posts all)) (length-map places (line_at posts))
+      ∙ ap (λ ns. length places ∷ ns) (counts-are all)
 
 -- ---- the posts of a script
 
 -- the client of a post, and that it is one of the clients
-pub client-at : (script : Script) (posts : List Post) (i : ℕ) (d : Post) → posts ≡ script.posts → i < length posts → (line_at (lines_posted script) i).client ≡ (get_or posts i d).client
+pub client-at : (script : Script) (posts : List Post) (i : ℕ) (d : Post) → posts ≡ script.posts → i < length posts
+    → (line_at (lines_posted script) i).client ≡ (get_or posts i d).client
 client-at script posts i d same there =
     ap (λ (l : Line). l.client) (get_or-map (line_of script.texts) script.posts i d no_line (omega (arith, there, ap length same)))
     ∙ sym (ap (λ (ps : List Post). (get_or ps i d).client) same)
 
-pub client-known : (script : Script) (i : ℕ) → IsPosted script → i < length (lines_posted script) → (line_at (lines_posted script) i).client < length script.clients
+pub client-known : (script : Script) (i : ℕ) → IsPosted script → i < length (lines_posted script)
+    → (line_at (lines_posted script) i).client < length script.clients
 client-known script i posted there = All-get_or (λ (l : Line). l.client < length script.clients) (lines_posted script) i no_line there posted.clients
 
 pub posts-long : (script : Script) (posts : List Post) → posts ≡ script.posts → length (lines_posted script) ≡ length posts
 posts-long script posts same = length-map script.posts (line_of script.texts) ∙ sym (ap length same)
 
 -- the numbers of clients and events are small, and each client's lines are numbered
-pub posted-fits : {B : Type 0} (asked : Asked B) (script : Script) → IsPosted script → asked.clients ≡ script.clients → asked.posts ≡ lines_posted script → IsFit asked
+pub posted-fits : {B : Type 0} (asked : Asked B) (script : Script) → IsPosted script → asked.clients ≡ script.clients
+    → asked.posts ≡ lines_posted script → IsFit asked
 posted-fits asked script posted clients posts = record {
   events = λ c. subst (λ es. event_of es c < 2 ^ 64) (sym clients) (small script.clients c (all-small script.clients posted.events));
-  posters = subst (λ cs. All (λ (line : Line). line.client < length cs) asked.posts) (sym clients) (subst (λ ls. All (λ (line : Line). line.client < length script.clients) ls) (sym posts) posted.clients);
+  posters = subst (λ cs. All (λ (line : Line). line.client < length cs) asked.posts) (sym clients)
+      (subst (λ ls. All (λ (line : Line). line.client < length script.clients) ls) (sym posts) posted.clients);
   few = omega (arith, posted.most, ap length clients);
   numbered = λ c. subst (λ ls. IsNumbered 0 (of c ls)) (sym posts) (posted.numbered c);
 }
@@ -107,10 +118,12 @@ posted-fits asked script posted clients posts = record {
 
 -- ---- how many are left
 
-counts-next : (all : List (List ℕ)) (i n : ℕ) → i < length all → n ≡ length (slice_index_or all i []) → map (λ (l : List ℕ). length l) (take i all) ++ n ∷ [] ≡ map (λ (l : List ℕ). length l) (take (suc i) all)
+counts-next : (all : List (List ℕ)) (i n : ℕ) → i < length all → n ≡ length (slice_index_or all i [])
+    → map (λ (l : List ℕ). length l) (take i all) ++ n ∷ [] ≡ map (λ (l : List ℕ). length l) (take (suc i) all)
 counts-next [] i n low is = absurd (omega (arith, low))
 counts-next (places ∷ all) zero n low is = ap (λ k. k ∷ []) is
 counts-next (places ∷ all) (suc i) n low is = ap (λ ns. length places ∷ ns) (counts-next all i n (omega (arith, low)) is)
 
-pub counts-more : (all : List (List ℕ)) (i n : ℕ) → i < length all → n ≡ length (slice_index_or all i []) → map (λ (l : List ℕ). length l) (take i all) ++ n ∷ [] ≡ map (λ (l : List ℕ). length l) (take (i + 1) all)
+pub counts-more : (all : List (List ℕ)) (i n : ℕ) → i < length all → n ≡ length (slice_index_or all i [])
+    → map (λ (l : List ℕ). length l) (take i all) ++ n ∷ [] ≡ map (λ (l : List ℕ). length l) (take (i + 1) all)
 counts-more all i n low is = rw add-one (counts-next all i n low is)

@@ -12,7 +12,8 @@ use Rattle.replay.specs.Recorded.{Agree, behind_lines, is_ended, line_count, nex
 use Rattle.trace_text.specs.Lines.{ended_line, step_lines, taken_text, ticked_text}
 use Rattle.trace_text.specs.declared.ends.Halt.{Halt}
 use Rattle.std.specs.List.{range_with_len}
-use Rattle.std.specs.Prelude.{Bool, List, None, Option, Some, [], codes, false, if◌then◌else◌, is_some, length, not, option_map, slice_get, true, unwrap_or, ℕ, ◌&&◌, ◌+◌, ◌<◌, ◌==◌, ◌||◌, ◌≡◌, ◌≤◌, ◌∷◌, ◌⊎◌}
+use Rattle.std.specs.Prelude.{Bool, List, None, Option, Some, [], codes, false, if◌then◌else◌, is_some, length, not, option_map}
+use Rattle.std.specs.Prelude.{slice_get, true, unwrap_or, ℕ, ◌&&◌, ◌+◌, ◌<◌, ◌==◌, ◌||◌, ◌≡◌, ◌≤◌, ◌∷◌, ◌⊎◌}
 
 -- ---- how far the recorded lines are those of a trace
 

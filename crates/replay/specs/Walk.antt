@@ -14,7 +14,8 @@ use Rattle.pod_runner.specs.declared.session.Took.{Took}
 use Rattle.replay.specs.Asked.{Asked, IsReached, Reach, pairs_of, text_at}
 use Rattle.replay.specs.Recorded.{Agree, line_count}
 use Rattle.trace_text.specs.Lines.{step_lines}
-use Rattle.std.specs.Prelude.{All, Bool, IsTrue, List, None, Option, Some, [], drop, false, if◌then◌else◌, length, nat_lt, option_map, slice_get, slice_index_or, take, true, ℕ, ◌&&◌, ◌++◌, ◌+◌, ◌<◌, ◌==◌, ◌^◌, ◌∷◌, ◌≡◌, ◌≤◌, ◌⊎◌}
+use Rattle.std.specs.Prelude.{All, Bool, IsTrue, List, None, Option, Some, [], drop, false, if◌then◌else◌, length, nat_lt, option_map}
+use Rattle.std.specs.Prelude.{slice_get, slice_index_or, take, true, ℕ, ◌&&◌, ◌++◌, ◌+◌, ◌<◌, ◌==◌, ◌^◌, ◌∷◌, ◌≡◌, ◌≤◌, ◌⊎◌}
 use Rattle.lwp_types.specs.declared.call.Effect.TheVariants as effect
 
 -- a moment of a session: the takes so far, the oldest first, and how many calls were made

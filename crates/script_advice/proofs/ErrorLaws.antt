@@ -1,6 +1,7 @@
 -- The errors of a text, by the reader's verdict on it.
 use Rattle.std.specs.Prelude.{◌≢◌, Bool}
-use Rattle.std.proofs.Common.{◌≡◌, ℕ, zero, suc, ◌-◌, ◌<◌, ◌≤◌, true, false, cond, eqb, ltb, List, [], ◌∷◌, length, take, drop, Result, Ok, Err, refl, sym, ap, subst, ◌∙◌, arith, length-take}
+use Rattle.std.proofs.Common.{◌≡◌, ℕ, zero, suc, ◌-◌, ◌<◌, ◌≤◌, true, false, cond, eqb, ltb, List, [], ◌∷◌, length}
+use Rattle.std.proofs.Common.{take, drop, Result, Ok, Err, refl, sym, ap, subst, ◌∙◌, arith, length-take}
 use Rattle.std.proofs.lemmas.Bool.{eqb-true, ltb-true, ltb-false, lt-ltb}
 use Rattle.script_text.specs.declared.reader.Declared.{Declared}
 use Rattle.script_text.specs.declared.reason.Reason.{Reason}
@@ -20,16 +21,22 @@ use Rattle.script_advice.specs.declared.texts.Format.{Format}
 
 -- ---- The first.
 
-first_from : (d : Declared) (above : List (List ℕ)) (n : ℕ) (why : Reason) (lines : List (List ℕ)) (tail : List ℕ) → BeginsWith (from_first d above n why lines tail) n why
+first_from : (d : Declared) (above : List (List ℕ)) (n : ℕ) (why : Reason) (lines : List (List ℕ)) (tail : List ℕ)
+    → BeginsWith (from_first d above n why lines tail) n why
 first_from d above n why [] tail = (refl, refl)
 first_from d above n why (line ∷ lines) tail = (refl, refl)
 
 first_at : (text : List ℕ) (n : ℕ) (why : Reason) → BeginsWith (errors_at text n why) n why
 unfolding errors_at
-first_at text n why = elim (eqb n 0) as (λ v. eqb n 0 ≡ v → BeginsWith (cond v (remark_of (declared_by text) false 0 why [] ∷ []) (from_first (declared_by text) (take (n - 1) (line_cut text).0) n why (drop (n - 1) (line_cut text).0) (line_cut text).1)) n why) [
-  | true ↦ λ e. (sym (eqb-true n 0 e), refl)
-  | false ↦ λ e. first_from (declared_by text) (take (n - 1) (line_cut text).0) n why (drop (n - 1) (line_cut text).0) (line_cut text).1
-] refl
+first_at text n why = elim (eqb n 0) as
+    (λ v. eqb n 0 ≡ v
+    → BeginsWith
+    (cond v (remark_of (declared_by text) false 0 why [] ∷ [])
+    (from_first (declared_by text) (take (n - 1) (line_cut text).0) n why (drop (n - 1) (line_cut text).0) (line_cut text).1))
+    n why) [
+      | true ↦ λ e. (sym (eqb-true n 0 e), refl)
+      | false ↦ λ e. first_from (declared_by text) (take (n - 1) (line_cut text).0) n why (drop (n - 1) (line_cut text).0) (line_cut text).1
+    ] refl
 
 pub first_is : (text : List ℕ) → FirstIsReaders text
 first_is text n why e = subst (λ (r : Result Script (ℕ × Reason)). BeginsWith (errors_by text r) n why) (sym e) (first_at text n why)
@@ -92,7 +99,8 @@ long_front f text h =
     let front : verdict (take 16777217 text) ≡ Err (0, reason.TooLarge) = verdict_long _ (lt-ltb _ _ l) in
     let whole : verdict text ≡ Err (0, reason.TooLarge) = verdict_long text (lt-ltb _ _ h) in
     record {
-      report = ap (λ (rs : List Remark). remarks_text f (take 1000 rs)) (ap (remarks_by (take 16777217 text)) front ∙ too_large (take 16777217 text) text ∙ sym (ap (remarks_by text) whole));
+      report = ap (λ (rs : List Remark). remarks_text f (take 1000 rs))
+          (ap (remarks_by (take 16777217 text)) front ∙ too_large (take 16777217 text) text ∙ sym (ap (remarks_by text) whole));
       grade = ap (grade_by (take 16777217 text)) front ∙ sym (ap (grade_by text) whole);
     }
 

@@ -1,5 +1,6 @@
 -- A line has a fault exactly where it says nothing.
-use Rattle.std.proofs.Common.{◌≡◌, ℕ, suc, ◌+◌, Bool, true, false, not, ◌&&◌, cond, eqb, ltb, List, [], ◌∷◌, length, take, drop, Some, None, refl, sym, ap, ◌∙◌, arith}
+use Rattle.std.proofs.Common.{◌≡◌, ℕ, suc, ◌+◌, Bool, true, false, not, ◌&&◌, cond, eqb, ltb, List}
+use Rattle.std.proofs.Common.{[], ◌∷◌, length, take, drop, Some, None, refl, sym, ap, ◌∙◌, arith}
 use Rattle.std.specs.Prelude.{Option, option_map, option_and_then, is_some}
 use Rattle.std.proofs.lemmas.Bool.{eqb-true, lt-ltb}
 use Rattle.std.proofs.lemmas.List.{drop-drop}
@@ -10,11 +11,13 @@ use Rattle.script_lines.specs.declared.table.Op.{Op}
 use Rattle.script_lines.specs.declared.table.Op.TheVariants as op
 use Rattle.script_lines.specs.Line.{blank}
 use Rattle.script_lines.specs.Phrase.{Phrase}
-use Rattle.script_lines.specs.Reading.{name_in, who_at, source_at, room_at, client_at, event_at, flags_at, mode_at, pattern_at, func_at, test_at, built_at, fill_word, fill_text, fill_test, fill_built, fill_spaced, slot_at, fill, first_word, phrase_at}
+use Rattle.script_lines.specs.Reading.{name_in, who_at, source_at, room_at, client_at, event_at, flags_at, mode_at, pattern_at, func_at, test_at, built_at}
+use Rattle.script_lines.specs.Reading.{fill_word, fill_text, fill_test, fill_built, fill_spaced, slot_at, fill, first_word, phrase_at}
 use Rattle.script_lines.specs.Table.{is_half, key_length, op_at, slots_of}
 use Rattle.script_lines.specs.Words.{number_at, reach}
 use Rattle.script_lines.proofs.WordLemmas.{Stops}
-use Rattle.script_advice.specs.Faults.{behind_slot, behind_word, byte_what, fault_at, from_unprintable, fault_of, form_fault, front_fault, op_of, opens_comment, rest_fault, second_fault, slot_fault, slots_fault, text_fault, word_fault, wrong}
+use Rattle.script_advice.specs.Faults.{behind_slot, behind_word, byte_what, fault_at, from_unprintable, fault_of, form_fault, front_fault, op_of}
+use Rattle.script_advice.specs.Faults.{opens_comment, rest_fault, second_fault, slot_fault, slots_fault, text_fault, word_fault, wrong}
 use Rattle.script_advice.specs.Laws.{IsFaultedWhereUnsaid}
 use Rattle.script_advice.specs.Near.{or_else}
 use Rattle.script_advice.specs.Slots.{fits, is_built, is_test}
@@ -77,21 +80,24 @@ Agrees (Some f) (Some x) after = ⊥
 Agrees None None after = ⊥
 Agrees None (Some x) after = x.1 ≡ after
 
-by_some : {A : Type 0} (o : Option A) (b : Bool) (f : Fault) (g : A → Phrase × List ℕ) (after : List ℕ) → b ≡ is_some o → ((a : A) → (g a).1 ≡ after) → Agrees (cond b None (Some f)) (option_map g o) after
+by_some : {A : Type 0} (o : Option A) (b : Bool) (f : Fault) (g : A → Phrase × List ℕ) (after : List ℕ) → b ≡ is_some o
+    → ((a : A) → (g a).1 ≡ after) → Agrees (cond b None (Some f)) (option_map g o) after
 by_some None b f g after e h = rw e tt
 by_some (Some a) b f g after e h = rw e (h a)
 
 word_agrees : (k : Kind) (p : Phrase) (rest : List ℕ) → Stops 32 rest → Agrees (word_fault k rest) (fill_spaced k p rest) (behind_word rest)
 word_agrees k p [] s = tt
 word_agrees k p (b ∷ bs) s =
-    rw s (by_some (fill_word k p (take (reach 32 bs) bs)) (fits k (first_word bs)) _ (λ q. (q, drop (reach 32 bs) bs)) (drop (reach 32 bs) bs) (fits_any k (blank op.Again) p (first_word bs)) (λ q. refl))
+    rw s (by_some (fill_word k p (take (reach 32 bs) bs)) (fits k (first_word bs)) _ (λ q. (q, drop (reach 32 bs) bs))
+    (drop (reach 32 bs) bs) (fits_any k (blank op.Again) p (first_word bs)) (λ q. refl))
 
 text_agrees : (p : Phrase) (rest : List ℕ) → Stops 32 rest → Agrees (text_fault rest) (fill_text p rest) []
 text_agrees p [] s = refl
 text_agrees p (b ∷ []) s = rw s tt
 text_agrees p (b ∷ c ∷ t) s =
     let some : ltb 0 (length (c ∷ t)) ≡ true = lt-ltb _ _ (omega arith) in
-    rw (s, some) (elim (is_text (c ∷ t)) as (λ v. Agrees (cond v None (Some (fault_at (c ∷ t) (what.Slot kind.Text)))) (cond v (Some (record p { text = c ∷ t }, [])) None) []) [
+    rw (s, some) (elim (is_text (c ∷ t)) as
+    (λ v. Agrees (cond v None (Some (fault_at (c ∷ t) (what.Slot kind.Text)))) (cond v (Some (record p { text = c ∷ t }, [])) None) []) [
       | true ↦ refl
       | false ↦ tt
     ])
@@ -150,7 +156,9 @@ slot_stops kind.Text rest = tt
 
 -- ---- All slots.
 
-joined : (f : Option Fault) (x : Option (Phrase × List ℕ)) (after : List ℕ) (ks : List Kind) → Agrees f x after → ((q : Phrase) → is_some (slots_fault ks after) ≡ not (is_some (fill ks q after))) → is_some (or_else f (slots_fault ks after)) ≡ not (is_some (option_and_then (λ y. fill ks y.0 y.1) x))
+joined : (f : Option Fault) (x : Option (Phrase × List ℕ)) (after : List ℕ) (ks : List Kind) → Agrees f x after
+    → ((q : Phrase) → is_some (slots_fault ks after) ≡ not (is_some (fill ks q after)))
+    → is_some (or_else f (slots_fault ks after)) ≡ not (is_some (option_and_then (λ y. fill ks y.0 y.1) x))
 joined (Some f) None after ks a h = refl
 joined (Some f) (Some x) after ks a h = absurd a
 joined None None after ks a h = absurd a
@@ -159,7 +167,8 @@ joined None (Some x) after ks a h = h x.0 ∙ ap (λ (r : List ℕ). not (is_som
 filled : (ks : List Kind) (p : Phrase) (rest : List ℕ) → Stops 32 rest → is_some (slots_fault ks rest) ≡ not (is_some (fill ks p rest))
 filled [] p [] s = refl
 filled [] p (b ∷ bs) s = refl
-filled (k ∷ ks) p rest s = joined (slot_fault k rest) (slot_at k p rest) (behind_slot k rest) ks (slot_agrees k p rest s) (λ q. filled ks q (behind_slot k rest) (slot_stops k rest))
+filled (k ∷ ks) p rest s =
+    joined (slot_fault k rest) (slot_at k p rest) (behind_slot k rest) ks (slot_agrees k p rest s) (λ q. filled ks q (behind_slot k rest) (slot_stops k rest))
 
 -- ---- The line.
 
@@ -169,21 +178,29 @@ second_some (b ∷ words) = refl
 
 front_some : (line : List ℕ) → is_some (front_fault line) ≡ true
 front_some [] = refl
-front_some (b ∷ bs) = elim (opens_comment b) as (λ v. is_some (cond v (Some (fault_at (b ∷ bs) what.Comment)) (cond (is_half (first_word (b ∷ bs))) (second_fault (drop (reach 32 (b ∷ bs)) (b ∷ bs))) (wrong what.Unknown (b ∷ bs)))) ≡ true) [
-  | true ↦ refl
-  | false ↦ elim (is_half (first_word (b ∷ bs))) as (λ v. is_some (cond v (second_fault (drop (reach 32 (b ∷ bs)) (b ∷ bs))) (wrong what.Unknown (b ∷ bs))) ≡ true) [
-    | true ↦ second_some (drop (reach 32 (b ∷ bs)) (b ∷ bs))
-    | false ↦ refl
-  ]
-]
+front_some (b ∷ bs) = elim (opens_comment b) as
+    (λ v. is_some (cond v (Some (fault_at (b ∷ bs) what.Comment))
+    (cond (is_half (first_word (b ∷ bs))) (second_fault (drop (reach 32 (b ∷ bs)) (b ∷ bs))) (wrong what.Unknown (b ∷ bs))))
+    ≡ true) [
+      | true ↦ refl
+      | false
+          ↦ elim (is_half (first_word (b ∷ bs))) as
+          (λ v. is_some (cond v (second_fault (drop (reach 32 (b ∷ bs)) (b ∷ bs))) (wrong what.Unknown (b ∷ bs))) ≡ true) [
+            | true ↦ second_some (drop (reach 32 (b ∷ bs)) (b ∷ bs))
+            | false ↦ refl
+          ]
+    ]
 
-formed : (x : Option Op) (line : List ℕ) → is_some (form_fault x line) ≡ not (is_some (option_and_then (λ o. fill (slots_of o) (blank o) (drop (key_length line) line)) x))
+formed : (x : Option Op) (line : List ℕ)
+    → is_some (form_fault x line) ≡ not (is_some (option_and_then (λ o. fill (slots_of o) (blank o) (drop (key_length line) line)) x))
 formed None line = front_some line
 formed (Some o) line = filled (slots_of o) (blank o) (drop (key_length line) line) (key_stops line)
 
 pub unsaid : (line : List ℕ) → IsFaultedWhereUnsaid line
 unfolding fault_of phrase_at op_of
-unsaid line = elim (is_printable line) as (λ v. is_some (cond v (form_fault (op_of line) line) (Some (fault_at (from_unprintable line) (byte_what (from_unprintable line))))) ≡ not (v && is_some (phrase_at line))) [
-  | true ↦ formed (op_at (take (key_length line) line)) line
-  | false ↦ refl
-]
+unsaid line = elim (is_printable line) as
+    (λ v. is_some (cond v (form_fault (op_of line) line) (Some (fault_at (from_unprintable line) (byte_what (from_unprintable line)))))
+    ≡ not (v && is_some (phrase_at line))) [
+      | true ↦ formed (op_at (take (key_length line) line)) line
+      | false ↦ refl
+    ]

@@ -23,7 +23,8 @@ use Rattle.script_lines.specs.declared.table.Role.{Role}
 use Rattle.script_lines.specs.declared.table.Role.TheVariants as role
 use Rattle.std.specs.List.{AllByRecursion}
 use Rattle.std.specs.Prelude.{All}
-use Rattle.std.proofs.Common.{List, [], ap, append_assoc, arith, length, length-append, map, nat_lt, refl, slice_index_or, subst, suc, sym, true, zero, ℕ, ⊎_elim, ◌++◌, ◌+◌, ◌<◌, ◌∙◌, ◌∷◌, ◌≡◌, ◌≢◌, ◌≤◌}
+use Rattle.std.proofs.Common.{List, [], ap, append_assoc, arith, length, length-append, map, nat_lt, refl, slice_index_or}
+use Rattle.std.proofs.Common.{subst, suc, sym, true, zero, ℕ, ⊎_elim, ◌++◌, ◌+◌, ◌<◌, ◌∙◌, ◌∷◌, ◌≡◌, ◌≢◌, ◌≤◌}
 use Rattle.std.proofs.lemmas.Bool.{eqb-true, ltb-true}
 use Rattle.std.proofs.lemmas.List.{append-nil, length-map, map-append}
 use Rattle.std.proofs.lemmas.List.Elements.{All-map, All-nil, All-push, All-weaker}
@@ -106,26 +107,38 @@ client_more n at d p is fits low h = record {
   counts = omega (arith, h.counts, length-append d.posted (0 ∷ []), length-append d.script.clients (p.event ∷ []));
   most = omega (arith, h.counts, is, fits, length-append d.script.clients (p.event ∷ []));
   events = All-push IsLow d.script.clients p.event h.events low;
-  clients = All-weaker (IsOf (length d.script.clients)) (IsOf (length (d.script.clients ++ p.event ∷ []))) (λ post less. omega (arith, less, length-append d.script.clients (p.event ∷ []))) d.script.posts h.clients;
+  clients = All-weaker (IsOf (length d.script.clients)) (IsOf (length (d.script.clients ++ p.event ∷ [])))
+      (λ post less. omega (arith, less, length-append d.script.clients (p.event ∷ []))) d.script.posts h.clients;
   numbered = h.numbered;
   counted = λ texts c. h.counted texts c ∙ sym (none-more c d.posted);
   bounded = λ c. omega (arith, h.bounded c, none-more c d.posted);
   few = omega (arith, h.few);
 }
 
-post_more : (n : ℕ) (at : Places) (d : Draft) (p : Phrase) → p.client < length d.posted → slice_index_or d.posted p.client 0 < 20000 → Posted n d → Posted (suc n) (after_add_at role.Post at (after_enter d p) p)
+post_more : (n : ℕ) (at : Places) (d : Draft) (p : Phrase) → p.client < length d.posted → slice_index_or d.posted p.client 0 < 20000
+    → Posted n d → Posted (suc n) (after_add_at role.Post at (after_enter d p) p)
 post_more n at d p known small h = record {
   counts = length-raised p.client d.posted ∙ h.counts;
   most = h.most;
   events = h.events;
   clients = All-push (IsOf (length d.script.clients)) d.script.posts post h.clients (omega (arith, known, h.counts));
   numbered = λ texts c. ⊎_elim
-      (λ (same : p.client ≡ c). rw (more texts, of_same c (map (line_of texts) d.script.posts) (line_of texts post) same) (numbered_snoc 0 (of_posts texts c d.script.posts) (line_of texts post) (h.numbered texts c) (omega (arith, h.counted texts c, ap (λ k. slice_index_or d.posted k 0) same)) (omega (arith, small))))
+      (λ (same : p.client ≡ c). rw (more texts, of_same c (map (line_of texts) d.script.posts) (line_of texts post) same)
+      (numbered_snoc 0 (of_posts texts c d.script.posts) (line_of texts post) (h.numbered texts c)
+      (omega (arith, h.counted texts c, ap (λ k. slice_index_or d.posted k 0) same)) (omega (arith, small))))
       (λ (other : p.client ≢ c). rw (more texts, of_other c (map (line_of texts) d.script.posts) (line_of texts post) other) (h.numbered texts c))
       (same_or p.client c);
   counted = λ texts c. ⊎_elim
-      (λ (same : p.client ≡ c). rw (more texts, of_same c (map (line_of texts) d.script.posts) (line_of texts post) same) (omega (arith, h.counted texts c, length-append (of_posts texts c d.script.posts) (line_of texts post ∷ []), raised-same p.client d.posted known, ap (λ k. slice_index_or d.posted k 0) same, ap (λ k. slice_index_or (after_raise p.client d.posted) k 0) same)))
-      (λ (other : p.client ≢ c). rw (more texts, of_other c (map (line_of texts) d.script.posts) (line_of texts post) other) (h.counted texts c ∙ sym (raised-other p.client c d.posted other)))
+      (λ (same : p.client ≡ c). rw (more texts, of_same c (map (line_of texts) d.script.posts) (line_of texts post) same) (omega (
+        arith,
+        h.counted texts c,
+        length-append (of_posts texts c d.script.posts) (line_of texts post ∷ []),
+        raised-same p.client d.posted known,
+        ap (λ k. slice_index_or d.posted k 0) same,
+        ap (λ k. slice_index_or (after_raise p.client d.posted) k 0) same,
+      )))
+      (λ (other : p.client ≢ c). rw (more texts, of_other c (map (line_of texts) d.script.posts) (line_of texts post) other)
+      (h.counted texts c ∙ sym (raised-other p.client c d.posted other)))
       (same_or p.client c);
   bounded = λ c. ⊎_elim
       (λ (same : p.client ≡ c). omega (arith, small, raised-same p.client d.posted known, ap (λ k. slice_index_or (after_raise p.client d.posted) k 0) same))
@@ -140,11 +153,13 @@ post_more n at d p known small h = record {
     more : (texts : List (List ℕ)) → map (line_of texts) (d.script.posts ++ post ∷ []) ≡ map (line_of texts) d.script.posts ++ line_of texts post ∷ []
     more texts = map-append (line_of texts) d.script.posts (post ∷ [])
 
-posted_more : (r : Role) (n : ℕ) (known : Declared) (at : Places) (d : Draft) (p : Phrase) → role_of p.op ≡ r → keeps_rule known d.posted r p ≡ true → IsPhrase p → Posted n d → Posted (suc n) (after_add_at r at (after_enter d p) p)
+posted_more : (r : Role) (n : ℕ) (known : Declared) (at : Places) (d : Draft) (p : Phrase) → role_of p.op ≡ r
+    → keeps_rule known d.posted r p ≡ true → IsPhrase p → Posted n d → Posted (suc n) (after_add_at r at (after_enter d p) p)
 posted_more role.Header n known at d p e k f h = kept n d (after_add_at role.Header at (after_enter d p) p) h refl refl refl
 posted_more role.Pod n known at d p e k f h = kept n d (after_add_at role.Pod at (after_enter d p) p) h refl refl refl
 posted_more role.Limit n known at d p e k f h = kept n d (after_add_at role.Limit at (after_enter d p) p) h refl refl refl
-posted_more role.Client n known at d p e k f h = let fits = client_fits p.op p e f in client_more n at d p (eqb-true p.client (length d.posted) k) fits.0 fits.1 h
+posted_more role.Client n known at d p e k f h = let fits = client_fits p.op p e f in
+    client_more n at d p (eqb-true p.client (length d.posted) k) fits.0 fits.1 h
 posted_more role.Native n known at d p e k f h = kept n d (after_add_at role.Native at (after_enter d p) p) h refl refl refl
 posted_more role.Proc n known at d p e k f h = kept n d (after_add_at role.Proc at (after_enter d p) p) h refl refl refl
 posted_more role.Post n known at d p e k f h = let may = may-post d.posted p.client k in post_more n at d p may.0 may.1 h
@@ -152,7 +167,8 @@ posted_more role.Statement n known at d p e k f h = kept n d (after_add_at role.
 posted_more role.Skip n known at d p e k f h = kept n d (after_add_at role.Skip at (after_enter d p) p) h refl refl refl
 posted_more role.Again n known at d p e k f h = kept n d (after_add_at role.Again at (after_enter d p) p) h refl refl refl
 
-posted_on : (n : ℕ) (before ps : List Phrase) → AllStand before ps → AllByRecursion IsLine ps → Posted n (draft_of before) → Posted (n + length ps) (draft_of (before ++ ps))
+posted_on : (n : ℕ) (before ps : List Phrase) → AllStand before ps → AllByRecursion IsLine ps → Posted n (draft_of before)
+    → Posted (n + length ps) (draft_of (before ++ ps))
 posted_on n before [] s l h = rw (append-nil before) (subst (λ (m : ℕ). Posted m (draft_of before)) (omega arith) h)
 posted_on n before (p ∷ ps) s l h =
     let r = role_of p.op in
@@ -161,7 +177,8 @@ posted_on n before (p ∷ ps) s l h =
     let one = posted_more r n (declared_of before) (places_of (after_name d.script.names p) d.script.texts p) d p refl k l.0.0 h in
     let more : Posted (suc n) (draft_of (before ++ p ∷ [])) = rw (fold_push after_add empty_draft before p) one in
     let all : Posted (suc n + length ps) (draft_of ((before ++ p ∷ []) ++ ps)) = posted_on (suc n) (before ++ p ∷ []) ps s.1 l.1 more in
-    subst (λ (m : ℕ). Posted m (draft_of (before ++ (p ∷ ps)))) (omega arith) (subst (λ (x : List Phrase). Posted (suc n + length ps) (draft_of x)) (append_assoc before (p ∷ []) ps) all)
+    subst (λ (m : ℕ). Posted m (draft_of (before ++ (p ∷ ps)))) (omega arith)
+    (subst (λ (x : List Phrase). Posted (suc n + length ps) (draft_of x)) (append_assoc before (p ∷ []) ps) all)
 
 -- ---- the whole text
 

@@ -5,7 +5,8 @@ use Rattle.script_body.specs.Walk.{At, next_stmt}
 use Rattle.script_text.specs.declared.script.Stmt.{Stmt}
 use Rattle.script_text.specs.declared.script.Stmt.TheVariants as stmt
 
-pub passed : (a : Answer) (all : List Stmt) (over : Bool) (place : ℕ) (at : At) → over ≡ true → place < length all → next_stmt a all over place (drop place all) ≡ at → next_stmt a all false (place + 1) (drop (place + 1) all) ≡ at
+pub passed : (a : Answer) (all : List Stmt) (over : Bool) (place : ℕ) (at : At) → over ≡ true → place < length all
+    → next_stmt a all over place (drop place all) ≡ at → next_stmt a all false (place + 1) (drop (place + 1) all) ≡ at
 passed a all over place at e lt h =
     let next : place + 1 ≡ suc place = omega arith in
     let first = ap (λ (b : Bool). next_stmt a all b place (drop place all)) e in

@@ -1,5 +1,6 @@
 -- How long a line that says something can be.
-use Rattle.std.proofs.Common.{◌≡◌, ℕ, ◌+◌, ◌*◌, ◌<◌, ◌≤◌, ◌^◌, lit≤, Bool, true, false, not, ◌&&◌, eqb, leb, ltb, List, [], ◌∷◌, length, Some, None, refl, sym, subst, arith, inl, inr, length-append}
+use Rattle.std.proofs.Common.{◌≡◌, ℕ, ◌+◌, ◌*◌, ◌<◌, ◌≤◌, ◌^◌, lit≤, Bool, true, false, not, ◌&&◌, eqb, leb, ltb, List}
+use Rattle.std.proofs.Common.{[], ◌∷◌, length, Some, None, refl, sym, subst, arith, inl, inr, length-append}
 use Rattle.std.specs.List.{flat_map, AllByRecursion, list_all}
 use Rattle.std.specs.Fmt.{decimal}
 use Rattle.std.proofs.lemmas.Bool.{ne_eqb, leb-true, ltb-true}
@@ -22,7 +23,8 @@ use Rattle.script_lines.specs.Phrase.{Phrase}
 use Rattle.script_lines.specs.Words.{is_lowercase, is_name, is_name_byte, is_reserved}
 use Rattle.script_lines.specs.Table.{Row, key_of, slots_of}
 use Rattle.trace_text.specs.Lines.{with_space, flags_text, mode_text, pattern_text, func_text}
-use Rattle.script_lines.specs.Line.{who_text, built_text, test_text, SourceFits, TestFits, PatternFits, ModeFits, BuiltFits, slot_text, phrase_text, SlotFits, IsPhrase}
+use Rattle.script_lines.specs.Line.{who_text, built_text, test_text, SourceFits, TestFits, PatternFits}
+use Rattle.script_lines.specs.Line.{ModeFits, BuiltFits, slot_text, phrase_text, SlotFits, IsPhrase}
 use Rattle.script_lines.specs.Reading.{flags_by, phrase_at}
 use Rattle.script_lines.proofs.TableLaws.{on_rows}
 use Rattle.script_lines.proofs.WordLemmas.{both}
@@ -119,7 +121,12 @@ slots_length p (k ∷ ks) h = omega (arith, slot_length p k h.0, slots_length p 
 phrase_length : (p : Phrase) → IsPhrase p → length (phrase_text p) ≤ 980
 phrase_length p h =
     let row = on_rows (λ (r : Row). leb (length r.key + 241 * length r.slots) 980) refl p.op in
-    omega (arith, leb-true (length (key_of p.op) + 241 * length (slots_of p.op)) 980 row, slots_length p (slots_of p.op) h, length-append (key_of p.op) (flat_map (slot_text p) (slots_of p.op)))
+    omega (
+      arith,
+      leb-true (length (key_of p.op) + 241 * length (slots_of p.op)) 980 row,
+      slots_length p (slots_of p.op) h,
+      length-append (key_of p.op) (flat_map (slot_text p) (slots_of p.op)),
+    )
 
 said_length : (line : List ℕ) (p : Phrase) → phrase_at line ≡ Some p → length line ≤ 980
 said_length line p e = let f = phrase_found line p e in subst (λ l. length l ≤ 980) (sym f.1) (phrase_length p f.0)

@@ -1,5 +1,6 @@
 -- Reading a line and writing a phrase undo each other.
-use Rattle.std.proofs.Common.{◌≡◌, ℕ, suc, ◌+◌, ◌≤◌, ◌<◌, ◌^◌, Bool, true, false, not, ◌&&◌, ◌||◌, cond, eqb, ltb, leb, List, [], ◌∷◌, ◌++◌, length, take, drop, Some, None, refl, sym, ap, subst, ◌∙◌, arith, inl, inr}
+use Rattle.std.proofs.Common.{◌≡◌, ℕ, suc, ◌+◌, ◌≤◌, ◌<◌, ◌^◌, Bool, true, false, not, ◌&&◌, ◌||◌, cond, eqb, ltb, leb, List}
+use Rattle.std.proofs.Common.{[], ◌∷◌, ◌++◌, length, take, drop, Some, None, refl, sym, ap, subst, ◌∙◌, arith, inl, inr}
 use Rattle.std.specs.Prelude.{Option, option_map, option_and_then, codes}
 use Rattle.std.specs.List.{flat_map, AllByRecursion, list_all}
 use Rattle.std.specs.Str.{bytes_eq, all_ascii_digits}
@@ -34,8 +35,11 @@ use Rattle.script_lines.specs.Words.{is_lowercase, is_reserved, is_name, is_name
 use Rattle.script_lines.specs.Table.{Row, key_of, role_of, slots_of, has, starts, op_at, is_half, key_length}
 use Rattle.lwp_types.specs.TextFields.{is_text}
 use Rattle.trace_text.specs.Lines.{with_space, flags_text, mode_text, pattern_text, func_text}
-use Rattle.script_lines.specs.Line.{who_text, built_text, test_text, WhoFits, SourceFits, TestFits, PatternFits, ModeFits, IsEvent, IsAgentEvent, BuiltFits, slot_text, phrase_text, SlotFits, IsPhrase, blank, copy_slot, copy_slots, own_slots, IsNeeded}
-use Rattle.script_lines.specs.Reading.{flags_by, all_flags, flags_in, flags_at, within_room, room_at, client_at, event_at, agent_event_at, pattern_at, func_at, who_at, source_at, name_in, mode_at, value_at, test_at, spaced_name, session_at, built_at, fill_word, fill_text, fill_test, fill_built, fill_spaced, slot_at, fill, phrase_at}
+use Rattle.script_lines.specs.Line.{who_text, built_text, test_text, WhoFits, SourceFits, TestFits, PatternFits, ModeFits, IsEvent, IsAgentEvent}
+use Rattle.script_lines.specs.Line.{BuiltFits, slot_text, phrase_text, SlotFits, IsPhrase, blank, copy_slot, copy_slots, own_slots, IsNeeded}
+use Rattle.script_lines.specs.Reading.{flags_by, all_flags, flags_in, flags_at, within_room, room_at, client_at, event_at, agent_event_at}
+use Rattle.script_lines.specs.Reading.{pattern_at, func_at, who_at, source_at, name_in, mode_at, value_at, test_at, spaced_name, session_at}
+use Rattle.script_lines.specs.Reading.{built_at, fill_word, fill_text, fill_test, fill_built, fill_spaced, slot_at, fill, phrase_at}
 use Rattle.script_lines.proofs.TableLaws.{on_rows, op_found, op_again}
 use Rattle.script_lines.proofs.WordLemmas.{both, Stops, reach-append, reach_in, number_again, number_found, own}
 

@@ -26,7 +26,8 @@ use Rattle.script_lines.specs.Phrase.{Phrase}
 use Rattle.script_lines.specs.Words.{is_name}
 use Rattle.script_lines.specs.Table.{Row, key_of, slots_of}
 use Rattle.trace_text.specs.Lines.{with_space, flags_text, mode_text, pattern_text, func_text}
-use Rattle.script_lines.specs.Line.{who_text, built_text, test_text, SourceFits, TestFits, PatternFits, ModeFits, BuiltFits, slot_text, phrase_text, SlotFits, IsPhrase}
+use Rattle.script_lines.specs.Line.{who_text, built_text, test_text, SourceFits, TestFits, PatternFits}
+use Rattle.script_lines.specs.Line.{ModeFits, BuiltFits, slot_text, phrase_text, SlotFits, IsPhrase}
 use Rattle.script_lines.specs.Reading.{flags_by, phrase_at}
 use Rattle.script_lines.proofs.TableLaws.{on_rows}
 use Rattle.script_lines.proofs.WordLemmas.{both, name_is_text, own}
@@ -129,7 +130,8 @@ slots_are_printable p [] h = refl
 slots_are_printable p (k ∷ ks) h = printable_append (slot_text p k) (flat_map (slot_text p) ks) (slot_is_printable p k h.0) (slots_are_printable p ks h.1)
 
 pub phrase_is_printable : (p : Phrase) → IsPhrase p → is_printable (phrase_text p) ≡ true
-phrase_is_printable p h = printable_append (key_of p.op) (flat_map (slot_text p) (slots_of p.op)) (on_rows (λ (r : Row). is_printable r.key) refl p.op) (slots_are_printable p (slots_of p.op) h)
+phrase_is_printable p h = printable_append (key_of p.op) (flat_map (slot_text p) (slots_of p.op))
+    (on_rows (λ (r : Row). is_printable r.key) refl p.op) (slots_are_printable p (slots_of p.op) h)
 
 -- a line that says something is printable
 pub said_is_printable : (line : List ℕ) (p : Phrase) → phrase_at line ≡ Some p → is_printable line ≡ true

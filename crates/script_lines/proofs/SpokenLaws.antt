@@ -35,33 +35,44 @@ says line (b ∷ bs) is some fits =
     let there : line ≡ codes "say " ++ (b ∷ bs) = begins (codes "say ") line (subst (λ xs. 0 < length xs) is some) ∙ ap (λ xs. codes "say " ++ xs) (sym is) in
     ap phrase_at there ∙ said b bs fits
 
-posted : (words : List ℕ) (b : ℕ) (bs : List ℕ) (c : ℕ) → client_at (take (reach 32 words) words) ≡ Some c → drop (reach 32 words) words ≡ 32 ∷ b ∷ bs → is_text (b ∷ bs) ≡ true → phrase_at (112 ∷ 111 ∷ 115 ∷ 116 ∷ 32 ∷ words) ≡ Some (posting c (b ∷ bs))
+posted : (words : List ℕ) (b : ℕ) (bs : List ℕ) (c : ℕ) → client_at (take (reach 32 words) words) ≡ Some c
+    → drop (reach 32 words) words ≡ 32 ∷ b ∷ bs → is_text (b ∷ bs) ≡ true → phrase_at (112 ∷ 111 ∷ 115 ∷ 116 ∷ 32 ∷ words) ≡ Some (posting c (b ∷ bs))
 unfolding phrase_at op_at row_of
 posted words b bs c client rest fits = rw (client, rest, fits, some_more bs) refl
 
-pub posts : (line words text : List ℕ) (c : ℕ) → words ≡ behind (codes "post ") line → 0 < length words → client_at (take (reach 32 words) words) ≡ Some c → text ≡ behind (codes " ") (drop (reach 32 words) words) → 0 < length text → is_text text ≡ true → phrase_at line ≡ Some (posting c text)
+pub posts : (line words text : List ℕ) (c : ℕ) → words ≡ behind (codes "post ") line → 0 < length words
+    → client_at (take (reach 32 words) words) ≡ Some c → text ≡ behind (codes " ") (drop (reach 32 words) words) → 0 < length text
+    → is_text text ≡ true → phrase_at line ≡ Some (posting c text)
 posts line words [] c is more client last some fits = absurd (omega (arith, some))
 posts line words (b ∷ bs) c is more client last some fits =
     let there : line ≡ codes "post " ++ words = begins (codes "post ") line (subst (λ xs. 0 < length xs) is more) ∙ ap (λ xs. codes "post " ++ xs) (sym is) in
-    let rest : drop (reach 32 words) words ≡ 32 ∷ b ∷ bs = begins (codes " ") (drop (reach 32 words) words) (subst (λ xs. 0 < length xs) last some) ∙ ap (λ xs. codes " " ++ xs) (sym last) in
+    let rest : drop (reach 32 words) words
+    ≡ 32 ∷ b ∷ bs = begins (codes " ") (drop (reach 32 words) words) (subst (λ xs. 0 < length xs) last some) ∙ ap (λ xs. codes " " ++ xs) (sym last) in
     ap phrase_at there ∙ posted words b bs c client rest fits
 
 -- a line that says a text is the word, a space and the text
-pub saying_is_spelt : (line : List ℕ) (b : ℕ) (bs : List ℕ) → phrase_at line ≡ Some (saying (b ∷ bs)) → (behind (codes "say ") line ≡ b ∷ bs) × (is_text (b ∷ bs) ≡ true)
+pub saying_is_spelt : (line : List ℕ) (b : ℕ) (bs : List ℕ) → phrase_at line ≡ Some (saying (b ∷ bs))
+    → (behind (codes "say ") line ≡ b ∷ bs) × (is_text (b ∷ bs) ≡ true)
 unfolding row_of
 saying_is_spelt line b bs e =
     let f = phrase_found line (saying (b ∷ bs)) e in
     (ap (behind (codes "say ")) f.1 ∙ ap (λ xs. b ∷ xs) (append-nil bs), f.0.0)
 
 -- after the word of a line that posts a text: the client's number, a space and the text
-pub posting_is_spelt : (line : List ℕ) (c : ℕ) (b : ℕ) (bs : List ℕ) → phrase_at line ≡ Some (posting c (b ∷ bs)) → (behind (codes "post ") line ≡ decimal c ++ 32 ∷ b ∷ bs) × (c ≤ 15) × (is_text (b ∷ bs) ≡ true)
+pub posting_is_spelt : (line : List ℕ) (c : ℕ) (b : ℕ) (bs : List ℕ) → phrase_at line ≡ Some (posting c (b ∷ bs))
+    → (behind (codes "post ") line ≡ decimal c ++ 32 ∷ b ∷ bs) × (c ≤ 15) × (is_text (b ∷ bs) ≡ true)
 unfolding row_of
 posting_is_spelt line c b bs e =
     let f = phrase_found line (posting c (b ∷ bs)) e in
     (ap (behind (codes "post ")) f.1 ∙ ap (λ xs. decimal c ++ 32 ∷ b ∷ xs) (append-nil bs), f.0.0, f.0.1.0)
 
 -- the number of a client ends before the space after it
-pub client_is_first : (c : ℕ) (more : List ℕ) → c ≤ 15 → (client_at (take (reach 32 (decimal c ++ 32 ∷ more)) (decimal c ++ 32 ∷ more)) ≡ Some c) × (drop (reach 32 (decimal c ++ 32 ∷ more)) (decimal c ++ 32 ∷ more) ≡ 32 ∷ more)
+pub client_is_first : (c : ℕ) (more : List ℕ) → c ≤ 15
+    → (client_at (take (reach 32 (decimal c ++ 32 ∷ more)) (decimal c ++ 32 ∷ more)) ≡ Some c)
+    × (drop (reach 32 (decimal c ++ 32 ∷ more)) (decimal c ++ 32 ∷ more) ≡ 32 ∷ more)
 client_is_first c more h =
-    let n : reach 32 (decimal c ++ 32 ∷ more) ≡ length (decimal c) = reach-append 32 (decimal c) (32 ∷ more) (digits_are_whole (decimal c) (digits_decimal own c (omega (arith, h)))) refl in
-    (rw (n, take_at (decimal c) (32 ∷ more) (length (decimal c)) refl, client_again c h) refl, rw (n, drop_at (decimal c) (32 ∷ more) (length (decimal c)) refl) refl)
+    let n : reach 32 (decimal c ++ 32 ∷ more)
+    ≡ length (decimal c) = reach-append 32 (decimal c) (32 ∷ more) (digits_are_whole (decimal c) (digits_decimal own c (omega (arith, h)))) refl in (
+      rw (n, take_at (decimal c) (32 ∷ more) (length (decimal c)) refl, client_again c h) refl,
+      rw (n, drop_at (decimal c) (32 ∷ more) (length (decimal c)) refl) refl,
+    )

@@ -1,5 +1,6 @@
 -- The table: what holds of all its rows holds of each operation's, and each is found by its key.
-use Rattle.std.proofs.Common.{◌≡◌, ℕ, zero, suc, ◌<◌, ◌≤◌, Bool, true, false, not, ◌||◌, cond, eqb, leb, List, [], ◌∷◌, length, get_or, drop, map, Option, Some, None, refl, sym, ap, subst, ◌∙◌, arith}
+use Rattle.std.proofs.Common.{◌≡◌, ℕ, zero, suc, ◌<◌, ◌≤◌, Bool, true, false, not, ◌||◌, cond, eqb, leb, List, [], ◌∷◌}
+use Rattle.std.proofs.Common.{length, get_or, drop, map, Option, Some, None, refl, sym, ap, subst, ◌∙◌, arith}
 use Rattle.std.specs.List.{list_all, range_with_len}
 use Rattle.std.specs.Str.{bytes_eq}
 use Rattle.std.proofs.lemmas.Bool.{leb-true}
@@ -50,8 +51,10 @@ own_row : (o : Op) → (row_of o).op ≡ o
 unfolding row_of
 own_row o =
     let in_order : map (λ (r : Row). number r.op) rows ≡ range_with_len 0 (length rows) = refl in
-    let there : number (row_of o).op ≡ get_or (map (λ (r : Row). number r.op) rows) (number o) 0 = sym (get_or-map (λ (r : Row). number r.op) rows (number o) _ 0 (within o)) in
-    let same : number (row_of o).op ≡ number o = omega (arith, there ∙ ap (λ ns. get_or ns (number o) 0) in_order ∙ get_or-range_with_len 0 (length rows) (number o) 0 (within o)) in
+    let there : number (row_of o).op
+    ≡ get_or (map (λ (r : Row). number r.op) rows) (number o) 0 = sym (get_or-map (λ (r : Row). number r.op) rows (number o) _ 0 (within o)) in
+    let same : number (row_of o).op
+    ≡ number o = omega (arith, there ∙ ap (λ ns. get_or ns (number o) 0) in_order ∙ get_or-range_with_len 0 (length rows) (number o) 0 (within o)) in
     tag_one the_type tt (row_of o).op o same
 
 -- what holds of all operations in the table holds of each
@@ -63,10 +66,12 @@ implied true b e h = h
 implied false b e h = absurd cc
 
 -- where no other row has its role, a row is known by it
-pub only_of_role : (r : Role) (x : Op) → list_all (λ (y : Row). not (sameb role_type y.role r) || sameb the_type y.op x) rows ≡ true → (o : Op) → role_of o ≡ r → o ≡ x
+pub only_of_role : (r : Role) (x : Op) → list_all (λ (y : Row). not (sameb role_type y.role r) || sameb the_type y.op x) rows ≡ true
+    → (o : Op) → role_of o ≡ r → o ≡ x
 only_of_role r x h o e =
     let by_table = on_rows (λ (y : Row). not (sameb role_type y.role r) || sameb the_type y.op x) h o in
-    let same : sameb the_type (row_of o).op x ≡ true = implied (sameb role_type (role_of o) r) (sameb the_type (row_of o).op x) (true_same role_type (role_of o) r e) by_table in
+    let same : sameb the_type (row_of o).op x
+    ≡ true = implied (sameb role_type (role_of o) r) (sameb the_type (row_of o).op x) (true_same role_type (role_of o) r e) by_table in
     sym (own_row o) ∙ same_true the_type tt (row_of o).op x same
 
 -- ---- By their keys.
@@ -114,19 +119,23 @@ module _ {X : Type 0} (read : X → Row) where
       omega (arith, leb-true b (letter x) t.0, none_earlier (letter x) xs k d t.1 (omega (arith, lt)))
 
   -- nor has one that stands before another
-  pub in_order : (b : ℕ) (xs : List X) (i j : ℕ) (d : X) → rises b (map read xs) ≡ true → i ≤ j → j < length xs → letter (get_or xs i d) ≤ letter (get_or xs j d)
+  pub in_order : (b : ℕ) (xs : List X) (i j : ℕ) (d : X) → rises b (map read xs) ≡ true → i ≤ j → j < length xs
+      → letter (get_or xs i d) ≤ letter (get_or xs j d)
   in_order b [] i j d h le lt = absurd (omega (arith, lt))
   in_order b (x ∷ xs) zero zero d h le lt = omega arith
   in_order b (x ∷ xs) zero (suc j) d h le lt = none_earlier (letter x) xs j d (both (leb b (letter x)) (rises (letter x) (map read xs)) h).1 (omega (arith, lt))
   in_order b (x ∷ xs) (suc i) zero d h le lt = absurd (omega (arith, le))
-  in_order b (x ∷ xs) (suc i) (suc j) d h le lt = in_order (letter x) xs i j d (both (leb b (letter x)) (rises (letter x) (map read xs)) h).1 (omega (arith, le)) (omega (arith, lt))
+  in_order b (x ∷ xs) (suc i) (suc j) d h le lt =
+      in_order (letter x) xs i j d (both (leb b (letter x)) (rises (letter x) (map read xs)) h).1 (omega (arith, le)) (omega (arith, lt))
 
   -- so where one has an earlier letter than this, those before it have
-  pub earlier : (b : ℕ) (xs : List X) (n : ℕ) (e : X) (m : ℕ) → rises b (map read xs) ≡ true → n < length xs → letter (get_or xs n e) < m → (k : ℕ) (d : X) → k ≤ n → letter (get_or xs k d) < m
+  pub earlier : (b : ℕ) (xs : List X) (n : ℕ) (e : X) (m : ℕ) → rises b (map read xs) ≡ true → n < length xs → letter (get_or xs n e) < m
+      → (k : ℕ) (d : X) → k ≤ n → letter (get_or xs k d) < m
   earlier b xs n e m h lt less k d le = omega (arith, less, ap letter (get_or_default xs n d e lt), in_order b xs k n d h le lt)
 
   -- rows with earlier letters are passed over
-  pub passed_over : (n : ℕ) (xs : List X) (w : List ℕ) → ((k : ℕ) (d : X) → k < n → letter (get_or xs k d) < first_letter w) → op_in (map read (drop n xs)) w ≡ op_in (map read xs) w
+  pub passed_over : (n : ℕ) (xs : List X) (w : List ℕ) → ((k : ℕ) (d : X) → k < n → letter (get_or xs k d) < first_letter w)
+      → op_in (map read (drop n xs)) w ≡ op_in (map read xs) w
   passed_over zero xs w h = refl
   passed_over (suc n) [] w h = refl
   passed_over (suc n) (x ∷ xs) w h =

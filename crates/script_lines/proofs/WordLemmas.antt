@@ -1,5 +1,6 @@
 -- Facts on bytes, words and numbers.
-use Rattle.std.proofs.Common.{◌≡◌, ℕ, suc, ◌+◌, ◌-◌, ◌*◌, ◌^◌, ◌<◌, ◌≤◌, Bool, true, false, not, ◌&&◌, cond, eqb, ltb, leb, List, [], ◌∷◌, ◌++◌, length, get_or, drop, Option, Some, None, refl, sym, ap, ◌∙◌, arith, rules, inl, inr, drop-cons}
+use Rattle.std.proofs.Common.{◌≡◌, ℕ, suc, ◌+◌, ◌-◌, ◌*◌, ◌^◌, ◌<◌, ◌≤◌, Bool, true, false, not, ◌&&◌, cond, eqb, ltb, leb, List, [], ◌∷◌}
+use Rattle.std.proofs.Common.{◌++◌, length, get_or, drop, Option, Some, None, refl, sym, ap, ◌∙◌, arith, rules, inl, inr, drop-cons}
 use Rattle.std.proofs.lemmas.Bool.{cases_lt, le-leb, le-ltb, lt-ltb, ltb-true, ne_eqb, eqb-false}
 use Rattle.std.proofs.lemmas.Option.{cond_some}
 use Rattle.std.proofs.lemmas.Str.Parse.{IsNumeralModel, numerals_by_fold}
@@ -37,10 +38,11 @@ reach-append c (x ∷ w) r h s = elim (eqb x c) as (λ v. cond v 0 (suc (reach c
 -- where a word ends within a list, it ends there too where more follows
 pub reach_in : (c : ℕ) (w r : List ℕ) → reach c w < length w → reach c (w ++ r) ≡ reach c w
 reach_in c [] r h = absurd (omega (arith, h))
-reach_in c (b ∷ bs) r h = elim (eqb b c) as (λ v. cond v 0 (suc (reach c bs)) < length (b ∷ bs) → cond v 0 (suc (reach c (bs ++ r))) ≡ cond v 0 (suc (reach c bs))) [
-  | true ↦ λ e. refl
-  | false ↦ λ e. ap suc (reach_in c bs r (omega (arith, e)))
-] h
+reach_in c (b ∷ bs) r h =
+    elim (eqb b c) as (λ v. cond v 0 (suc (reach c bs)) < length (b ∷ bs) → cond v 0 (suc (reach c (bs ++ r))) ≡ cond v 0 (suc (reach c bs))) [
+      | true ↦ λ e. refl
+      | false ↦ λ e. ap suc (reach_in c bs r (omega (arith, e)))
+    ] h
 
 -- ---- Numbers.
 
@@ -49,7 +51,8 @@ pub value_ge : (n : ℕ) (ds : List ℕ) → n ≤ value_after n ds
 value_ge n [] = omega arith
 value_ge n (d ∷ ds) = omega (arith, value_ge (10 * n + (d - 48)) ds)
 
-pub value_of_too_large : (n i : ℕ) (ds : List ℕ) → i < length ds → value_after n (drop i ds) ≡ value_after 0 ds → 2 ^ 32 ≤ 10 * n + (get_or ds i 0 - 48) → None ≡ value_of ds
+pub value_of_too_large : (n i : ℕ) (ds : List ℕ) → i < length ds → value_after n (drop i ds) ≡ value_after 0 ds
+    → 2 ^ 32 ≤ 10 * n + (get_or ds i 0 - 48) → None ≡ value_of ds
 value_of_too_large n i ds lt e big =
     let step : value_after n (drop i ds) ≡ value_after (10 * n + (get_or ds i 0 - 48)) (drop (suc i) ds) = ap (value_after n) (drop-cons ds i 0 lt) in
     let all : 2 ^ 32 ≤ value_after 0 ds = omega (arith, value_ge (10 * n + (get_or ds i 0 - 48)) (drop (suc i) ds)) in

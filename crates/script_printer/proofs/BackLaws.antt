@@ -1,5 +1,6 @@
 -- A line is given back by what its statement says, once all names and texts are known.
-use Rattle.std.proofs.Common.{◌≡◌, ℕ, ◌<◌, ◌≤◌, Bool, true, false, cond, eqb, List, [], ◌∷◌, ◌++◌, length, fold, Some, refl, sym, ap, subst, ◌∙◌, arith, inl, inr, length-append}
+use Rattle.std.proofs.Common.{◌≡◌, ℕ, ◌<◌, ◌≤◌, Bool, true, false, cond, eqb, List, [], ◌∷◌, ◌++◌, length}
+use Rattle.std.proofs.Common.{fold, Some, refl, sym, ap, subst, ◌∙◌, arith, inl, inr, length-append}
 use Rattle.std.specs.List.{AllByRecursion}
 use Rattle.std.proofs.lemmas.Bool.{ne_eqb}
 use Rattle.std.proofs.lemmas.List.{get_or_append_left}
@@ -20,7 +21,8 @@ use Rattle.script_lines.specs.Phrase.{Phrase}
 use Rattle.script_lines.specs.Words.{is_name}
 use Rattle.script_lines.specs.Table.{row_of, role_of, slots_of, says}
 use Rattle.script_lines.specs.Line.{WhoFits, SourceFits, BuiltFits, SlotFits, IsLine, blank, copy_slots}
-use Rattle.script_text.specs.Meaning.{enter, place, place_of, after_name, with_text_of, places_of, who_of, from_of, statement_of, native_kind, after_enter, after_add_at, after_add}
+use Rattle.script_text.specs.Meaning.{enter, place, place_of, after_name, with_text_of, places_of, who_of, from_of}
+use Rattle.script_text.specs.Meaning.{statement_of, native_kind, after_enter, after_add_at, after_add}
 use Rattle.script_printer.specs.Building.{proc_line}
 use Rattle.script_printer.specs.Printing.{with_who, with_source, stmt_line, client_line, native_as}
 use Rattle.script_text.specs.Track.{name_at}
@@ -60,9 +62,16 @@ pub record Later (names : Names) (texts : List (List ℕ)) (N : Names) (T : List
   in_texts : Holds texts T
 
 pub later_all : (names : Names) (texts : List (List ℕ)) → Later names texts names texts
-later_all names texts = record { in_procs = holds_all names.procs; in_threads = holds_all names.threads; in_mons = holds_all names.mons; in_conds = holds_all names.conds; in_texts = holds_all texts }
+later_all names texts = record {
+  in_procs = holds_all names.procs;
+  in_threads = holds_all names.threads;
+  in_mons = holds_all names.mons;
+  in_conds = holds_all names.conds;
+  in_texts = holds_all texts;
+}
 
-pub later_entered : (names : Names) (texts : List (List ℕ)) (p : Phrase) (N : Names) (T : List (List ℕ)) → Later (after_name names p) (with_text_of texts p) N T → Later names texts N T
+pub later_entered : (names : Names) (texts : List (List ℕ)) (p : Phrase) (N : Names) (T : List (List ℕ))
+    → Later (after_name names p) (with_text_of texts p) N T → Later names texts N T
 later_entered names texts p N T h = record {
   in_procs = holds_on names.procs (enter names.procs p.procedure) N.procs (holds_entered names.procs p.procedure) h.in_procs;
   in_threads = holds_on names.threads (enter names.threads p.thread) N.threads (holds_entered names.threads p.thread) h.in_threads;
@@ -102,14 +111,17 @@ texts_after d p = by_role (role_of p.op) (places_of (after_name d.script.names p
     by_role role.Again at d p = refl
 
 -- after one line, before all that follow
-pub later_step : (d : Draft) (p : Phrase) (N : Names) (T : List (List ℕ)) → Later (after_add d p).script.names (after_add d p).script.texts N T → Later (after_name d.script.names p) (with_text_of d.script.texts p) N T
+pub later_step : (d : Draft) (p : Phrase) (N : Names) (T : List (List ℕ))
+    → Later (after_add d p).script.names (after_add d p).script.texts N T → Later (after_name d.script.names p) (with_text_of d.script.texts p) N T
 later_step d p N T h =
     subst (λ (n : Names). Later n (with_text_of d.script.texts p) N T) (names_after d p)
     (subst (λ (t : List (List ℕ)). Later (after_add d p).script.names t N T) (texts_after d p) h)
 
 pub later_on : (ps : List Phrase) (d : Draft) → Later d.script.names d.script.texts (fold after_add d ps).script.names (fold after_add d ps).script.texts
 later_on [] d = later_all d.script.names d.script.texts
-later_on (p ∷ ps) d = later_entered d.script.names d.script.texts p (fold after_add (after_add d p) ps).script.names (fold after_add (after_add d p) ps).script.texts (later_step d p (fold after_add (after_add d p) ps).script.names (fold after_add (after_add d p) ps).script.texts (later_on ps (after_add d p)))
+later_on (p ∷ ps) d = later_entered d.script.names d.script.texts p (fold after_add (after_add d p) ps).script.names
+    (fold after_add (after_add d p) ps).script.texts
+    (later_step d p (fold after_add (after_add d p) ps).script.names (fold after_add (after_add d p) ps).script.texts (later_on ps (after_add d p)))
 
 -- ---- A line is given back by what it says.
 
@@ -135,7 +147,8 @@ text_back texts T p s h =
     let k : Holds (texts ++ p.text ∷ []) T = subst (λ (b : Bool). Holds (cond b (texts ++ p.text ∷ []) texts) T) s h in
     k.same (length texts) (omega (arith, length-append texts (p.text ∷ []))) ∙ at_end texts p.text
 
-pub backs : (names : Names) (texts : List (List ℕ)) (p : Phrase) (N : Names) (T : List (List ℕ)) → Later (after_name names p) (with_text_of texts p) N T → Backs p.op N T (places_of (after_name names p) texts p) p
+pub backs : (names : Names) (texts : List (List ℕ)) (p : Phrase) (N : Names) (T : List (List ℕ))
+    → Later (after_name names p) (with_text_of texts p) N T → Backs p.op N T (places_of (after_name names p) texts p) p
 backs names texts p N T h = record {
   thread = λ i. name_back names.threads N.threads p.thread i h.in_threads;
   procedure = λ i. name_back names.procs N.procs p.procedure i h.in_procs;
@@ -144,7 +157,8 @@ backs names texts p N T h = record {
   text = λ s. text_back texts T p s h.in_texts;
 }
 
-who_back : (N : Names) (n : ℕ) (x : Whom) (w : List ℕ) (q : Phrase) → (is_name w ≡ true → name_at N.threads n ≡ w) → WhoFits x w → with_who N (who_of x n) q ≡ record q { who = x; thread = w }
+who_back : (N : Names) (n : ℕ) (x : Whom) (w : List ℕ) (q : Phrase) → (is_name w ≡ true → name_at N.threads n ≡ w) → WhoFits x w
+    → with_who N (who_of x n) q ≡ record q { who = x; thread = w }
 who_back N n whom.Named w q b h = ap (λ t. record q { who = whom.Named; thread = t }) (b h)
 who_back N n whom.Me w q b h = ap (λ t. record q { who = whom.Me; thread = t }) (sym h)
 who_back N n whom.First w q b h = ap (λ t. record q { who = whom.First; thread = t }) (sym h)
@@ -152,7 +166,8 @@ who_back N n whom.Sender w q b h = ap (λ t. record q { who = whom.Sender; threa
 who_back N n whom.Nobody w q b h = ap (λ t. record q { who = whom.Nobody; thread = t }) (sym h)
 who_back N n whom.Any w q b h = absurd h
 
-source_back : (N : Names) (n : ℕ) (x : Whom) (w : List ℕ) (q : Phrase) → (is_name w ≡ true → name_at N.threads n ≡ w) → SourceFits x w → with_source N (from_of x n) q ≡ record q { who = x; thread = w }
+source_back : (N : Names) (n : ℕ) (x : Whom) (w : List ℕ) (q : Phrase) → (is_name w ≡ true → name_at N.threads n ≡ w) → SourceFits x w
+    → with_source N (from_of x n) q ≡ record q { who = x; thread = w }
 source_back N n whom.Named w q b h = ap (λ t. record q { who = whom.Named; thread = t }) (b h)
 source_back N n whom.Me w q b h = ap (λ t. record q { who = whom.Me; thread = t }) (sym h)
 source_back N n whom.First w q b h = ap (λ t. record q { who = whom.First; thread = t }) (sym h)
@@ -160,7 +175,8 @@ source_back N n whom.Sender w q b h = ap (λ t. record q { who = whom.Sender; th
 source_back N n whom.Nobody w q b h = ap (λ t. record q { who = whom.Nobody; thread = t }) (sym h)
 source_back N n whom.Any w q b h = ap (λ t. record q { who = whom.Any; thread = t }) (sym h)
 
-native_back : (N : Names) (n event : ℕ) (w name : List ℕ) → (is_name w ≡ true → name_at N.threads n ≡ w) → BuiltFits event w → native_as N (native_kind event n) (proc_line op.Native name) ≡ record (proc_line op.Native name) { event = event; thread = w }
+native_back : (N : Names) (n event : ℕ) (w name : List ℕ) → (is_name w ≡ true → name_at N.threads n ≡ w) → BuiltFits event w
+    → native_as N (native_kind event n) (proc_line op.Native name) ≡ record (proc_line op.Native name) { event = event; thread = w }
 native_back N n event w name b (inl h) =
     ap (λ e. native_as N (native_kind e n) (proc_line op.Native name)) h.0
     ∙ (λ i. record (proc_line op.Native name) { event = sym h.0 i; thread = sym h.1 i })
@@ -182,28 +198,47 @@ SaidBy role.Statement o N T at p = (st : Stmt) × (statement_of o at p ≡ Some 
 SaidBy role.Skip o N T at p = (st : Stmt) × (statement_of o at p ≡ Some st) × (stmt_line N T st ≡ p)
 SaidBy role.Again o N T at p = (st : Stmt) × (statement_of o at p ≡ Some st) × (stmt_line N T st ≡ p)
 
-said_by : (N : Names) (T : List (List ℕ)) (at : Places) (p : Phrase) (o : Op) → Backs o N T at p → AllByRecursion (SlotFits p) (slots_of o) → copy_slots (slots_of o) p (blank o) ≡ p → SaidBy (role_of o) o N T at p
+said_by : (N : Names) (T : List (List ℕ)) (at : Places) (p : Phrase) (o : Op) → Backs o N T at p → AllByRecursion (SlotFits p) (slots_of o)
+    → copy_slots (slots_of o) p (blank o) ≡ p → SaidBy (role_of o) o N T at p
 unfolding row_of
 said_by N T at p op.Lwp b f e = tt
 said_by N T at p op.Pod b f e = tt
 said_by N T at p op.Limit b f e = tt
 said_by N T at p op.Client b f e = e
-said_by N T at p op.Native b f e = ap (λ x. native_as N (native_kind p.event at.thread) (proc_line op.Native x)) (b.procedure f.0) ∙ native_back N at.thread p.event p.thread p.procedure b.thread f.1.0 ∙ e
+said_by N T at p op.Native b f e = ap (λ x. native_as N (native_kind p.event at.thread) (proc_line op.Native x)) (b.procedure f.0)
+    ∙ native_back N at.thread p.event p.thread p.procedure b.thread f.1.0 ∙ e
 said_by N T at p op.Proc b f e = ap (proc_line op.Proc) (b.procedure f.0) ∙ e
 said_by N T at p op.Post b f e = (λ i. record (blank op.Post) { client = p.client; text = b.text refl i }) ∙ e
-said_by N T at p op.Create b f e = (stmt.Create at.thread at.procedure p.number p.flags, refl, (λ i. record (blank op.Create) { thread = b.thread f.0 i; procedure = b.procedure f.1.0 i; number = p.number; flags = p.flags }) ∙ e)
+said_by N T at p op.Create b f e = (
+  stmt.Create at.thread at.procedure p.number p.flags,
+  refl,
+  (λ i. record (blank op.Create) { thread = b.thread f.0 i; procedure = b.procedure f.1.0 i; number = p.number; flags = p.flags }) ∙ e,
+)
 said_by N T at p op.Destroy b f e = (stmt.Destroy (who_of p.who at.thread), refl, who_back N at.thread p.who p.thread (blank op.Destroy) b.thread f.0 ∙ e)
 said_by N T at p op.Ping b f e = (stmt.Ping (who_of p.who at.thread), refl, who_back N at.thread p.who p.thread (blank op.Ping) b.thread f.0 ∙ e)
 said_by N T at p op.Yield b f e = (stmt.Yield (who_of p.who at.thread), refl, who_back N at.thread p.who p.thread (blank op.Yield) b.thread f.0 ∙ e)
 said_by N T at p op.Suspend b f e = (stmt.Suspend (who_of p.who at.thread), refl, who_back N at.thread p.who p.thread (blank op.Suspend) b.thread f.0 ∙ e)
 said_by N T at p op.Resume b f e = (stmt.Resume (who_of p.who at.thread), refl, who_back N at.thread p.who p.thread (blank op.Resume) b.thread f.0 ∙ e)
 said_by N T at p op.Join b f e = (stmt.Join (who_of p.who at.thread), refl, who_back N at.thread p.who p.thread (blank op.Join) b.thread f.0 ∙ e)
-said_by N T at p op.SetPri b f e = (stmt.SetPri (who_of p.who at.thread) p.number, refl, who_back N at.thread p.who p.thread (record (blank op.SetPri) { number = p.number }) b.thread f.0 ∙ e)
-said_by N T at p op.Send b f e = (stmt.Send (who_of p.who at.thread) p.room at.text, refl, who_back N at.thread p.who p.thread (record (blank op.Send) { room = p.room; text = name_at T at.text }) b.thread f.0 ∙ (λ i. record (blank op.Send) { who = p.who; thread = p.thread; room = p.room; text = b.text refl i }) ∙ e)
-said_by N T at p op.Recv b f e = (stmt.Recv (from_of p.who at.thread) p.mode, refl, source_back N at.thread p.who p.thread (record (blank op.Recv) { mode = p.mode }) b.thread f.0 ∙ e)
-said_by N T at p op.Reply b f e = (stmt.Reply (who_of p.who at.thread) at.text, refl, who_back N at.thread p.who p.thread (record (blank op.Reply) { text = name_at T at.text }) b.thread f.0 ∙ (λ i. record (blank op.Reply) { who = p.who; thread = p.thread; text = b.text refl i }) ∙ e)
+said_by N T at p op.SetPri b f e =
+    (stmt.SetPri (who_of p.who at.thread) p.number, refl, who_back N at.thread p.who p.thread (record (blank op.SetPri) { number = p.number }) b.thread f.0 ∙ e)
+said_by N T at p op.Send b f e = (
+  stmt.Send (who_of p.who at.thread) p.room at.text,
+  refl,
+  who_back N at.thread p.who p.thread (record (blank op.Send) { room = p.room; text = name_at T at.text }) b.thread f.0
+      ∙ (λ i. record (blank op.Send) { who = p.who; thread = p.thread; room = p.room; text = b.text refl i }) ∙ e,
+)
+said_by N T at p op.Recv b f e =
+    (stmt.Recv (from_of p.who at.thread) p.mode, refl, source_back N at.thread p.who p.thread (record (blank op.Recv) { mode = p.mode }) b.thread f.0 ∙ e)
+said_by N T at p op.Reply b f e = (
+  stmt.Reply (who_of p.who at.thread) at.text,
+  refl,
+  who_back N at.thread p.who p.thread (record (blank op.Reply) { text = name_at T at.text }) b.thread f.0
+      ∙ (λ i. record (blank op.Reply) { who = p.who; thread = p.thread; text = b.text refl i }) ∙ e,
+)
 said_by N T at p op.MonCreate b f e = (stmt.MonCreate at.monitor, refl, (λ i. record (blank op.MonCreate) { monitor = b.monitor f.0 i }) ∙ e)
-said_by N T at p op.CvCreate b f e = (stmt.CvCreate at.condition at.monitor, refl, (λ i. record (blank op.CvCreate) { condition = b.condition f.0 i; monitor = b.monitor f.1.0 i }) ∙ e)
+said_by N T at p op.CvCreate b f e =
+    (stmt.CvCreate at.condition at.monitor, refl, (λ i. record (blank op.CvCreate) { condition = b.condition f.0 i; monitor = b.monitor f.1.0 i }) ∙ e)
 said_by N T at p op.MonDestroy b f e = (stmt.MonDestroy at.monitor, refl, (λ i. record (blank op.MonDestroy) { monitor = b.monitor f.0 i }) ∙ e)
 said_by N T at p op.Enter b f e = (stmt.Enter at.monitor, refl, (λ i. record (blank op.Enter) { monitor = b.monitor f.0 i }) ∙ e)
 said_by N T at p op.CondEnter b f e = (stmt.CondEnter at.monitor, refl, (λ i. record (blank op.CondEnter) { monitor = b.monitor f.0 i }) ∙ e)
@@ -214,15 +249,27 @@ said_by N T at p op.CvDestroy b f e = (stmt.CvDestroy at.condition, refl, (λ i.
 said_by N T at p op.Wait b f e = (stmt.Wait at.condition, refl, (λ i. record (blank op.Wait) { condition = b.condition f.0 i }) ∙ e)
 said_by N T at p op.Notify b f e = (stmt.Notify at.condition, refl, (λ i. record (blank op.Notify) { condition = b.condition f.0 i }) ∙ e)
 said_by N T at p op.Broadcast b f e = (stmt.Broadcast at.condition, refl, (λ i. record (blank op.Broadcast) { condition = b.condition f.0 i }) ∙ e)
-said_by N T at p op.CvSend b f e = (stmt.CvSend at.condition (who_of p.who at.thread), refl, who_back N at.thread p.who p.thread (record (blank op.CvSend) { condition = name_at N.conds at.condition }) b.thread f.1.0 ∙ (λ i. record (blank op.CvSend) { who = p.who; thread = p.thread; condition = b.condition f.0 i }) ∙ e)
+said_by N T at p op.CvSend b f e = (
+  stmt.CvSend at.condition (who_of p.who at.thread),
+  refl,
+  who_back N at.thread p.who p.thread (record (blank op.CvSend) { condition = name_at N.conds at.condition }) b.thread f.1.0
+      ∙ (λ i. record (blank op.CvSend) { who = p.who; thread = p.thread; condition = b.condition f.0 i }) ∙ e,
+)
 said_by N T at p op.CvWaiters b f e = (stmt.CvWaiters at.condition, refl, (λ i. record (blank op.CvWaiters) { condition = b.condition f.0 i }) ∙ e)
 said_by N T at p op.CallProc b f e = (stmt.CallProc at.procedure, refl, (λ i. record (blank op.CallProc) { procedure = b.procedure f.0 i }) ∙ e)
 said_by N T at p op.ExitMonExit b f e = (stmt.OnExit (exit.MonExit at.monitor), refl, (λ i. record (blank op.ExitMonExit) { monitor = b.monitor f.0 i }) ∙ e)
 said_by N T at p op.ExitMonBreak b f e = (stmt.OnExit (exit.MonBreak at.monitor), refl, (λ i. record (blank op.ExitMonBreak) { monitor = b.monitor f.0 i }) ∙ e)
 said_by N T at p op.ExitNotify b f e = (stmt.OnExit (exit.Notify at.condition), refl, (λ i. record (blank op.ExitNotify) { condition = b.condition f.0 i }) ∙ e)
-said_by N T at p op.ExitBroadcast b f e = (stmt.OnExit (exit.Broadcast at.condition), refl, (λ i. record (blank op.ExitBroadcast) { condition = b.condition f.0 i }) ∙ e)
-said_by N T at p op.ExitReply b f e = (stmt.OnExit (exit.Reply (who_of p.who at.thread) at.text), refl, who_back N at.thread p.who p.thread (record (blank op.ExitReply) { text = name_at T at.text }) b.thread f.0 ∙ (λ i. record (blank op.ExitReply) { who = p.who; thread = p.thread; text = b.text refl i }) ∙ e)
-said_by N T at p op.ExitResume b f e = (stmt.OnExit (exit.Resume (who_of p.who at.thread)), refl, who_back N at.thread p.who p.thread (blank op.ExitResume) b.thread f.0 ∙ e)
+said_by N T at p op.ExitBroadcast b f e =
+    (stmt.OnExit (exit.Broadcast at.condition), refl, (λ i. record (blank op.ExitBroadcast) { condition = b.condition f.0 i }) ∙ e)
+said_by N T at p op.ExitReply b f e = (
+  stmt.OnExit (exit.Reply (who_of p.who at.thread) at.text),
+  refl,
+  who_back N at.thread p.who p.thread (record (blank op.ExitReply) { text = name_at T at.text }) b.thread f.0
+      ∙ (λ i. record (blank op.ExitReply) { who = p.who; thread = p.thread; text = b.text refl i }) ∙ e,
+)
+said_by N T at p op.ExitResume b f e =
+    (stmt.OnExit (exit.Resume (who_of p.who at.thread)), refl, who_back N at.thread p.who p.thread (blank op.ExitResume) b.thread f.0 ∙ e)
 said_by N T at p op.ExitNote b f e = (stmt.OnExit (exit.Note at.text), refl, (λ i. record (blank op.ExitNote) { text = b.text refl i }) ∙ e)
 said_by N T at p op.Agent b f e = (stmt.Agent at.thread p.number, refl, (λ i. record (blank op.Agent) { thread = b.thread f.0 i; number = p.number }) ∙ e)
 said_by N T at p op.Say b f e = (stmt.Say at.text, refl, (λ i. record (blank op.Say) { text = b.text refl i }) ∙ e)

@@ -29,16 +29,19 @@ limit_some births e =
 
 spelling_append : (xs ys : List Phrase) → spelling (xs ++ ys) ≡ spelling xs ++ spelling ys
 spelling_append [] ys = refl
-spelling_append (p ∷ ps) ys = ap (λ (l : List ℕ). with_newline (phrase_text p) ++ l) (spelling_append ps ys) ∙ sym (append_assoc (with_newline (phrase_text p)) (spelling ps) (spelling ys))
+spelling_append (p ∷ ps) ys = ap (λ (l : List ℕ). with_newline (phrase_text p) ++ l) (spelling_append ps ys)
+    ∙ sym (append_assoc (with_newline (phrase_text p)) (spelling ps) (spelling ys))
 
 body_text : (names : Names) (texts : List (List ℕ)) (clients : List ℕ) (natives : List Native) (procs : List Proc) (posts : List Post)
     → spelling (body_lines names texts clients natives procs posts)
-    ≡ spelling (client_lines 0 clients) ++ (spelling (map (native_line names) natives) ++ (spelling (flat_map (proc_lines names texts) procs) ++ spelling (map (post_line texts) posts)))
+    ≡ spelling (client_lines 0 clients)
+    ++ (spelling (map (native_line names) natives) ++ (spelling (flat_map (proc_lines names texts) procs) ++ spelling (map (post_line texts) posts)))
 body_text names texts clients natives procs posts =
     spelling_append (client_lines 0 clients) (map (native_line names) natives ++ (flat_map (proc_lines names texts) procs ++ map (post_line texts) posts))
     ∙ ap (λ (l : List ℕ). spelling (client_lines 0 clients) ++ l) (
     spelling_append (map (native_line names) natives) (flat_map (proc_lines names texts) procs ++ map (post_line texts) posts)
-    ∙ ap (λ (l : List ℕ). spelling (map (native_line names) natives) ++ l) (spelling_append (flat_map (proc_lines names texts) procs) (map (post_line texts) posts))
+    ∙ ap (λ (l : List ℕ). spelling (map (native_line names) natives) ++ l)
+    (spelling_append (flat_map (proc_lines names texts) procs) (map (post_line texts) posts))
     )
 
 -- lists that are put after one another in turn
@@ -51,11 +54,20 @@ in_turn a b c d e f g =
     ∙ append_assoc a b (c ++ (d ++ (e ++ (f ++ g))))
 
 -- the text of a script, section by section
-pub printed_in_turn : (s : Script) → ((((((with_newline (phrase_text (number_line op.Lwp 1)) ++ with_newline (phrase_text (number_line op.Pod s.maxpri))) ++ spelling (limit_lines s.births)) ++ spelling (client_lines 0 s.clients)) ++ spelling (map (native_line s.names) s.natives)) ++ spelling (flat_map (proc_lines s.names s.texts) s.procs)) ++ spelling (map (post_line s.texts) s.posts)) ≡ text_of_script s
+pub printed_in_turn : (s : Script)
+    → ((((((with_newline (phrase_text (number_line op.Lwp 1)) ++ with_newline (phrase_text (number_line op.Pod s.maxpri))) ++ spelling (limit_lines s.births))
+    ++ spelling (client_lines 0 s.clients))
+    ++ spelling (map (native_line s.names) s.natives))
+    ++ spelling (flat_map (proc_lines s.names s.texts) s.procs))
+    ++ spelling (map (post_line s.texts) s.posts))
+    ≡ text_of_script s
 unfolding text_of_script
 printed_in_turn s =
     let a = with_newline (phrase_text (number_line op.Lwp 1)) in
     let b = with_newline (phrase_text (number_line op.Pod s.maxpri)) in
     let body = body_lines s.names s.texts s.clients s.natives s.procs s.posts in
-    in_turn a b (spelling (limit_lines s.births)) (spelling (client_lines 0 s.clients)) (spelling (map (native_line s.names) s.natives)) (spelling (flat_map (proc_lines s.names s.texts) s.procs)) (spelling (map (post_line s.texts) s.posts))
-    ∙ ap (λ (l : List ℕ). a ++ (b ++ l)) (sym (spelling_append (limit_lines s.births) body ∙ ap (λ (l : List ℕ). spelling (limit_lines s.births) ++ l) (body_text s.names s.texts s.clients s.natives s.procs s.posts)))
+    in_turn a b (spelling (limit_lines s.births)) (spelling (client_lines 0 s.clients)) (spelling (map (native_line s.names) s.natives))
+    (spelling (flat_map (proc_lines s.names s.texts) s.procs)) (spelling (map (post_line s.texts) s.posts))
+    ∙ ap (λ (l : List ℕ). a ++ (b ++ l))
+    (sym (spelling_append (limit_lines s.births) body
+    ∙ ap (λ (l : List ℕ). spelling (limit_lines s.births) ++ l) (body_text s.names s.texts s.clients s.natives s.procs s.posts)))

@@ -13,7 +13,9 @@ use Rattle.script_run.specs.Ties.{AreTied, IsKnown, IsOut, IsWork, any_intake}
 use Rattle.script_run.specs.declared.inlet.AnyInlet.{AnyInlet}
 use Rattle.script_run.specs.declared.outside.Client.{Client}
 use Rattle.script_run.specs.declared.poster.AnyEnd.{AnyEnd}
-use Rattle.std.proofs.Common.{Bool, List, [], ap, arith, eqb, false, get_or-set_other, get_or-set_same, inl, inr, length, length-append, length-set, length-take-le, map, ne_eqb, refl, set, slice_index_or, subst, sym, take, true, true≢false, ℕ, ◌&&◌, ◌+◌, ◌++◌, ◌<◌, ◌∙◌, ◌∷◌, ◌≡◌, ◌≢◌, ◌⊎◌, ⊎_elim}
+use Rattle.std.proofs.Common.{Bool, List, [], ap, arith, eqb, false, get_or-set_other, get_or-set_same, inl, inr, length}
+use Rattle.std.proofs.Common.{length-append, length-set, length-take-le, map, ne_eqb, refl, set, slice_index_or, subst, sym}
+use Rattle.std.proofs.Common.{take, true, true≢false, ℕ, ◌&&◌, ◌+◌, ◌++◌, ◌<◌, ◌∙◌, ◌∷◌, ◌≡◌, ◌≢◌, ◌⊎◌, ⊎_elim}
 use Rattle.std.proofs.Math.Seq.{get_or-append_seam}
 use Rattle.std.proofs.lemmas.Bool.{cases_order}
 use Rattle.std.proofs.lemmas.List.{get_or-map, get_or_append_left, length-map}
@@ -34,29 +36,37 @@ one_not false b e = inl refl
 -- ---- one inlet changes
 
 -- so it is of each inlet where one alone was changed
-pub each_set : (R : Intake → Intake → Type 0) (before : List Intake) (k : ℕ) (u : Intake) → ((t : Intake) → R t t) → k < length before → ((d : Intake) → R (slice_index_or before k d) u) → EachInlet R before (set before k u)
+pub each_set : (R : Intake → Intake → Type 0) (before : List Intake) (k : ℕ) (u : Intake) → ((t : Intake) → R t t) → k < length before
+    → ((d : Intake) → R (slice_index_or before k d) u) → EachInlet R before (set before k u)
 each_set R before k u same inside changed = (
   length-set before k u,
   λ j d lt. ⊎_elim
       (λ (e : j ≡ k).
-      subst (λ (i : ℕ). R (slice_index_or before i d) (slice_index_or (set before k u) i d)) (sym e) (subst (R (slice_index_or before k d)) (sym (get_or-set_same before k u d inside)) (changed d)))
+      subst (λ (i : ℕ). R (slice_index_or before i d) (slice_index_or (set before k u) i d)) (sym e)
+      (subst (R (slice_index_or before k d)) (sym (get_or-set_same before k u d inside)) (changed d)))
       (λ (n : j ≢ k). subst (R (slice_index_or before j d)) (sym (get_or-set_other before k j u d n)) (same (slice_index_or before j d)))
       (same_or j k),
 )
 
 pub taken_in_same : (t u : Intake) (p : AnyPosting) → IsTakenIn t p u → IsSame t u
-taken_in_same t u p h = record { place = ap (λ (v : Intake). v.place) h.same; event = ap (λ (v : Intake). v.event) h.same; noted = ap (λ (v : Intake). v.noted) h.same }
+taken_in_same t u p h = record {
+  place = ap (λ (v : Intake). v.place) h.same;
+  event = ap (λ (v : Intake). v.event) h.same;
+  noted = ap (λ (v : Intake). v.noted) h.same;
+}
 
 same_here : (t : Intake) → IsSame t t
 same_here t = record { place = refl; event = refl; noted = refl }
 
-pub hears : (before : List Intake) (k : ℕ) (t u : Intake) (p : AnyPosting) → k < length before → ((d : Intake) → slice_index_or before k d ≡ t) → IsTakenIn t p u → EachInlet Hears before (set before k u)
+pub hears : (before : List Intake) (k : ℕ) (t u : Intake) (p : AnyPosting) → k < length before
+    → ((d : Intake) → slice_index_or before k d ≡ t) → IsTakenIn t p u → EachInlet Hears before (set before k u)
 hears before k t u p inside at h = each_set Hears before k u (λ v. refl) inside (λ d. subst (λ v. Hears v u) (sym (at d)) h.same)
 
 -- ---- the client that is back
 
 -- of the client that is back
-known_mine : (texts : List (List (List ℕ))) (all : Bool) (c : ℕ) (e : AnyEnd) (t u : Intake) → IsEnd t.place c (texts_of texts c) e → IsTakenIn t (pass_posting e.pass) u → IsKnown texts (all && e.all) c u
+known_mine : (texts : List (List (List ℕ))) (all : Bool) (c : ℕ) (e : AnyEnd) (t u : Intake) → IsEnd t.place c (texts_of texts c) e
+    → IsTakenIn t (pass_posting e.pass) u → IsKnown texts (all && e.all) c u
 known_mine texts all c e t u end h = record {
   told = subst (λ (d : ℕ). is_told d u.known ≡ true) end.client_is h.told;
   count = end.count;
@@ -67,16 +77,24 @@ known_mine texts all c e t u end h = record {
 
 -- fewer say that they have posted all
 known_less : (texts : List (List (List ℕ))) (all more : Bool) (c : ℕ) (t : Intake) → IsKnown texts all c t → IsKnown texts (all && more) c t
-known_less texts all more c t h = record { told = h.told; count = h.count; posted = h.posted; whole = λ both. h.whole (first_of_both all more both); sole = h.sole }
+known_less texts all more c t h = record {
+  told = h.told;
+  count = h.count;
+  posted = h.posted;
+  whole = λ both. h.whole (first_of_both all more both);
+  sole = h.sole;
+}
 
 -- of the others
-known_still : (texts : List (List (List ℕ))) (all more : Bool) (c : ℕ) (t u : Intake) (p : AnyPosting) → is_noted c t.noted ≡ true → eqb p.client c ≡ false → IsTakenIn t p u → IsKnown texts all c t → IsKnown texts (all && more) c u
+known_still : (texts : List (List (List ℕ))) (all more : Bool) (c : ℕ) (t u : Intake) (p : AnyPosting) → is_noted c t.noted ≡ true
+    → eqb p.client c ≡ false → IsTakenIn t p u → IsKnown texts all c t → IsKnown texts (all && more) c u
 known_still texts all more c t u p noted other h k =
     let r = h.others c noted other in
     known_less texts all more c u (known_again texts all c t u (ap (λ (v : Intake). v.place) h.same) r.0 r.1 k)
 
 -- no other inlet has its event
-one_inlet : (before : List Intake) (i j : ℕ) (d : Intake) → ((i j : ℕ) (d : Intake) → i < j → j < length before → (slice_index_or before i d).event < (slice_index_or before j d).event)
+one_inlet : (before : List Intake) (i j : ℕ) (d : Intake)
+    → ((i j : ℕ) (d : Intake) → i < j → j < length before → (slice_index_or before i d).event < (slice_index_or before j d).event)
     → i < length before → j < length before → (slice_index_or before i d).event ≡ (slice_index_or before j d).event → i ≡ j
 one_inlet before i j d rise low high e = ⊎_elim
     (λ (s : i ≡ j). s)
@@ -88,7 +106,8 @@ one_inlet before i j d rise low high e = ⊎_elim
 
 -- the client that is back has not posted all
 short_mine : (events : List ℕ) (texts : List (List (List ℕ))) (c k : ℕ) (before : List Intake) (t u : Intake) (e : AnyEnd)
-    → EachInlet IsSame before (set before k u) → ((i j : ℕ) (d : Intake) → i < j → j < length before → (slice_index_or before i d).event < (slice_index_or before j d).event)
+    → EachInlet IsSame before (set before k u)
+    → ((i j : ℕ) (d : Intake) → i < j → j < length before → (slice_index_or before i d).event < (slice_index_or before j d).event)
     → k < length before → ((d : Intake) → (slice_index_or before k d).event ≡ event_of events c) → c < length events
     → IsEnd t.place c (texts_of texts c) e → IsTakenIn t (pass_posting e.pass) u → e.all ≡ false → FellShort events texts c (set before k u)
 unfolding known_mine
@@ -111,7 +130,8 @@ short_mine events texts c k before t u e same rise inside event low end taken no
 }
 
 -- one client more is back
-pub tied_back : (events : List ℕ) (texts : List (List (List ℕ))) (all : Bool) (out : List Client) (before : List Intake) (client : Client) (t u : Intake) (e : AnyEnd)
+pub tied_back : (events : List ℕ) (texts : List (List (List ℕ))) (all : Bool) (out : List Client) (before : List Intake) (client : Client)
+    (t u : Intake) (e : AnyEnd)
     → AreTied events texts all (out ++ client ∷ []) before
     → ((d : Intake) → slice_index_or before client.inlet d ≡ t)
     → IsEnd t.place (length out) (texts_of texts (length out)) e
@@ -125,7 +145,8 @@ tied_back events texts all out before client t u e h at end taken =
     let few = h.out_of in
     let last : slice_index_or (out ++ client ∷ []) c client ≡ client = get_or-append_seam out client [] client in
     let mine : IsOut events texts before c client = subst (IsOut events texts before c) last (h.at_work c client (omega (arith, size))) in
-    let same : EachInlet IsSame before after = each_set IsSame before k u same_here mine.inside (λ d. subst (λ v. IsSame v u) (sym (at d)) (taken_in_same t u (pass_posting e.pass) taken)) in
+    let same : EachInlet IsSame before after =
+    each_set IsSame before k u same_here mine.inside (λ d. subst (λ v. IsSame v u) (sym (at d)) (taken_in_same t u (pass_posting e.pass) taken)) in
     record {
       are_for = for_kept events before after same h.are_for;
       small = h.small;
@@ -145,14 +166,17 @@ tied_back events texts all out before client t u e h at end taken =
           (λ (it : c ≡ b). subst (λ (i : ℕ). IsKnown texts (all && e.all) i u) it (known_mine texts all c e t u end taken))
           (λ (other : c ≢ b).
           let event : t.event ≡ event_of events b = ap (λ (v : Intake). v.event) (sym was) ∙ is' in
-          let noted : is_noted b t.noted ≡ true = ap (is_noted b) (subst (λ (v : Intake). v.noted ≡ clients_of events v.event) was (h.are_for.clients j d inside')) ∙ is_client events t.event b low (sym event) in
+          let noted : is_noted b t.noted
+          ≡ true = ap (is_noted b) (subst (λ (v : Intake). v.noted ≡ clients_of events v.event) was (h.are_for.clients j d inside'))
+          ∙ is_client events t.event b low (sym event) in
           known_still texts all e.all b t u (pass_posting e.pass) noted (ne_eqb (pass_posting e.pass).client b (λ q. other (sym end.client_is ∙ q))) taken
           (subst (IsKnown texts all b) was (h.back b (omega (arith, size, high, other)) low j d inside' is')))
           (same_or c b)))
           (λ (away : j ≢ k).
           let now : slice_index_or after j d ≡ slice_index_or before j d = get_or-set_other before k j u d away in
           subst (IsKnown texts (all && e.all) b) (sym now) (⊎_elim
-          (λ (it : c ≡ b). absurd (away (one_inlet before j k d h.are_for.rise.1 inside' mine.inside (is' ∙ ap (event_of events) (sym it) ∙ sym (mine.event d)))))
+          (λ (it : c ≡ b).
+          absurd (away (one_inlet before j k d h.are_for.rise.1 inside' mine.inside (is' ∙ ap (event_of events) (sym it) ∙ sym (mine.event d)))))
           (λ (other : c ≢ b). known_less texts all e.all b (slice_index_or before j d) (h.back b (omega (arith, size, high, other)) low j d inside' is'))
           (same_or c b)))
           (same_or j k);
@@ -164,18 +188,24 @@ tied_back events texts all out before client t u e h at end taken =
           let now : slice_index_or after j d ≡ u = ap (λ (i : ℕ). slice_index_or after i d) here ∙ get_or-set_same before k u d mine.inside in
           let was : slice_index_or before j d ≡ t = ap (λ (i : ℕ). slice_index_or before i d) here ∙ at d in
           let event : t.event ≡ event_of events b = ap (λ (v : Intake). v.event) (sym was) ∙ is' in
-          let noted : is_noted b t.noted ≡ true = ap (is_noted b) (subst (λ (v : Intake). v.noted ≡ clients_of events v.event) was (h.are_for.clients j d inside')) ∙ is_client events t.event b low (sym event) in
+          let noted : is_noted b t.noted
+          ≡ true = ap (is_noted b) (subst (λ (v : Intake). v.noted ≡ clients_of events v.event) was (h.are_for.clients j d inside'))
+          ∙ is_client events t.event b low (sym event) in
           let client_is = end.client_is in
-          ap (λ (v : Intake). lines_in_pass b v.known) now ∙ (taken.others b noted (ne_eqb (pass_posting e.pass).client b (λ q. omega (arith, size, high, client_is, q)))).1 ∙ sym (ap (λ (v : Intake). lines_in_pass b v.known) was))
+          ap (λ (v : Intake). lines_in_pass b v.known) now
+          ∙ (taken.others b noted (ne_eqb (pass_posting e.pass).client b (λ q. omega (arith, size, high, client_is, q)))).1
+          ∙ sym (ap (λ (v : Intake). lines_in_pass b v.known) was))
           (λ (away : j ≢ k). ap (λ (v : Intake). lines_in_pass b v.known) (get_or-set_other before k j u d away))
           (same_or j k))
           (h.short others))
-          (λ (mine' : e.all ≡ false). short_mine events texts c k before t u e same h.are_for.rise.1 mine.inside mine.event (omega (arith, size, few)) end taken mine')
+          (λ (mine' : e.all ≡ false).
+          short_mine events texts c k before t u e same h.are_for.rise.1 mine.inside mine.event (omega (arith, size, few)) end taken mine')
           (one_not all e.all not);
     }
 
 -- what the next thread brings back fits its inlet
-pub end_fits : (events : List ℕ) (texts : List (List (List ℕ))) (all : Bool) (out : List Client) (before : List Intake) (client : Client) (t : Intake) (e : AnyEnd)
+pub end_fits : (events : List ℕ) (texts : List (List (List ℕ))) (all : Bool) (out : List Client) (before : List Intake) (client : Client)
+    (t : Intake) (e : AnyEnd)
     → AreTied events texts all (out ++ client ∷ []) before
     → ((d : Intake) → slice_index_or before client.inlet d ≡ t)
     → ((place : List ℕ) (c : ℕ) (ts : List (List ℕ)) → IsWork place c ts client.work → IsEnd place c ts e)
@@ -184,10 +214,12 @@ end_fits events texts all out before client t e h at brings =
     let c : ℕ = length out in
     let size : length (out ++ client ∷ []) ≡ c + 1 = length-append out (client ∷ []) in
     let few = h.out_of in
-    let mine : IsOut events texts before c client = subst (IsOut events texts before c) (get_or-append_seam out client [] client) (h.at_work c client (omega (arith, size))) in
+    let mine : IsOut events texts before c client =
+    subst (IsOut events texts before c) (get_or-append_seam out client [] client) (h.at_work c client (omega (arith, size))) in
     let work : IsWork t.place c (texts_of texts c) client.work = subst (λ (v : Intake). IsWork v.place c (texts_of texts c) client.work) (at t) (mine.work t) in
     let end = brings t.place c (texts_of texts c) work in
-    let clients : t.noted ≡ clients_of events t.event = subst (λ (v : Intake). v.noted ≡ clients_of events v.event) (at t) (h.are_for.clients client.inlet t mine.inside) in
+    let clients : t.noted
+    ≡ clients_of events t.event = subst (λ (v : Intake). v.noted ≡ clients_of events v.event) (at t) (h.are_for.clients client.inlet t mine.inside) in
     let event : t.event ≡ event_of events c = subst (λ (v : Intake). v.event ≡ event_of events c) (at t) (mine.event t) in
     (end, ap (is_noted (pass_posting e.pass).client) clients ∙ is_client events t.event (pass_posting e.pass).client (let s = end.client_is in omega (arith, size, few, s)) (ap (event_of events) end.client_is ∙ sym event))
 
@@ -210,5 +242,6 @@ hears_on first second third a b = (
 )
 
 -- the inlet that was looked up, as a runner's end
-pub at_place : (xs : List AnyInlet) (k : ℕ) (x : AnyInlet) → k < length (map any_intake xs) → x ≡ slice_index_or xs k x → (d : Intake) → slice_index_or (map any_intake xs) k d ≡ any_intake x
+pub at_place : (xs : List AnyInlet) (k : ℕ) (x : AnyInlet) → k < length (map any_intake xs) → x ≡ slice_index_or xs k x → (d : Intake)
+    → slice_index_or (map any_intake xs) k d ≡ any_intake x
 at_place xs k x lt e d = let size = length-map xs any_intake in get_or-map any_intake xs k x d (omega (arith, size, lt)) ∙ ap any_intake (sym e)

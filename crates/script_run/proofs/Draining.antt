@@ -20,5 +20,6 @@ gave_nothing t u v g h =
     }
 
 -- one inlet has given lines, and the others none
-pub one_gave : (before : List Intake) (k : ℕ) (t u : Intake) → k < length before → ((d : Intake) → slice_index_or before k d ≡ t) → Gave t u → EachInlet Gave before (set before k u)
+pub one_gave : (before : List Intake) (k : ℕ) (t u : Intake) → k < length before → ((d : Intake) → slice_index_or before k d ≡ t) → Gave t u
+    → EachInlet Gave before (set before k u)
 one_gave before k t u inside at g = each_set Gave before k u gave_none inside (λ d. subst (λ (w : Intake). Gave w u) (sym (at d)) g)

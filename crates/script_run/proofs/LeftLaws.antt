@@ -16,7 +16,8 @@ use Rattle.trace_text.specs.declared.ends.Halt.{Halt}
 use Rattle.trace_text.specs.declared.ends.Halt.TheVariants.{Ended, Stuck}
 use Rattle.std.specs.List.{AllByRecursion, filter, list_any, range_with_len}
 use Rattle.std.specs.Prelude.{All, if◌then◌else◌, is_some, map, ◌&&◌, ◌⊎◌}
-use Rattle.std.proofs.Common.{Bool, List, None, Option, Some, [], ap, append_assoc, arith, cond, drop, eqb, false, inl, inr, length, length-append, refl, slice_get, subst, suc, sym, true, zero, ℕ, ⊎_elim, ◌++◌, ◌+◌, ◌-◌, ◌<◌, ◌∙◌, ◌∷◌, ◌≡◌, ◌≢◌, ◌≤◌}
+use Rattle.std.proofs.Common.{Bool, List, None, Option, Some, [], ap, append_assoc, arith, cond, drop, eqb, false, inl, inr, length, length-append}
+use Rattle.std.proofs.Common.{refl, slice_get, subst, suc, sym, true, zero, ℕ, ⊎_elim, ◌++◌, ◌+◌, ◌-◌, ◌<◌, ◌∙◌, ◌∷◌, ◌≡◌, ◌≢◌, ◌≤◌}
 use Rattle.std.proofs.lemmas.Bool.{cases_lt, eqb-true}
 use Rattle.std.proofs.lemmas.List.{append-nil, map-append}
 use Rattle.std.proofs.lemmas.List.Elements.{All-from_recursion, filter-append, recursion_from_All}
@@ -71,22 +72,26 @@ left-before : (posts : List Line) (takes : List Took) (c a : ℕ) (es : List ℕ
 left-before posts takes c a [] low = refl
 left-before posts takes c a (e ∷ es) low =
     of-append c (behind posts takes a) (left_behind posts takes (a + 1) es)
-    ∙ ap (λ xs. xs ++ of c (left_behind posts takes (a + 1) es)) (of-others c a (behind posts takes a) (λ is. absurd (omega (arith, is, low))) (behind-all posts takes a))
+    ∙ ap (λ xs. xs ++ of c (left_behind posts takes (a + 1) es))
+    (of-others c a (behind posts takes a) (λ is. absurd (omega (arith, is, low))) (behind-all posts takes a))
     ∙ left-before posts takes c (a + 1) es (omega (arith, low))
 
 pub left-past : (posts : List Line) (takes : List Took) (c a : ℕ) (es : List ℕ) → a + length es ≤ c → of c (left_behind posts takes a es) ≡ []
 left-past posts takes c a [] past = refl
 left-past posts takes c a (e ∷ es) past =
     of-append c (behind posts takes a) (left_behind posts takes (a + 1) es)
-    ∙ ap (λ xs. xs ++ of c (left_behind posts takes (a + 1) es)) (of-others c a (behind posts takes a) (λ is. absurd (omega (arith, is, past))) (behind-all posts takes a))
+    ∙ ap (λ xs. xs ++ of c (left_behind posts takes (a + 1) es))
+    (of-others c a (behind posts takes a) (λ is. absurd (omega (arith, is, past))) (behind-all posts takes a))
     ∙ left-past posts takes c (a + 1) es (omega (arith, past))
 
-left-at : (posts : List Line) (takes : List Took) (c a : ℕ) (es : List ℕ) → a ≤ c → c < a + length es → of c (left_behind posts takes a es) ≡ behind posts takes c
+left-at : (posts : List Line) (takes : List Took) (c a : ℕ) (es : List ℕ) → a ≤ c → c < a + length es
+    → of c (left_behind posts takes a es) ≡ behind posts takes c
 left-at posts takes c a [] from under = absurd (omega (arith, from, under))
 left-at posts takes c a (e ∷ es) from under = ⊎_elim
     (λ (same : a ≡ c).
     of-append c (behind posts takes a) (left_behind posts takes (a + 1) es)
-    ∙ ap (λ xs. xs ++ of c (left_behind posts takes (a + 1) es)) (ap (λ k. of c (behind posts takes k)) same ∙ of-own c (behind posts takes c) (behind-all posts takes c))
+    ∙ ap (λ xs. xs ++ of c (left_behind posts takes (a + 1) es))
+    (ap (λ k. of c (behind posts takes k)) same ∙ of-own c (behind posts takes c) (behind-all posts takes c))
     ∙ ap (λ xs. behind posts takes c ++ xs) (left-before posts takes c (a + 1) es (omega (arith, same)))
     ∙ append-nil (behind posts takes c))
     (λ (other : a ≢ c).
@@ -115,7 +120,8 @@ pub record ArePosts (clients : List ℕ) (posts : List Line) : Type 0 where
   pub numbered : (c : ℕ) → IsNumbered 0 (of c posts)
 
 pub taken-append : (e : ℕ) (a b : List Took) → lines_of_takes e (a ++ b) ≡ lines_of_takes e a ++ lines_of_takes e b
-taken-append e a b = ap (map (λ (took : Took). took.line)) (filter-append (is_take_of e) a b) ∙ map-append (λ (took : Took). took.line) (filter (is_take_of e) a) (filter (is_take_of e) b)
+taken-append e a b = ap (map (λ (took : Took). took.line)) (filter-append (is_take_of e) a b)
+    ∙ map-append (λ (took : Took). took.line) (filter (is_take_of e) a) (filter (is_take_of e) b)
 
 taken-push : (e : ℕ) (t : Took) (ts : List Took) → t.event ≡ e → lines_of_takes e (t ∷ ts) ≡ t.line ∷ lines_of_takes e ts
 taken-push e t ts same = ap (map (λ (took : Took). took.line)) (cond_same t.event e (t ∷ filter (is_take_of e) ts) (filter (is_take_of e) ts) same)
@@ -132,25 +138,31 @@ abbrev IsAtEvent : List ℕ → Took → Type 0
 IsAtEvent clients t = (event_of clients t.line.client ≡ t.event) × (t.line.client < length clients)
 
 at-events : (has : ℕ → Type 0) (clients : List ℕ) (before rest : List Took)
-    → ((e c : ℕ) → has e → IsAway clients e c → of c (lines_of_takes e (before ++ rest)) ≡ []) → AllByRecursion (λ (took : Took). has took.event) rest → AllByRecursion (IsAtEvent clients) rest
+    → ((e c : ℕ) → has e → IsAway clients e c → of c (lines_of_takes e (before ++ rest)) ≡ [])
+    → AllByRecursion (λ (took : Took). has took.event) rest → AllByRecursion (IsAtEvent clients) rest
 at-events has clients before [] stray known = tt
 at-events has clients before (t ∷ ts) stray known = (
   (let c = t.line.client in
       let nowhere : IsAway clients t.event c → ⊥ = (λ away.
       let nothing : of c (lines_of_takes t.event before) ++ of c (lines_of_takes t.event (t ∷ ts)) ≡ []
-      = sym (of-append c (lines_of_takes t.event before) (lines_of_takes t.event (t ∷ ts))) ∙ ap (of c) (sym (taken-append t.event before (t ∷ ts))) ∙ stray t.event c known.0 away in
+      = sym (of-append c (lines_of_takes t.event before) (lines_of_takes t.event (t ∷ ts)))
+      ∙ ap (of c) (sym (taken-append t.event before (t ∷ ts))) ∙ stray t.event c known.0 away in
       let some : of c (lines_of_takes t.event (t ∷ ts)) ≡ t.line ∷ of c (lines_of_takes t.event ts)
       = ap (of c) (taken-push t.event t ts refl) ∙ cond_same c c (t.line ∷ of c (lines_of_takes t.event ts)) (of c (lines_of_takes t.event ts)) refl in
-      let no : t.line ∷ of c (lines_of_takes t.event ts) ≡ [] = sym some ∙ none-left (of c (lines_of_takes t.event before)) (of c (lines_of_takes t.event (t ∷ ts))) nothing in
+      let no : t.line ∷ of c (lines_of_takes t.event ts)
+      ≡ [] = sym some ∙ none-left (of c (lines_of_takes t.event before)) (of c (lines_of_takes t.event (t ∷ ts))) nothing in
       cc no) in (
-        ⊎_elim (λ (same : event_of clients c ≡ t.event). same) (λ (other : event_of clients c ≢ t.event). absurd (nowhere (inl other))) (same_or (event_of clients c) t.event),
+        ⊎_elim (λ (same : event_of clients c ≡ t.event). same) (λ (other : event_of clients c ≢ t.event). absurd (nowhere (inl other)))
+            (same_or (event_of clients c) t.event),
         ⊎_elim (λ (under : c < length clients). under) (λ (past : length clients ≤ c). absurd (nowhere (inr past))) (cases_lt c (length clients)),
       )),
-  at-events has clients (before ++ t ∷ []) ts (λ e c h other. ap (λ xs. of c (lines_of_takes e xs)) (append_assoc before (t ∷ []) ts) ∙ stray e c h other) known.1,
+  at-events has clients (before ++ t ∷ []) ts
+      (λ e c h other. ap (λ xs. of c (lines_of_takes e xs)) (append_assoc before (t ∷ []) ts) ∙ stray e c h other) known.1,
 )
 
 -- the takes of a client are among those of its event
-own : (clients : List ℕ) (c : ℕ) (takes : List Took) → AllByRecursion (IsAtEvent clients) takes → of c (lines_of (pairs_of takes)) ≡ of c (lines_of_takes (event_of clients c) takes)
+own : (clients : List ℕ) (c : ℕ) (takes : List Took) → AllByRecursion (IsAtEvent clients) takes
+    → of c (lines_of (pairs_of takes)) ≡ of c (lines_of_takes (event_of clients c) takes)
 own clients c [] all = refl
 own clients c (t ∷ ts) all = let e = event_of clients c in ⊎_elim
     (λ (same : t.line.client ≡ c).
@@ -162,7 +174,8 @@ own clients c (t ∷ ts) all = let e = event_of clients c in ⊎_elim
     cond_other t.line.client c (t.line ∷ of c (lines_of (pairs_of ts))) (of c (lines_of (pairs_of ts))) other
     ∙ own clients c ts all.1
     ∙ ⊎_elim
-    (λ (here : t.event ≡ e). sym (cond_other t.line.client c (t.line ∷ of c (lines_of_takes e ts)) (of c (lines_of_takes e ts)) other) ∙ ap (of c) (sym (taken-push e t ts here)))
+    (λ (here : t.event ≡ e). sym (cond_other t.line.client c (t.line ∷ of c (lines_of_takes e ts)) (of c (lines_of_takes e ts)) other)
+    ∙ ap (of c) (sym (taken-push e t ts here)))
     (λ (there : t.event ≢ e). ap (of c) (sym (taken-pass e t ts there)))
     (same_or t.event e))
     (same_or t.line.client c)
@@ -183,17 +196,21 @@ none-of : (c n : ℕ) (xs : List Line) → n ≤ c → AllByRecursion (λ (line 
 none-of c n [] past all = refl
 none-of c n (l ∷ ls) past all = cond_other l.client c (l ∷ of c ls) (of c ls) (λ is. absurd (omega (arith, is, past, all.0))) ∙ none-of c n ls past all.1
 
-none-taken : (c : ℕ) (clients : List ℕ) (takes : List Took) → length clients ≤ c → AllByRecursion (IsAtEvent clients) takes → of c (lines_of (pairs_of takes)) ≡ []
+none-taken : (c : ℕ) (clients : List ℕ) (takes : List Took) → length clients ≤ c → AllByRecursion (IsAtEvent clients) takes
+    → of c (lines_of (pairs_of takes)) ≡ []
 none-taken c clients [] past all = refl
 none-taken c clients (t ∷ ts) past all =
-    cond_other t.line.client c (t.line ∷ of c (lines_of (pairs_of ts))) (of c (lines_of (pairs_of ts))) (λ is. absurd (let under = all.0.1 in omega (arith, is, past, under)))
+    cond_other t.line.client c (t.line ∷ of c (lines_of (pairs_of ts))) (of c (lines_of (pairs_of ts))) (λ is.
+    absurd (let under = all.0.1 in omega (arith, is, past, under)))
     ∙ none-taken c clients ts past all.1
 
-events-of : (clients : List ℕ) (takes : List Took) → AllByRecursion (IsAtEvent clients) takes → AllByRecursion (λ t. event_of clients t.1.client ≡ t.0) (pairs_of takes)
+events-of : (clients : List ℕ) (takes : List Took) → AllByRecursion (IsAtEvent clients) takes
+    → AllByRecursion (λ t. event_of clients t.1.client ≡ t.0) (pairs_of takes)
 events-of clients [] all = tt
 events-of clients (t ∷ ts) all = (all.0.0, events-of clients ts all.1)
 
-module _ (has : ℕ → Type 0) (clients : List ℕ) (posts : List Line) (takes lost : List Took) (h : IsGiven has clients posts takes lost) (p : ArePosts clients posts) where
+module _ (has : ℕ → Type 0) (clients : List ℕ) (posts : List Line) (takes lost : List Took) (h : IsGiven has clients posts takes lost)
+    (p : ArePosts clients posts) where
   are-at : AllByRecursion (IsAtEvent clients) takes
   are-at = at-events has clients [] takes (λ e c there other. by e c (h.stray e c there other)) h.known
     where
@@ -202,7 +219,8 @@ module _ (has : ℕ → Type 0) (clients : List ℕ) (posts : List Line) (takes 
       none-right (x ∷ xs) ys h = absurd (cc h)
 
       by : (e c : ℕ) → of c (lines_of_takes e (takes ++ lost)) ≡ [] → of c (lines_of_takes e takes) ≡ []
-      by e c none = none-right (of c (lines_of_takes e takes)) (of c (lines_of_takes e lost)) (sym (of-append c (lines_of_takes e takes) (lines_of_takes e lost)) ∙ ap (of c) (sym (taken-append e takes lost)) ∙ none)
+      by e c none = none-right (of c (lines_of_takes e takes)) (of c (lines_of_takes e lost))
+          (sym (of-append c (lines_of_takes e takes) (lines_of_takes e lost)) ∙ ap (of c) (sym (taken-append e takes lost)) ∙ none)
 
   -- the lines taken of a client are its first
   first-of : (c : ℕ) → (rest : List Line) × (of c (lines_of (pairs_of takes)) ++ rest ≡ of c posts)
@@ -243,7 +261,8 @@ module _ (has : ℕ → Type 0) (clients : List ℕ) (posts : List Line) (takes 
   history-of = record {
     events_are = All-from_recursion (λ t. event_of clients t.1.client ≡ t.0) (pairs_of takes) (events-of clients takes are-at);
     lines_are = λ c. ap (λ xs. of c (lines_of (pairs_of takes)) ++ xs) (left-is c) ∙ (first-of c).1;
-    numbered = λ c. numbered-first 0 (of c (lines_of (pairs_of takes))) (first-of c).0 (subst (λ (xs : List Line). IsNumbered 0 xs) (sym (first-of c).1) (p.numbered c));
+    numbered = λ c.
+        numbered-first 0 (of c (lines_of (pairs_of takes))) (first-of c).0 (subst (λ (xs : List Line). IsNumbered 0 xs) (sym (first-of c).1) (p.numbered c));
   }
 
   -- of a client whose event gave all its lines, none is left
@@ -269,17 +288,21 @@ length-drop zero xs = omega arith
 length-drop (suc n) [] = omega arith
 length-drop (suc n) (x ∷ xs) = length-drop n xs ∙ omega arith
 
-counts-left : (posts : List Line) (takes : List Took) (a c : ℕ) (before es : List ℕ) (all : List ℕ) → all ≡ before ++ es → c ≡ a + length before → counts_from c es (left_behind posts takes a all) ≡ counts_by posts takes c es
+counts-left : (posts : List Line) (takes : List Took) (a c : ℕ) (before es : List ℕ) (all : List ℕ) → all ≡ before ++ es
+    → c ≡ a + length before → counts_from c es (left_behind posts takes a all) ≡ counts_by posts takes c es
 counts-left posts takes a c before [] all split is = refl
 counts-left posts takes a c before (e ∷ es) all split is =
     let n = ap length split in
     let first : length (of c (left_behind posts takes a all)) ≡ length (of c posts) - length (of c (lines_of (pairs_of takes)))
-    = ap length (left-at posts takes c a all (omega (arith, is)) (omega (arith, is, n, length-append before (e ∷ es)))) ∙ length-drop (length (of c (lines_of (pairs_of takes)))) (of c posts) in
+    = ap length (left-at posts takes c a all (omega (arith, is)) (omega (arith, is, n, length-append before (e ∷ es))))
+    ∙ length-drop (length (of c (lines_of (pairs_of takes)))) (of c posts) in
     ap (λ k. k ∷ counts_from (c + 1) es (left_behind posts takes a all)) first
     ∙ ap (λ ks. (length (of c posts) - length (of c (lines_of (pairs_of takes)))) ∷ ks)
-    (counts-left posts takes a (c + 1) (before ++ e ∷ []) es all (split ∙ sym (append_assoc before (e ∷ []) es)) (omega (arith, is, length-append before (e ∷ []))))
+    (counts-left posts takes a (c + 1) (before ++ e ∷ []) es all (split ∙ sym (append_assoc before (e ∷ []) es))
+    (omega (arith, is, length-append before (e ∷ []))))
 
-pub counts-are : (clients : List ℕ) (posts : List Line) (takes : List Took) → counts_by posts takes 0 clients ≡ counts_from 0 clients (left_lines clients posts takes)
+pub counts-are : (clients : List ℕ) (posts : List Line) (takes : List Took)
+    → counts_by posts takes 0 clients ≡ counts_from 0 clients (left_lines clients posts takes)
 counts-are clients posts takes = sym (counts-left posts takes 0 0 [] clients clients refl refl)
 
 -- ---- the end
@@ -290,7 +313,8 @@ none-for clients e left none = by left none
     by : (ls : List Line) → ((c : ℕ) → event_of clients c ≡ e → of c ls ≡ []) → lines_for clients ls e ≡ []
     by [] none = refl
     by (l ∷ ls) none = ⊎_elim
-        (λ (same : event_of clients l.client ≡ e). absurd (let no : l ∷ of l.client ls ≡ [] = sym (cond_same l.client l.client (l ∷ of l.client ls) (of l.client ls) refl) ∙ none l.client same in cc no))
+        (λ (same : event_of clients l.client ≡ e). absurd
+        (let no : l ∷ of l.client ls ≡ [] = sym (cond_same l.client l.client (l ∷ of l.client ls) (of l.client ls) refl) ∙ none l.client same in cc no))
         (λ (other : event_of clients l.client ≢ e).
         cond_other (event_of clients l.client) e (l ∷ lines_for clients ls e) (lines_for clients ls e) other
         ∙ by ls (λ c is. rest c (none c is)))
@@ -304,25 +328,30 @@ none-for clients e left none = by left none
             step false h = h
 
 -- no line that can be delivered is left, where of each event that waits none is
-pub wants-none : (s : EventState) (clients : List ℕ) (left : List Line) → ((e c : ℕ) → is_takeable s e ≡ true → event_of clients c ≡ e → of c left ≡ []) → is_wanted s (full_shelves clients left) ≡ false
+pub wants-none : (s : EventState) (clients : List ℕ) (left : List Line)
+    → ((e c : ℕ) → is_takeable s e ≡ true → event_of clients c ≡ e → of c left ≡ []) → is_wanted s (full_shelves clients left) ≡ false
 unfolding events
 wants-none s clients left none = by 0 32 (omega arith)
   where
     one : (e : ℕ) (b : Bool) → e < 256 → is_takeable s e ≡ b → b && is_some (first_left (full_shelves clients left) e) ≡ false
     one e false low is = refl
     one e true low is = ap (λ (ls : List Line). is_some (slice_get ls 0))
-        (ap (λ shelf. shelf.left) (get_or-map-range_with_len (full clients left) 0 256 e e bare low (omega arith)) ∙ none-for clients e left (λ c at. none e c is at))
+        (ap (λ shelf. shelf.left) (get_or-map-range_with_len (full clients left) 0 256 e e bare low (omega arith))
+        ∙ none-for clients e left (λ c at. none e c is at))
 
     by : (a n : ℕ) → a + n ≤ 256 → list_any (λ e. can_take s (full_shelves clients left) e) (range_with_len a n) ≡ false
     by a zero low = refl
     by a (suc n) low = rw (one a (is_takeable s a) (omega (arith, low)) refl) (by (a + 1) n (omega (arith, low)))
 
 -- how a session has ended does not hang on the lines left, but where it is stuck
-pub over-with : (turns : ℕ) (s : EventState) (calls : ℕ) (left : List Line) (clients : List ℕ) (halt : Halt) → over turns s calls [] ≡ Some halt → (halt ≡ Stuck → is_wanted s (full_shelves clients left) ≡ false)
+pub over-with : (turns : ℕ) (s : EventState) (calls : ℕ) (left : List Line) (clients : List ℕ) (halt : Halt)
+    → over turns s calls [] ≡ Some halt → (halt ≡ Stuck → is_wanted s (full_shelves clients left) ≡ false)
     → over turns s calls (full_shelves clients left) ≡ Some halt
 over-with turns s calls left clients halt is none = by s.state.ended (is_wanted s []) (is_wanted s (full_shelves clients left)) (choice s.state) none is
   where
-    by : (b u w : Bool) (c : Option ℕ) → (halt ≡ Stuck → w ≡ false) → (if b then Some (Ended s.state.status) else halt_if turns calls u c) ≡ Some halt → (if b then Some (Ended s.state.status) else halt_if turns calls w c) ≡ Some halt
+    by : (b u w : Bool) (c : Option ℕ) → (halt ≡ Stuck → w ≡ false)
+        → (if b then Some (Ended s.state.status) else halt_if turns calls u c) ≡ Some halt
+        → (if b then Some (Ended s.state.status) else halt_if turns calls w c) ≡ Some halt
     by true u w c none h = h
     by false true w None none h = absurd (cc h)
     by false false w None none h = let stuck : Stuck ≡ halt = cc h in rw (none (sym stuck)) h

@@ -8,7 +8,8 @@ use Rattle.script_run.specs.Inlets.{fresh}
 use Rattle.script_run.specs.Served.{HasLines, IsServed, lines_in_all, texts_of}
 use Rattle.script_run.proofs.BesideLaws.{fed-fresh}
 use Rattle.script_run.proofs.ClientLaws.{items_of}
-use Rattle.script_run.proofs.LeftLaws.{ArePosts, IsAway, IsGiven, counts-are, counts_by, history-of, left-past, left_lines, lines-for, none-left-of, over-with, wants-none}
+use Rattle.script_run.proofs.LeftLaws.{ArePosts, IsAway, IsGiven, counts-are, counts_by, history-of, left-past}
+use Rattle.script_run.proofs.LeftLaws.{left_lines, lines-for, none-left-of, over-with, wants-none}
 use Rattle.script_session.proofs.RunLaws.{Plays, before-is, lines-is, plays, session-is, setting-is}
 use Rattle.streams.proofs.WriteLaws.{appended-append}
 use Rattle.script_session.proofs.SaidLaws.{IsRanEnd}
@@ -46,7 +47,8 @@ use Rattle.trace_text.specs.declared.ends.Halt.{Halt}
 use Rattle.trace_text.specs.declared.ends.Halt.TheVariants as halts
 use Rattle.std.specs.List.{All, AllByRecursion}
 use Rattle.std.specs.Prelude.{Ok, Option, Result, sum_by, ◌⊎◌}
-use Rattle.std.proofs.Common.{Global, List, Vec, [], ap, append-nil, append_assoc, arith, false, inl, inr, length, length-append, map, refl, slice_index_or, subst, suc, sym, take, true, zero, ℕ, ⊎_elim, ◌++◌, ◌+◌, ◌-◌, ◌<◌, ◌∙◌, ◌∷◌, ◌≡◌, ◌≢◌, ◌≤◌}
+use Rattle.std.proofs.Common.{Global, List, Vec, [], ap, append-nil, append_assoc, arith, false, inl, inr, length, length-append, map, refl}
+use Rattle.std.proofs.Common.{slice_index_or, subst, suc, sym, take, true, zero, ℕ, ⊎_elim, ◌++◌, ◌+◌, ◌-◌, ◌<◌, ◌∙◌, ◌∷◌, ◌≡◌, ◌≢◌, ◌≤◌}
 use Rattle.std.proofs.Math.Seq.{take-append-add}
 use Rattle.std.proofs.lemmas.Bool.{cases_lt}
 use Rattle.std.proofs.lemmas.List.{length-map}
@@ -66,7 +68,8 @@ first-lines c n zero ts = (lines_from c n ts, refl)
 first-lines c n (suc k) [] = ([], refl)
 first-lines c n (suc k) (t ∷ ts) = let h = first-lines c (suc n) k ts in (h.0, ap (λ ls. record { client = c; seq = n; text = t } ∷ ls) h.1)
 
-none-of-another : (clients : List ℕ) (e c : ℕ) (xs : List Line) → AllByRecursion (λ (line : Line). (line.client < length clients) × (event_of clients line.client ≡ e)) xs → IsAway clients e c → of c xs ≡ []
+none-of-another : (clients : List ℕ) (e c : ℕ) (xs : List Line)
+    → AllByRecursion (λ (line : Line). (line.client < length clients) × (event_of clients line.client ≡ e)) xs → IsAway clients e c → of c xs ≡ []
 none-of-another clients e c [] all away = refl
 none-of-another clients e c (l ∷ ls) all away = cond_other l.client c (l ∷ of c ls) (of c ls) (λ is. by is away) ∙ none-of-another clients e c ls all.1 away
   where
@@ -75,22 +78,28 @@ none-of-another clients e c (l ∷ ls) all away = cond_other l.client c (l ∷ o
     by is (inr past) = absurd (let under = all.0.0 in omega (arith, is, past, under))
 
 -- the texts that a client was given, as those of its lines
-texts-are : (clients : List ℕ) (posts : List Line) (texts : List (List (List ℕ))) (c : ℕ) → texts ≡ texts_from 0 clients posts → ArePosts clients posts → c < length clients → lines_from c 0 (texts_of texts c) ≡ of c posts
+texts-are : (clients : List ℕ) (posts : List Line) (texts : List (List (List ℕ))) (c : ℕ) → texts ≡ texts_from 0 clients posts
+    → ArePosts clients posts → c < length clients → lines_from c 0 (texts_of texts c) ≡ of c posts
 texts-are clients posts texts c is p low =
-    ap (lines_from c 0) (ap (λ ts. texts_of ts c) is ∙ texts-at c 0 clients posts low ∙ ap (λ k. texts_for k posts) (let e : 0 + c ≡ c = omega arith in e)) ∙ lines-for clients posts c p
+    ap (lines_from c 0) (ap (λ ts. texts_of ts c) is ∙ texts-at c 0 clients posts low ∙ ap (λ k. texts_for k posts) (let e : 0 + c ≡ c = omega arith in e))
+    ∙ lines-for clients posts c p
 
 pub are-posts : (script : Script) → IsPosted script → ArePosts script.clients (lines_posted script)
 are-posts script h = record { clients_are = h.clients; numbered = h.numbered }
 
-module _ (clients : List ℕ) (posts : List Line) (texts : List (List (List ℕ))) (inlets : List Intake) (texts_is : texts ≡ texts_from 0 clients posts) (p : ArePosts clients posts) where
-  pub given-of : (takes : List Took) (most : ℕ) (f : IsFed takes inlets most) → AreBack clients texts inlets → IsGiven (HasEvent inlets) clients posts takes f.lost
+module _ (clients : List ℕ) (posts : List Line) (texts : List (List (List ℕ))) (inlets : List Intake)
+    (texts_is : texts ≡ texts_from 0 clients posts) (p : ArePosts clients posts) where
+  pub given-of : (takes : List Took) (most : ℕ) (f : IsFed takes inlets most) → AreBack clients texts inlets
+      → IsGiven (HasEvent inlets) clients posts takes f.lost
   given-of takes most f back = record {
     stray = λ e c has away.
         let t = slice_index_or inlets has.0 blank in
         let s : IsServed clients texts back.0 t = back.1.served has.0 blank has.1 in
         let at : t.event ≡ e = has.2 blank in
         ap (λ k. of c (lines_of_takes k (takes ++ f.lost))) (sym at) ∙ ap (of c) (sym (f.given has.0 blank has.1))
-        ∙ none-of-another clients t.event c t.taken (recursion_from_All (λ (line : Line). (line.client < length clients) × (event_of clients line.client ≡ t.event)) t.taken s.mine) (subst (λ (k : ℕ). IsAway clients k c) (sym at) away);
+        ∙ none-of-another clients t.event c t.taken
+        (recursion_from_All (λ (line : Line). (line.client < length clients) × (event_of clients line.client ≡ t.event)) t.taken s.mine)
+        (subst (λ (k : ℕ). IsAway clients k c) (sym at) away);
     first = λ c low.
         let has : HasEvent inlets (event_of clients c) = back.1.are_for.found c 0 low in
         let t = slice_index_or inlets has.0 blank in
@@ -124,38 +133,50 @@ length-texts c [] posts = refl
 length-texts c (e ∷ es) posts = ap suc (length-texts (c + 1) es posts)
 
 -- there are as many texts as clients
-pub texts-many : (clients : List ℕ) (posts : List Line) (vs : List (Vec Text Global)) → map items_of vs ≡ texts_from 0 clients posts → length vs ≡ length clients
+pub texts-many : (clients : List ℕ) (posts : List Line) (vs : List (Vec Text Global)) → map items_of vs ≡ texts_from 0 clients posts
+    → length vs ≡ length clients
 texts-many clients posts vs is = sym (length-map vs items_of) ∙ ap length is ∙ length-texts 0 clients posts
 
 -- and no more of each than a client may post
-pub texts-few : (script : Script) (vs : List (Vec Text Global)) → map items_of vs ≡ texts_from 0 script.clients (lines_posted script) → IsPosted script → All (λ ts. length ts.items ≤ 20000) vs
+pub texts-few : (script : Script) (vs : List (Vec Text Global)) → map items_of vs ≡ texts_from 0 script.clients (lines_posted script)
+    → IsPosted script → All (λ ts. length ts.items ≤ 20000) vs
 texts-few script vs is posted = λ k d low.
     let many = texts-many script.clients (lines_posted script) vs is in
     let at : (slice_index_or vs k d).items ≡ texts_for k (lines_posted script)
-    = texts-in vs k d low ∙ ap (λ ts. slice_index_or ts k []) is ∙ texts-at k 0 script.clients (lines_posted script) (omega (arith, low, many)) ∙ ap (λ n. texts_for n (lines_posted script)) (let e : 0 + k ≡ k = omega arith in e) in
+    = texts-in vs k d low ∙ ap (λ ts. slice_index_or ts k []) is
+    ∙ texts-at k 0 script.clients (lines_posted script) (omega (arith, low, many))
+    ∙ ap (λ n. texts_for n (lines_posted script)) (let e : 0 + k ≡ k = omega arith in e) in
     omega (arith, ap length at, length-map (of k (lines_posted script)) (λ (line : Line). line.text), posted.each k)
 
 -- of the clients after that of a line, none has one text more by it
-none-more : (a : ℕ) (clients : List ℕ) (l : Line) (ls : List Line) → l.client < a → sum_by length (texts_from a clients (l ∷ ls)) ≡ sum_by length (texts_from a clients ls)
+none-more : (a : ℕ) (clients : List ℕ) (l : Line) (ls : List Line) → l.client < a
+    → sum_by length (texts_from a clients (l ∷ ls)) ≡ sum_by length (texts_from a clients ls)
 none-more a [] l ls low = refl
 none-more a (e ∷ es) l ls low =
     let rest = none-more (a + 1) es l ls (omega (arith, low)) in
-    let same : texts_for a (l ∷ ls) ≡ texts_for a ls = ap (map (λ (line : Line). line.text)) (cond_other l.client a (l ∷ of a ls) (of a ls) (λ is. omega (arith, low, is))) in
-    sum_by-cons length (texts_for a (l ∷ ls)) (texts_from (a + 1) es (l ∷ ls)) ∙ (λ k. length (same k) + rest k) ∙ sym (sum_by-cons length (texts_for a ls) (texts_from (a + 1) es ls))
+    let same : texts_for a (l ∷ ls)
+    ≡ texts_for a ls = ap (map (λ (line : Line). line.text)) (cond_other l.client a (l ∷ of a ls) (of a ls) (λ is. omega (arith, low, is))) in
+    sum_by-cons length (texts_for a (l ∷ ls)) (texts_from (a + 1) es (l ∷ ls)) ∙ (λ k. length (same k) + rest k)
+    ∙ sym (sum_by-cons length (texts_for a ls) (texts_from (a + 1) es ls))
 
 -- of those among which its client is, one has
-one-more : (a : ℕ) (clients : List ℕ) (l : Line) (ls : List Line) → a ≤ l.client → l.client < a + length clients → sum_by length (texts_from a clients (l ∷ ls)) ≡ suc (sum_by length (texts_from a clients ls))
+one-more : (a : ℕ) (clients : List ℕ) (l : Line) (ls : List Line) → a ≤ l.client → l.client < a + length clients
+    → sum_by length (texts_from a clients (l ∷ ls)) ≡ suc (sum_by length (texts_from a clients ls))
 one-more a [] l ls from to = absurd (omega (arith, from, to))
 one-more a (e ∷ es) l ls from to = ⊎_elim
     (λ (is : l.client ≡ a).
     let rest = none-more (a + 1) es l ls (omega (arith, is)) in
-    let more : length (texts_for a (l ∷ ls)) ≡ suc (length (texts_for a ls)) = ap (λ (xs : List Line). length (map (λ (line : Line). line.text) xs)) (cond_same l.client a (l ∷ of a ls) (of a ls) is) in
+    let more : length (texts_for a (l ∷ ls))
+    ≡ suc (length (texts_for a ls)) =
+    ap (λ (xs : List Line). length (map (λ (line : Line). line.text) xs)) (cond_same l.client a (l ∷ of a ls) (of a ls) is) in
     let now = sum_by-cons length (texts_for a (l ∷ ls)) (texts_from (a + 1) es (l ∷ ls)) in
     let was = sum_by-cons length (texts_for a ls) (texts_from (a + 1) es ls) in
     omega (arith, rest, more, now, was))
     (λ (other : l.client ≢ a).
     let rest = one-more (a + 1) es l ls (omega (arith, from, other)) (omega (arith, to)) in
-    let same : length (texts_for a (l ∷ ls)) ≡ length (texts_for a ls) = ap (λ (xs : List Line). length (map (λ (line : Line). line.text) xs)) (cond_other l.client a (l ∷ of a ls) (of a ls) other) in
+    let same : length (texts_for a (l ∷ ls))
+    ≡ length (texts_for a ls) =
+    ap (λ (xs : List Line). length (map (λ (line : Line). line.text) xs)) (cond_other l.client a (l ∷ of a ls) (of a ls) other) in
     let now = sum_by-cons length (texts_for a (l ∷ ls)) (texts_from (a + 1) es (l ∷ ls)) in
     let was = sum_by-cons length (texts_for a ls) (texts_from (a + 1) es ls) in
     omega (arith, rest, same, now, was))
@@ -169,13 +190,17 @@ no-lines a (e ∷ es) =
     let rest = no-lines (a + 1) es in
     omega (arith, now, none, rest)
 
-each-line : (clients : List ℕ) (ls : List Line) → AllByRecursion (λ (line : Line). line.client < length clients) ls → sum_by length (texts_from 0 clients ls) ≡ length ls
+each-line : (clients : List ℕ) (ls : List Line) → AllByRecursion (λ (line : Line). line.client < length clients) ls
+    → sum_by length (texts_from 0 clients ls) ≡ length ls
 each-line clients [] h = no-lines 0 clients
 each-line clients (l ∷ ls) h = one-more 0 clients l ls (omega arith) (omega (arith, h.0)) ∙ ap suc (each-line clients ls h.1)
 
 -- the texts of all clients are as many as the lines of the script
-pub lines-are : (script : Script) (texts : List (List (List ℕ))) → texts ≡ texts_from 0 script.clients (lines_posted script) → IsPosted script → lines_in_all texts ≡ length (lines_posted script)
-lines-are script texts is posted = ap lines_in_all is ∙ each-line script.clients (lines_posted script) (recursion_from_All (λ (line : Line). line.client < length script.clients) (lines_posted script) posted.clients)
+pub lines-are : (script : Script) (texts : List (List (List ℕ))) → texts ≡ texts_from 0 script.clients (lines_posted script)
+    → IsPosted script → lines_in_all texts ≡ length (lines_posted script)
+lines-are script texts is posted = ap lines_in_all is
+    ∙ each-line script.clients (lines_posted script)
+    (recursion_from_All (λ (line : Line). line.client < length script.clients) (lines_posted script) posted.clients)
 
 -- each client has an event
 pub events-are : (script : Script) → IsPosted script → All (λ e. e ≤ 31) script.clients
@@ -191,8 +216,11 @@ pub record Ran (script : Script) (turns : ℕ) (r : Played Script) (inlets : Lis
   pub lost : List Took
   pub given : IsGiven (HasEvent inlets) script.clients (lines_posted script) r.takes lost
 
-pub ran-of : {T : Type 0} (script : Script) (turns : ℕ) (s : Stream) (o r : Played Script) (before after : List Intake) (texts : List (List (List ℕ))) (result : Result T RunErr) → GoesBeside s o r before after result
-    → o ≡ opening_run script turns → All (λ t. t ≡ fresh t.place t.event t.noted) before → texts ≡ texts_from 0 script.clients (lines_posted script) → IsPosted script → AreBack script.clients texts after → Ran script turns r after
+pub ran-of : {T : Type 0} (script : Script) (turns : ℕ) (s : Stream) (o r : Played Script) (before after : List Intake)
+    (texts : List (List (List ℕ))) (result : Result T RunErr)
+    → GoesBeside s o r before after result
+    → o ≡ opening_run script turns → All (λ t. t ≡ fresh t.place t.event t.noted) before
+    → texts ≡ texts_from 0 script.clients (lines_posted script) → IsPosted script → AreBack script.clients texts after → Ran script turns r after
 ran-of script turns s o r before after texts result h opening new is posted back =
     let it = plays script turns o r opening h.ran.same in
     let fed = h.fed (subst (λ (takes : List Took). IsFed takes before 0) (sym (ap (λ (x : Played Script). x.takes) opening)) (fed-fresh before new)) in
@@ -208,7 +236,8 @@ ran-of script turns s o r before after texts result h opening new is posted back
 abbrev left_by : Script → Played Script → List Line
 left_by script r = left_lines script.clients (lines_posted script) r.takes
 
-so-far-of : (script : Script) (turns : ℕ) (r : Played Script) (inlets : List Intake) → IsPosted script → Ran script turns r inlets → IsSoFar turns script r.takes r.calls (left_by script r)
+so-far-of : (script : Script) (turns : ℕ) (r : Played Script) (inlets : List Intake) → IsPosted script → Ran script turns r inlets
+    → IsSoFar turns script r.takes r.calls (left_by script r)
 so-far-of script turns r inlets posted h = record {
   due = h.due;
   room = h.room;
@@ -216,15 +245,23 @@ so-far-of script turns r inlets posted h = record {
 }
 
 -- what is told after all its steps
-told-of : (script : Script) (turns : ℕ) (r : Played Script) (old new : Option (List ℕ)) → Plays script turns r → new ≡ after_append old (run.trace_of body_next bodies_of proc_names r) → new ≡ after_append old (lines_after script r.takes r.calls)
+told-of : (script : Script) (turns : ℕ) (r : Played Script) (old new : Option (List ℕ)) → Plays script turns r
+    → new ≡ after_append old (run.trace_of body_next bodies_of proc_names r) → new ≡ after_append old (lines_after script r.takes r.calls)
 told-of script turns r old new it h = h ∙ ap (after_append old) (lines-is script turns r it)
 
-pub live-stopped : (script : Script) (turns : ℕ) (r : Played Script) (inlets : List Intake) (old new : Option (List ℕ)) → IsPosted script → Ran script turns r inlets
+pub live-stopped : (script : Script) (turns : ℕ) (r : Played Script) (inlets : List Intake) (old new : Option (List ℕ)) → IsPosted script
+    → Ran script turns r inlets
     → new ≡ after_append old (run.trace_of body_next bodies_of proc_names r) → IsLiveStopped turns script old new r.takes r.calls
-live-stopped script turns r inlets old new posted h w = record { left = left_by script r; so_far = so-far-of script turns r inlets posted h; written = told-of script turns r old new h.plays_it w }
+live-stopped script turns r inlets old new posted h w = record {
+  left = left_by script r;
+  so_far = so-far-of script turns r inlets posted h;
+  written = told-of script turns r old new h.plays_it w;
+}
 
-pub live-broken : (script : Script) (turns : ℕ) (r : Played Script) (inlets : List Intake) (old new : Option (List ℕ)) → IsPosted script → Ran script turns r inlets
-    → AppendsCut old new (run.trace_before body_next bodies_of proc_names r) (run.trace_of body_next bodies_of proc_names r) → IsLiveBroken turns script old new r.takes r.calls
+pub live-broken : (script : Script) (turns : ℕ) (r : Played Script) (inlets : List Intake) (old new : Option (List ℕ)) → IsPosted script
+    → Ran script turns r inlets
+    → AppendsCut old new (run.trace_before body_next bodies_of proc_names r) (run.trace_of body_next bodies_of proc_names r)
+    → IsLiveBroken turns script old new r.takes r.calls
 live-broken script turns r inlets old new posted h p = record {
   left = left_by script r;
   so_far = so-far-of script turns r inlets posted h;
@@ -238,11 +275,15 @@ live-broken script turns r inlets old new posted h p = record {
 pub record Over (script : Script) (turns : ℕ) (r : Played Script) (inlets : List Intake) (halt : Halt) : Type 0 where
   pub ran : Ran script turns r inlets
   pub halted : Halts body_next bodies_of r inlets halt
-  pub none_lost : (c : ℕ) → c < length script.clients → is_takeable (run.session_of body_next bodies_of r).live.pod (event_of script.clients c) ≡ true → NoneComes body_next bodies_of r inlets
+  pub none_lost : (c : ℕ) → c < length script.clients
+      → is_takeable (run.session_of body_next bodies_of r).live.pod (event_of script.clients c) ≡ true → NoneComes body_next bodies_of r inlets
       → of c (lines_of_takes (event_of script.clients c) r.takes) ≡ of c (lines_posted script)
 
-pub over-of : {T : Type 0} (script : Script) (turns : ℕ) (s : Stream) (o r : Played Script) (before after : List Intake) (texts : List (List (List ℕ))) (x : T) (halt : Halt) → GoesBeside s o r before after (Ok x)
-    → o ≡ opening_run script turns → All (λ t. t ≡ fresh t.place t.event t.noted) before → texts ≡ texts_from 0 script.clients (lines_posted script) → IsPosted script → AreBack script.clients texts after
+pub over-of : {T : Type 0} (script : Script) (turns : ℕ) (s : Stream) (o r : Played Script) (before after : List Intake)
+    (texts : List (List (List ℕ))) (x : T) (halt : Halt)
+    → GoesBeside s o r before after (Ok x)
+    → o ≡ opening_run script turns → All (λ t. t ≡ fresh t.place t.event t.noted) before
+    → texts ≡ texts_from 0 script.clients (lines_posted script) → IsPosted script → AreBack script.clients texts after
     → Halts body_next bodies_of r after halt → KnowAll script.clients texts after → Over script turns r after halt
 over-of script turns s o r before after texts x halt h opening new is posted back halts know = record {
   ran = ran-of script turns s o r before after texts (Ok x) h opening new is posted back;
@@ -271,45 +312,63 @@ over-of script turns s o r before after texts x halt h opening new is posted bac
     none-of [] e = refl
     none-of (x ∷ xs) e = absurd (omega (arith, e))
 
-stuck-wants : (script : Script) (turns : ℕ) (r : Played Script) (inlets : List Intake) (halt : Halt) → IsPosted script → Over script turns r inlets halt → halt ≡ halts.Stuck
+stuck-wants : (script : Script) (turns : ℕ) (r : Played Script) (inlets : List Intake) (halt : Halt) → IsPosted script
+    → Over script turns r inlets halt → halt ≡ halts.Stuck
     → is_wanted (session_at script r.takes r.calls).live.pod (full_shelves script.clients (left_by script r)) ≡ false
 stuck-wants script turns r inlets halt posted h stuck =
-    wants-none (session_at script r.takes r.calls).live.pod script.clients (left_by script r) (λ e c wanted at. by e c wanted at (cases_lt c (length script.clients)))
+    wants-none (session_at script r.takes r.calls).live.pod script.clients (left_by script r)
+    (λ e c wanted at. by e c wanted at (cases_lt c (length script.clients)))
   where
-    by : (e c : ℕ) → is_takeable (session_at script r.takes r.calls).live.pod e ≡ true → event_of script.clients c ≡ e → (c < length script.clients) ⊎ (length script.clients ≤ c) → of c (left_by script r) ≡ []
+    by : (e c : ℕ) → is_takeable (session_at script r.takes r.calls).live.pod e ≡ true → event_of script.clients c ≡ e
+        → (c < length script.clients) ⊎ (length script.clients ≤ c) → of c (left_by script r) ≡ []
     by e c wanted at (inl low) = none-left-of (HasEvent inlets) script.clients (lines_posted script) r.takes h.ran.lost h.ran.given (are-posts script posted) c
-        (h.none_lost c low (ap (λ (x : Sessions.Session ThreadBody). is_takeable x.live.pod (event_of script.clients c)) (session-is script turns r h.ran.plays_it) ∙ ap (is_takeable (session_at script r.takes r.calls).live.pod) at ∙ wanted) (h.halted.1 stuck))
+        (h.none_lost c low
+        (ap (λ (x : Sessions.Session ThreadBody). is_takeable x.live.pod (event_of script.clients c)) (session-is script turns r h.ran.plays_it)
+        ∙ ap (is_takeable (session_at script r.takes r.calls).live.pod) at ∙ wanted)
+        (h.halted.1 stuck))
     by e c wanted at (inr past) = left-past (lines_posted script) r.takes c 0 script.clients (omega (arith, past))
 
-ends-so : (script : Script) (turns : ℕ) (r : Played Script) (inlets : List Intake) (halt : Halt) → IsPosted script → Over script turns r inlets halt → EndsSo turns script r.takes r.calls (left_by script r) halt
+ends-so : (script : Script) (turns : ℕ) (r : Played Script) (inlets : List Intake) (halt : Halt) → IsPosted script
+    → Over script turns r inlets halt → EndsSo turns script r.takes r.calls (left_by script r) halt
 ends-so script turns r inlets halt posted h = over-with turns (session_at script r.takes r.calls).live.pod r.calls (left_by script r) script.clients halt
     (ap (λ (x : Sessions.Session ThreadBody). over turns x.live.pod r.calls []) (sym (session-is script turns r h.ran.plays_it))
     ∙ ap (λ n. over n (run.session_of body_next bodies_of r).live.pod r.calls []) (sym h.ran.plays_it.turns_same) ∙ h.halted.0)
     (stuck-wants script turns r inlets halt posted h)
 
 -- how many lines of each client are left
-counts-same : (c : ℕ) (clients : List ℕ) (posts : List Line) (takes : List Took) → counts_of c (texts_from c clients posts) takes ≡ counts_by posts takes c clients
+counts-same : (c : ℕ) (clients : List ℕ) (posts : List Line) (takes : List Took)
+    → counts_of c (texts_from c clients posts) takes ≡ counts_by posts takes c clients
 counts-same c [] posts takes = refl
 counts-same c (e ∷ es) posts takes =
     ap (λ n. (n - count_taken c takes) ∷ counts_of (c + 1) (texts_from (c + 1) es posts) takes) (length-map (of c posts) (λ (line : Line). line.text))
     ∙ ap (λ ns. (length (of c posts) - count_taken c takes) ∷ ns) (counts-same (c + 1) es posts takes)
 
-pub tail-of : (script : Script) (turns : ℕ) (r : Played Script) (texts : List (List (List ℕ))) (halt : Halt) (last counts : List ℕ) → texts ≡ texts_from 0 script.clients (lines_posted script)
+pub tail-of : (script : Script) (turns : ℕ) (r : Played Script) (texts : List (List (List ℕ))) (halt : Halt) (last counts : List ℕ)
+    → texts ≡ texts_from 0 script.clients (lines_posted script)
     → counts ≡ counts_of 0 texts r.takes → last ≡ end_text turns counts halt → last ≡ end_text turns (counts_from 0 script.clients (left_by script r)) halt
-tail-of script turns r texts halt last counts is n e = e ∙ ap (λ ns. end_text turns ns halt) (n ∙ ap (λ ts. counts_of 0 ts r.takes) is ∙ counts-same 0 script.clients (lines_posted script) r.takes ∙ counts-are script.clients (lines_posted script) r.takes)
+tail-of script turns r texts halt last counts is n e = e
+    ∙ ap (λ ns. end_text turns ns halt) (n ∙ ap (λ ts. counts_of 0 ts r.takes) is
+    ∙ counts-same 0 script.clients (lines_posted script) r.takes ∙ counts-are script.clients (lines_posted script) r.takes)
 
-pub lived-of : (script : Script) (turns : ℕ) (r : Played Script) (inlets : List Intake) (halt : Halt) (old mid new : Option (List ℕ)) (last : List ℕ) → IsPosted script → Over script turns r inlets halt
-    → mid ≡ after_append old (run.trace_of body_next bodies_of proc_names r) → last ≡ end_text turns (counts_from 0 script.clients (left_by script r)) halt → new ≡ after_append mid last → IsLived turns script old new r.takes r.calls halt
+pub lived-of : (script : Script) (turns : ℕ) (r : Played Script) (inlets : List Intake) (halt : Halt) (old mid new : Option (List ℕ)) (last : List ℕ)
+    → IsPosted script → Over script turns r inlets halt
+    → mid ≡ after_append old (run.trace_of body_next bodies_of proc_names r)
+    → last ≡ end_text turns (counts_from 0 script.clients (left_by script r)) halt → new ≡ after_append mid last
+    → IsLived turns script old new r.takes r.calls halt
 lived-of script turns r inlets halt old mid new last posted h g e n = record {
   left = left_by script r;
   so_far = so-far-of script turns r inlets posted h.ran;
   halted = ends-so script turns r inlets halt posted h;
-  written = n ∙ ap (λ w. after_append w last) (told-of script turns r old mid h.ran.plays_it g) ∙ appended-append old (lines_after script r.takes r.calls) last ∙ ap (λ xs. after_append old (lines_after script r.takes r.calls ++ xs)) e;
+  written = n ∙ ap (λ w. after_append w last) (told-of script turns r old mid h.ran.plays_it g)
+      ∙ appended-append old (lines_after script r.takes r.calls) last ∙ ap (λ xs. after_append old (lines_after script r.takes r.calls ++ xs)) e;
   stuck = stuck-wants script turns r inlets halt posted h;
 }
 
-pub live-cut : (script : Script) (turns : ℕ) (r : Played Script) (inlets : List Intake) (halt : Halt) (old mid new : Option (List ℕ)) (last : List ℕ) → IsPosted script → Over script turns r inlets halt
-    → mid ≡ after_append old (run.trace_of body_next bodies_of proc_names r) → last ≡ end_text turns (counts_from 0 script.clients (left_by script r)) halt → AppendsPart mid new last → IsLiveBroken turns script old new r.takes r.calls
+pub live-cut : (script : Script) (turns : ℕ) (r : Played Script) (inlets : List Intake) (halt : Halt) (old mid new : Option (List ℕ)) (last : List ℕ)
+    → IsPosted script → Over script turns r inlets halt
+    → mid ≡ after_append old (run.trace_of body_next bodies_of proc_names r)
+    → last ≡ end_text turns (counts_from 0 script.clients (left_by script r)) halt → AppendsPart mid new last
+    → IsLiveBroken turns script old new r.takes r.calls
 live-cut script turns r inlets halt old mid new last posted h g e p =
     let all = lines_after script r.takes r.calls in
     let whole : bytes_to_end turns script r.takes r.calls (left_by script r) halt ≡ all ++ last = ap (λ xs. all ++ xs) (sym e) in
@@ -321,7 +380,8 @@ live-cut script turns r inlets halt old mid new last posted h g e p =
         halted = ends-so script turns r inlets halt posted h;
         cut = record {
           kept = length all + p.kept;
-          told = p.told ∙ ap (λ w. after_append w (take p.kept last)) (told-of script turns r old mid h.ran.plays_it g) ∙ appended-append old all (take p.kept last)
+          told = p.told ∙ ap (λ w. after_append w (take p.kept last)) (told-of script turns r old mid h.ran.plays_it g)
+              ∙ appended-append old all (take p.kept last)
               ∙ ap (after_append old) (sym (take-append-add all last p.kept) ∙ ap (take (length all + p.kept)) (sym whole));
           some = omega arith;
           not_all = omega (arith, p.not_all, ap length whole, length-append all last);

@@ -12,7 +12,9 @@ use Rattle.script_run.specs.Served.{AreFor, clients_of, texts_of}
 use Rattle.script_run.specs.Ties.{AreTied, IsOut, IsWork}
 use Rattle.script_run.specs.declared.opening.Seat.{Seat}
 use Rattle.script_run.specs.declared.outside.Client.{Client}
-use Rattle.std.proofs.Common.{All, AllPairs, Bool, List, None, Option, Some, [], ap, append_assoc, arith, cond, drop, eq-eqb, eqb, false, filter, get_or-set_other, get_or-set_same, length, length-append, length-set, map, ne_eqb, refl, set, slice_index_or, subst, suc, sym, true, true≢false, zero, ℕ, ◌+◌, ◌++◌, ◌<◌, ◌||◌, ◌∙◌, ◌∷◌, ◌≡◌, ◌≢◌, ◌≤◌, ⊎_elim}
+use Rattle.std.proofs.Common.{All, AllPairs, Bool, List, None, Option, Some, [], ap, append_assoc, arith, cond, drop, eq-eqb, eqb, false, filter}
+use Rattle.std.proofs.Common.{get_or-set_other, get_or-set_same, length, length-append, length-set, map, ne_eqb, refl, set, slice_index_or}
+use Rattle.std.proofs.Common.{subst, suc, sym, true, true≢false, zero, ℕ, ◌+◌, ◌++◌, ◌<◌, ◌||◌, ◌∙◌, ◌∷◌, ◌≡◌, ◌≢◌, ◌≤◌, ⊎_elim}
 use Rattle.std.proofs.Math.Seq.{get_or-append_seam}
 use Rattle.std.proofs.lemmas.Grind.{get_or_default_zero}
 use Rattle.std.proofs.lemmas.List.{append-nil, get_or_append_left}
@@ -34,10 +36,13 @@ range_next : (n : ℕ) → range_with_len 0 (n + 1) ≡ range_with_len 0 n ++ n 
 range_next n = range_more 0 n ∙ ap (λ (k : ℕ). range_with_len 0 n ++ k ∷ []) (let e : 0 + n ≡ n = omega arith in e)
 
 pub one_more : (p : ℕ → Bool) (k : ℕ) (xs : List ℕ) → xs ≡ filter p (range_with_len 0 k) → p k ≡ true → xs ++ k ∷ [] ≡ filter p (range_with_len 0 (k + 1))
-one_more p k xs e yes' = ap (λ ys. ys ++ k ∷ []) e ∙ sym (ap (filter p) (range_next k) ∙ filter-append p (range_with_len 0 k) (k ∷ []) ∙ ap (λ b. filter p (range_with_len 0 k) ++ cond b (k ∷ []) []) yes')
+one_more p k xs e yes' = ap (λ ys. ys ++ k ∷ []) e
+    ∙ sym (ap (filter p) (range_next k) ∙ filter-append p (range_with_len 0 k) (k ∷ []) ∙ ap (λ b. filter p (range_with_len 0 k) ++ cond b (k ∷ []) []) yes')
 
 pub no_more : (p : ℕ → Bool) (k : ℕ) (xs : List ℕ) → xs ≡ filter p (range_with_len 0 k) → p k ≡ false → xs ≡ filter p (range_with_len 0 (k + 1))
-no_more p k xs e not = e ∙ sym (ap (filter p) (range_next k) ∙ filter-append p (range_with_len 0 k) (k ∷ []) ∙ ap (λ b. filter p (range_with_len 0 k) ++ cond b (k ∷ []) []) not ∙ append-nil (filter p (range_with_len 0 k)))
+no_more p k xs e not = e
+    ∙ sym (ap (filter p) (range_next k) ∙ filter-append p (range_with_len 0 k) (k ∷ [])
+    ∙ ap (λ b. filter p (range_with_len 0 k) ++ cond b (k ∷ []) []) not ∙ append-nil (filter p (range_with_len 0 k)))
 
 pub all_apart : (events : List ℕ) (e : ℕ) → AllPairs (λ a b. a ≢ b) (clients_of events e)
 all_apart events e = AllPairs-filter (λ a b. a ≢ b) (λ c. eqb (event_of events c) e) (range_with_len 0 (length events))
@@ -70,7 +75,8 @@ seat_more texts index place done c old new seat h inside at ready = record {
       subst (λ (i : ℕ). IsSeatAt index place i (texts_of texts i) (slice_index_or (set new c (Some seat)) i d)) same
       (subst (IsSeatAt index place c (texts_of texts c)) (sym (get_or-set_same new c (Some seat) d inside)) (at, ready)))
       (λ (other : c ≢ b).
-      subst (IsSeatAt index place b (texts_of texts b)) (sym (get_or-set_other new c b (Some seat) d (λ e. other (sym e)))) (h.seated b d (noted_less b c done other noted)))
+      subst (IsSeatAt index place b (texts_of texts b)) (sym (get_or-set_other new c b (Some seat) d (λ e. other (sym e))))
+      (h.seated b d (noted_less b c done other noted)))
       (same_or c b);
   kept = λ b d noted.
       let r = noted_more b c done noted in
@@ -78,15 +84,23 @@ seat_more texts index place done c old new seat h inside at ready = record {
 }
 
 -- how far the seats of a port's clients have come
-pub record IsSeating (texts : List (List (List ℕ))) (index : ℕ) (port : PortId) (clients : List ℕ) (rest : List Posting) (old new : List (Option Seat)) : Type 0 where
+pub record IsSeating (texts : List (List (List ℕ))) (index : ℕ) (port : PortId) (clients : List ℕ) (rest : List Posting)
+    (old new : List (Option Seat)) : Type 0 where
   pub done : List ℕ
   pub todo : List ℕ
   pub split : clients ≡ done ++ todo
   pub rest_is : rest ≡ map (posting port) todo
   pub seats : AreSeated texts index (port_place port) done old new
 
-pub seating_begins : (texts : List (List (List ℕ))) (index : ℕ) (port : PortId) (clients : List ℕ) (rest : List Posting) (old : List (Option Seat)) → rest ≡ map (posting port) clients → IsSeating texts index port clients rest old old
-seating_begins texts index port clients rest old e = record { done = []; todo = clients; split = refl; rest_is = e; seats = seat_none texts index (port_place port) old }
+pub seating_begins : (texts : List (List (List ℕ))) (index : ℕ) (port : PortId) (clients : List ℕ) (rest : List Posting) (old : List (Option Seat))
+    → rest ≡ map (posting port) clients → IsSeating texts index port clients rest old old
+seating_begins texts index port clients rest old e = record {
+  done = [];
+  todo = clients;
+  split = refl;
+  rest_is = e;
+  seats = seat_none texts index (port_place port) old;
+}
 
 first_of : (p : Posting) (ps qs : List Posting) (q : Posting) → p ∷ ps ≡ q ∷ qs → p ≡ q
 first_of p ps qs q e = ap (λ xs. slice_index_or xs 0 p) e
@@ -94,7 +108,8 @@ first_of p ps qs q e = ap (λ xs. slice_index_or xs 0 p) e
 rest_of : (p : Posting) (ps qs : List Posting) (q : Posting) → p ∷ ps ≡ q ∷ qs → ps ≡ qs
 rest_of p ps qs q e = ap (λ xs. drop 1 xs) e
 
-pub next_inside : (texts : List (List (List ℕ))) (index : ℕ) (port : PortId) (clients : List ℕ) (p : Posting) (rest : List Posting) (old new : List (Option Seat))
+pub next_inside : (texts : List (List (List ℕ))) (index : ℕ) (port : PortId) (clients : List ℕ) (p : Posting) (rest : List Posting)
+    (old new : List (Option Seat))
     → IsSeating texts index port clients (p ∷ rest) old new → All (λ c. c < length old) clients → p.client < length new
 next_inside texts index port clients p rest old new h low = by_todo h.todo h.split h.rest_is
   where
@@ -109,20 +124,23 @@ next_inside texts index port clients p rest old new h low = by_todo h.todo h.spl
         let same = h.seats.size in
         omega (arith, l, here, who, same)
 
-pub seating_goes_on : (texts : List (List (List ℕ))) (index : ℕ) (port : PortId) (clients : List ℕ) (p : Posting) (rest : List Posting) (old new : List (Option Seat)) (seat : Seat)
+pub seating_goes_on : (texts : List (List (List ℕ))) (index : ℕ) (port : PortId) (clients : List ℕ) (p : Posting) (rest : List Posting)
+    (old new : List (Option Seat)) (seat : Seat)
     → IsSeating texts index port clients (p ∷ rest) old new → p.client < length new → seat.inlet ≡ index → posting_of seat.poster ≡ of_port p
     → ((c : ℕ) → length (texts_of texts c) ≤ 20000)
     → IsSeating texts index port clients rest old (set new p.client (Some seat))
 seating_goes_on texts index port clients p rest old new seat h inside at end few = by_todo h.todo h.split h.rest_is
   where
-    by_todo : (todo : List ℕ) → clients ≡ h.done ++ todo → p ∷ rest ≡ map (posting port) todo → IsSeating texts index port clients rest old (set new p.client (Some seat))
+    by_todo : (todo : List ℕ) → clients ≡ h.done ++ todo → p ∷ rest ≡ map (posting port) todo
+        → IsSeating texts index port clients rest old (set new p.client (Some seat))
     by_todo [] split is = absurd (cc is)
     by_todo (c ∷ cs) split is =
         let who : p ≡ posting port c = first_of p rest (map (posting port) cs) (posting port c) is in
         let client : p.client ≡ c = ap (λ (q : Posting). q.client) who in
         let ends : posting_of seat.poster ≡ of_port (posting port c) = end ∙ ap of_port who in
         let ready : IsReady (port_place port) c (texts_of texts c) (posting_of seat.poster) =
-        subst (IsReady (port_place port) c (texts_of texts c)) (sym ends) (record { place_is = refl; client_is = refl; posted_is = refl; room = (let f = few c in omega (arith, f)) }) in
+        subst (IsReady (port_place port) c (texts_of texts c)) (sym ends)
+        (record { place_is = refl; client_is = refl; posted_is = refl; room = (let f = few c in omega (arith, f)) }) in
         record {
           done = h.done ++ c ∷ [];
           todo = cs;
@@ -136,7 +154,8 @@ pub seating_ends : (texts : List (List (List ℕ))) (index : ℕ) (port : PortId
     → IsSeating texts index port clients rest old new → length rest ≡ 0 → AreSeated texts index (port_place port) clients old new
 seating_ends texts index port clients rest old new h none = by_todo h.todo h.split (ap length h.rest_is)
   where
-    by_todo : (todo : List ℕ) → clients ≡ h.done ++ todo → length rest ≡ length (map (posting port) todo) → AreSeated texts index (port_place port) clients old new
+    by_todo : (todo : List ℕ) → clients ≡ h.done ++ todo → length rest ≡ length (map (posting port) todo)
+        → AreSeated texts index (port_place port) clients old new
     by_todo [] split is = subst (λ (cs : List ℕ). AreSeated texts index (port_place port) cs old new) (sym (split ∙ append-nil h.done)) h.seats
     by_todo (c ∷ cs) split is = absurd (omega (arith, none, is))
 
@@ -149,14 +168,17 @@ IsNew events t = t ≡ fresh t.place t.event (clients_of events t.event)
 -- a client of another event isn't among them
 no_client : (events : List ℕ) (e c : ℕ) → event_of events c ≢ e → is_noted c (clients_of events e) ≡ false
 no_client events e c other = ⊎_elim
-    (λ (y : is_noted c (clients_of events e) ≡ true). absurd (other (at_noted (λ b. (b < length events) × (event_of events b ≡ e)) c (clients_of events e) (clients_are events e) y).1))
+    (λ (y : is_noted c (clients_of events e) ≡ true).
+    absurd (other (at_noted (λ b. (b < length events) × (event_of events b ≡ e)) c (clients_of events e) (clients_are events e) y).1))
     (λ (n : is_noted c (clients_of events e) ≡ false). n)
     (bool_cases (is_noted c (clients_of events e)))
 
-seat_kept : (events : List ℕ) (texts : List (List (List ℕ))) (inlets : List Intake) (t : Intake) (c : ℕ) (seat : Option Seat) → HasSeat events texts inlets c seat → HasSeat events texts (inlets ++ t ∷ []) c seat
+seat_kept : (events : List ℕ) (texts : List (List (List ℕ))) (inlets : List Intake) (t : Intake) (c : ℕ) (seat : Option Seat)
+    → HasSeat events texts inlets c seat → HasSeat events texts (inlets ++ t ∷ []) c seat
 seat_kept events texts inlets t c seat h =
     let size : length (inlets ++ t ∷ []) ≡ length inlets + 1 = length-append inlets (t ∷ []) in
-    let same : (d : Intake) → slice_index_or (inlets ++ t ∷ []) h.index d ≡ slice_index_or inlets h.index d = λ d. get_or_append_left inlets (t ∷ []) d h.index h.inside in
+    let same : (d : Intake)
+    → slice_index_or (inlets ++ t ∷ []) h.index d ≡ slice_index_or inlets h.index d = λ d. get_or_append_left inlets (t ∷ []) d h.index h.inside in
     record {
       index = h.index;
       inside = (let i = h.inside in omega (arith, size, i));
@@ -169,13 +191,15 @@ abbrev IsFitting : Intake → Type 0
 IsFitting t = is_lane t.place ≡ eqb (length t.noted) 1
 
 pub open_more : (events : List ℕ) (texts : List (List (List ℕ))) (e : ℕ) (inlets : List Intake) (t : Intake) (old new : List (Option Seat))
-    → AreOpen events texts e inlets old → t ≡ fresh t.place e (clients_of events e) → is_lane t.place ≡ eqb (length (clients_of events e)) 1 → AreSeated texts (length inlets) t.place (clients_of events e) old new
+    → AreOpen events texts e inlets old → t ≡ fresh t.place e (clients_of events e) → is_lane t.place ≡ eqb (length (clients_of events e)) 1
+    → AreSeated texts (length inlets) t.place (clients_of events e) old new
     → AreOpen events texts (e + 1) (inlets ++ t ∷ []) new
 open_more events texts e inlets t old new h is lane seats =
     let size : length (inlets ++ t ∷ []) ≡ length inlets + 1 = length-append inlets (t ∷ []) in
     let event : t.event ≡ e = ap (λ (u : Intake). u.event) is in
     let last : (d : Intake) → slice_index_or (inlets ++ t ∷ []) (length inlets) d ≡ t = λ d. get_or-append_seam inlets t [] d in
-    let first : (k : ℕ) (d : Intake) → k < length inlets → slice_index_or (inlets ++ t ∷ []) k d ≡ slice_index_or inlets k d = λ k d lt. get_or_append_left inlets (t ∷ []) d k lt in
+    let first : (k : ℕ) (d : Intake) → k < length inlets
+    → slice_index_or (inlets ++ t ∷ []) k d ≡ slice_index_or inlets k d = λ k d lt. get_or_append_left inlets (t ∷ []) d k lt in
     record {
       low = λ k d lt. ⊎_elim
           (λ (it : k ≡ length inlets).
@@ -191,7 +215,8 @@ open_more events texts e inlets t old new h is lane seats =
           ⊎_elim
           (λ (it : j ≡ length inlets).
           let a : (slice_index_or (inlets ++ t ∷ []) i d).event ≡ (slice_index_or inlets i d).event = ap (λ (u : Intake). u.event) (first i d lt) in
-          let b : (slice_index_or (inlets ++ t ∷ []) j d).event ≡ t.event = ap (λ (u : Intake). u.event) (ap (λ (k : ℕ). slice_index_or (inlets ++ t ∷ []) k d) it ∙ last d) in
+          let b : (slice_index_or (inlets ++ t ∷ []) j d).event
+          ≡ t.event = ap (λ (u : Intake). u.event) (ap (λ (k : ℕ). slice_index_or (inlets ++ t ∷ []) k d) it ∙ last d) in
           let l = h.low i d lt in
           omega (arith, a, b, l, event))
           (λ (n : j ≢ length inlets).
@@ -203,14 +228,16 @@ open_more events texts e inlets t old new h is lane seats =
           (same_or j (length inlets));
       new = λ k d lt. ⊎_elim
           (λ (it : k ≡ length inlets).
-          subst (λ (i : ℕ). IsNew events (slice_index_or (inlets ++ t ∷ []) i d)) (sym it) (subst (IsNew events) (sym (last d)) (is ∙ ap (λ (i : ℕ). fresh t.place i (clients_of events i)) (sym event))))
+          subst (λ (i : ℕ). IsNew events (slice_index_or (inlets ++ t ∷ []) i d)) (sym it)
+          (subst (IsNew events) (sym (last d)) (is ∙ ap (λ (i : ℕ). fresh t.place i (clients_of events i)) (sym event))))
           (λ (n : k ≢ length inlets).
           let lt' : k < length inlets = omega (arith, size, lt, n) in
           subst (IsNew events) (sym (first k d lt')) (h.new k d lt'))
           (same_or k (length inlets));
       lanes = λ k d lt. ⊎_elim
           (λ (it : k ≡ length inlets).
-          subst (λ (i : ℕ). IsFitting (slice_index_or (inlets ++ t ∷ []) i d)) (sym it) (subst IsFitting (sym (last d)) (lane ∙ ap (λ (cs : List ℕ). eqb (length cs) 1) (sym (ap (λ (u : Intake). u.noted) is)))))
+          subst (λ (i : ℕ). IsFitting (slice_index_or (inlets ++ t ∷ []) i d)) (sym it)
+          (subst IsFitting (sym (last d)) (lane ∙ ap (λ (cs : List ℕ). eqb (length cs) 1) (sym (ap (λ (u : Intake). u.noted) is)))))
           (λ (n : k ≢ length inlets).
           let lt' : k < length inlets = omega (arith, size, lt, n) in
           subst IsFitting (sym (first k d lt')) (h.lanes k d lt'))
@@ -221,7 +248,8 @@ open_more events texts e inlets t old new h is lane seats =
             index = length inlets;
             inside = omega (arith, size);
             event = λ u. ap (λ (v : Intake). v.event) (last u) ∙ event ∙ sym it;
-            at = λ u. subst (λ (v : Intake). IsSeatAt (length inlets) v.place c (texts_of texts c) (slice_index_or new c d)) (sym (last u)) (seats.seated c d (is_client events e c low it));
+            at = λ u. subst (λ (v : Intake). IsSeatAt (length inlets) v.place c (texts_of texts c) (slice_index_or new c d)) (sym (last u))
+                (seats.seated c d (is_client events e c low it));
           })
           (λ (other : event_of events c ≢ e).
           seat_kept events texts inlets t c (slice_index_or new c d)
@@ -270,29 +298,36 @@ open_for events texts inlets seats h sound = record {
 
 -- ---- the threads
 
-pub all_seats : (events : List ℕ) (texts : List (List (List ℕ))) (inlets : List Intake) (seats rest : List (Option Seat)) (n : ℕ) → AreOpen events texts 32 inlets seats → All (λ e. e ≤ 31) events → rest ≡ seats → n ≡ 0 → HaveSeatsFrom events texts inlets n rest
+pub all_seats : (events : List ℕ) (texts : List (List (List ℕ))) (inlets : List Intake) (seats rest : List (Option Seat)) (n : ℕ)
+    → AreOpen events texts 32 inlets seats → All (λ e. e ≤ 31) events → rest ≡ seats → n ≡ 0 → HaveSeatsFrom events texts inlets n rest
 all_seats events texts inlets seats rest n h sound same none = λ k d lt.
     let there : k < length events = (let size = ap length same in let as_many = h.size in omega (arith, size, as_many, lt)) in
     let low = sound k 0 there in
     subst (λ (c : ℕ). HasSeat events texts inlets c (slice_index_or rest k d)) (let e : k ≡ n + k = omega (arith, none) in e)
     (subst (λ (xs : List (Option Seat)). HasSeat events texts inlets k (slice_index_or xs k d)) (sym same) (h.seated k d there (omega (arith, low))))
 
-pub first_seat : (events : List ℕ) (texts : List (List (List ℕ))) (inlets : List Intake) (n : ℕ) (s : Option Seat) (rest : List (Option Seat)) → HaveSeatsFrom events texts inlets n (s ∷ rest) → HasSeat events texts inlets n s
+pub first_seat : (events : List ℕ) (texts : List (List (List ℕ))) (inlets : List Intake) (n : ℕ) (s : Option Seat) (rest : List (Option Seat))
+    → HaveSeatsFrom events texts inlets n (s ∷ rest) → HasSeat events texts inlets n s
 first_seat events texts inlets n s rest h = subst (λ (c : ℕ). HasSeat events texts inlets c s) (let e : n + 0 ≡ n = omega arith in e) (h 0 s (omega arith))
 
-pub later_seats : (events : List ℕ) (texts : List (List (List ℕ))) (inlets : List Intake) (n m : ℕ) (s : Option Seat) (rest : List (Option Seat)) → m ≡ n + 1 → HaveSeatsFrom events texts inlets n (s ∷ rest) → HaveSeatsFrom events texts inlets m rest
-later_seats events texts inlets n m s rest more h = λ k d lt. subst (λ (c : ℕ). HasSeat events texts inlets c (slice_index_or rest k d)) (let e : n + suc k ≡ m + k = omega (arith, more) in e) (h (suc k) d (omega (arith, lt)))
+pub later_seats : (events : List ℕ) (texts : List (List (List ℕ))) (inlets : List Intake) (n m : ℕ) (s : Option Seat) (rest : List (Option Seat))
+    → m ≡ n + 1 → HaveSeatsFrom events texts inlets n (s ∷ rest) → HaveSeatsFrom events texts inlets m rest
+later_seats events texts inlets n m s rest more h = λ k d lt. subst (λ (c : ℕ). HasSeat events texts inlets c (slice_index_or rest k d))
+    (let e : n + suc k ≡ m + k = omega (arith, more) in e) (h (suc k) d (omega (arith, lt)))
 
 pub no_vacant : (events : List ℕ) (texts : List (List (List ℕ))) (inlets : List Intake) (c : ℕ) → HasSeat events texts inlets c None → ⊥
 no_vacant events texts inlets c h = h.at (record { place = []; event = 0; taken = []; finds = 0; noted = []; known = [] })
 
-pub seat_ready : (events : List ℕ) (texts : List (List (List ℕ))) (inlets : List Intake) (c : ℕ) (seat : Seat) → HasSeat events texts inlets c (Some seat) → IsReady (posting_of seat.poster).place (posting_of seat.poster).client (texts_of texts c) (posting_of seat.poster)
+pub seat_ready : (events : List ℕ) (texts : List (List (List ℕ))) (inlets : List Intake) (c : ℕ) (seat : Seat)
+    → HasSeat events texts inlets c (Some seat)
+    → IsReady (posting_of seat.poster).place (posting_of seat.poster).client (texts_of texts c) (posting_of seat.poster)
 seat_ready events texts inlets c seat h =
     let r = (h.at (record { place = []; event = 0; taken = []; finds = 0; noted = []; known = [] })).1 in
     record { place_is = refl; client_is = refl; posted_is = r.posted_is; room = r.room }
 
 pub out_of_seat : (events : List ℕ) (texts : List (List (List ℕ))) (inlets : List Intake) (c : ℕ) (seat : Seat) (client : Client)
-    → HasSeat events texts inlets c (Some seat) → client.inlet ≡ seat.inlet → IsWork (posting_of seat.poster).place (posting_of seat.poster).client (texts_of texts c) client.work
+    → HasSeat events texts inlets c (Some seat) → client.inlet ≡ seat.inlet
+    → IsWork (posting_of seat.poster).place (posting_of seat.poster).client (texts_of texts c) client.work
     → IsOut events texts inlets c client
 out_of_seat events texts inlets c seat client h same work =
     let at : (d : Intake) → client.inlet ≡ h.index = λ d. same ∙ (h.at d).0 in
@@ -308,7 +343,8 @@ out_of_seat events texts inlets c seat client h same work =
           (subst (λ (b : ℕ). IsWork (posting_of seat.poster).place b (texts_of texts c) client.work) r.client_is work));
     }
 
-pub none_out : (events : List ℕ) (texts : List (List (List ℕ))) (inlets : List Intake) (out : List Client) (n : ℕ) → n ≡ 0 → (c : ℕ) (d : Client) → c < n → IsOut events texts inlets c (slice_index_or out c d)
+pub none_out : (events : List ℕ) (texts : List (List (List ℕ))) (inlets : List Intake) (out : List Client) (n : ℕ) → n ≡ 0
+    → (c : ℕ) (d : Client) → c < n → IsOut events texts inlets c (slice_index_or out c d)
 none_out events texts inlets out n none = λ c d lt. absurd (omega (arith, none, lt))
 
 pub out_more : (events : List ℕ) (texts : List (List (List ℕ))) (inlets : List Intake) (n m : ℕ) (out now : List Client) (client : Client)
@@ -317,11 +353,13 @@ pub out_more : (events : List ℕ) (texts : List (List (List ℕ))) (inlets : Li
     → (c : ℕ) (d : Client) → c < m → IsOut events texts inlets c (slice_index_or now c d)
 out_more events texts inlets n m out now client size more is before last = λ c d lt. ⊎_elim
     (λ (it : c ≡ n).
-    let at : slice_index_or now c d ≡ client = ap (λ xs. slice_index_or xs c d) is ∙ ap (λ k. slice_index_or (out ++ client ∷ []) k d) (it ∙ size) ∙ get_or-append_seam out client [] d in
+    let at : slice_index_or now c d
+    ≡ client = ap (λ xs. slice_index_or xs c d) is ∙ ap (λ k. slice_index_or (out ++ client ∷ []) k d) (it ∙ size) ∙ get_or-append_seam out client [] d in
     subst (IsOut events texts inlets c) (sym at) (subst (λ (k : ℕ). IsOut events texts inlets k client) (sym it) last))
     (λ (other : c ≢ n).
     let lt' : c < n = omega (arith, lt, more, other) in
-    let at : slice_index_or now c d ≡ slice_index_or out c d = ap (λ xs. slice_index_or xs c d) is ∙ get_or_append_left out (client ∷ []) d c (omega (arith, lt', size)) in
+    let at : slice_index_or now c d
+    ≡ slice_index_or out c d = ap (λ xs. slice_index_or xs c d) is ∙ get_or_append_left out (client ∷ []) d c (omega (arith, lt', size)) in
     subst (IsOut events texts inlets c) (sym at) (before c d lt'))
     (same_or c n)
 

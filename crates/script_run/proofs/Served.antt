@@ -9,7 +9,8 @@ use Rattle.script_run.specs.Served.{FellShort, HasLines, IsServed, clients_of, t
 use Rattle.script_run.specs.Ties.{ClosedAreServed, IsKnown, all_texts, any_intake, events_of, intakes}
 use Rattle.script_run.specs.declared.inlet.AnyInlet.{AnyInlet}
 use Rattle.lwp_types.specs.declared.call.Line.{Line}
-use Rattle.std.proofs.Common.{All, Bool, List, [], ap, arith, cond, drop, eq-eqb, eqb, false, length, length-take, ne_eqb, refl, slice_index_or, subst, suc, sym, take, true, true≢false, zero, ℕ, ◌+◌, ◌++◌, ◌<◌, ◌∙◌, ◌∷◌, ◌≡◌, ◌≢◌, ◌≤◌, ⊎_elim, ◌||◌}
+use Rattle.std.proofs.Common.{All, Bool, List, [], ap, arith, cond, drop, eq-eqb, eqb, false, length, length-take, ne_eqb, refl, slice_index_or}
+use Rattle.std.proofs.Common.{subst, suc, sym, take, true, true≢false, zero, ℕ, ◌+◌, ◌++◌, ◌<◌, ◌∙◌, ◌∷◌, ◌≡◌, ◌≢◌, ◌≤◌, ⊎_elim, ◌||◌}
 use Rattle.std.proofs.Math.Seq.{drop-length}
 use Rattle.std.proofs.lemmas.List.{get_or-map, length-map, take-append-drop}
 use Rattle.std.proofs.lemmas.List.Elements.{All-filter, All-map, filter_passes}
@@ -37,12 +38,14 @@ noted_range : (c a n : ℕ) → a ≤ c → c < a + n → is_noted c (range_with
 noted_range c a zero low high = absurd (omega (arith, low, high))
 noted_range c a (suc n) low high = ⊎_elim
     (λ (same : a ≡ c). ap (λ b. b || is_noted c (range_with_len (a + 1) n)) (eq-eqb a c same))
-    (λ (other : a ≢ c). ap (λ b. b || is_noted c (range_with_len (a + 1) n)) (ne_eqb a c other) ∙ noted_range c (a + 1) n (omega (arith, low, other)) (omega (arith, high)))
+    (λ (other : a ≢ c). ap (λ b. b || is_noted c (range_with_len (a + 1) n)) (ne_eqb a c other)
+    ∙ noted_range c (a + 1) n (omega (arith, low, other)) (omega (arith, high)))
     (same_or a c)
 
 pub is_client : (events : List ℕ) (e c : ℕ) → c < length events → event_of events c ≡ e → is_noted c (clients_of events e) ≡ true
 is_client events e c low is =
-    any-filter_same (λ d. eqb d c) (λ d. eqb (event_of events d) e) true (λ k same. eq-eqb (event_of events k) e (ap (event_of events) (eq_of k c same) ∙ is)) (range_with_len 0 (length events))
+    any-filter_same (λ d. eqb d c) (λ d. eqb (event_of events d) e) true
+    (λ k same. eq-eqb (event_of events k) e (ap (event_of events) (eq_of k c same) ∙ is)) (range_with_len 0 (length events))
     ∙ noted_range c 0 (length events) (omega arith) (omega (arith, low))
 
 pub at_noted : (P : ℕ → Type 0) (c : ℕ) (noted : List ℕ) → All P noted → is_noted c noted ≡ true → P c
@@ -80,7 +83,8 @@ numbered_take n (suc k) (l ∷ ls) h = (h.0, h.1, numbered_take (suc n) k ls h.2
 
 -- ---- one inlet
 
-pub has_lines : (events : List ℕ) (texts : List (List (List ℕ))) (all : Bool) (t : Intake) (c : ℕ) → TakesFirst t → is_noted c t.noted ≡ true → IsKnown texts all c t → HasLines c (texts_of texts c) all t
+pub has_lines : (events : List ℕ) (texts : List (List (List ℕ))) (all : Bool) (t : Intake) (c : ℕ) → TakesFirst t
+    → is_noted c t.noted ≡ true → IsKnown texts all c t → HasLines c (texts_of texts c) all t
 has_lines events texts all t c first noted h =
     let mine : List Line = of c t.taken in
     let whole : List Line = lines_in_pass c t.known in
@@ -101,14 +105,16 @@ pub served_one : (events : List ℕ) (texts : List (List (List ℕ))) (all : Boo
     → ((c : ℕ) → c < length events → event_of events c ≡ t.event → IsKnown texts all c t)
     → IsServed events texts all t
 served_one events texts all t first none clients few known =
-    let who : All (λ c. (c < length events) × (event_of events c ≡ t.event)) t.noted = subst (All (λ c. (c < length events) × (event_of events c ≡ t.event))) (sym clients) (clients_are events t.event) in
+    let who : All (λ c. (c < length events) × (event_of events c ≡ t.event)) t.noted =
+    subst (All (λ c. (c < length events) × (event_of events c ≡ t.event))) (sym clients) (clients_are events t.event) in
     let is_told : All (λ c. is_told c t.known ≡ true) t.noted = λ k d lt. let w = who k d lt in (known (slice_index_or t.noted k d) w.0 w.1).told in
     record {
       told = is_told;
       mine = λ k d lt.
           let c : ℕ = (slice_index_or t.taken k d).client in
           at_noted (λ c. (c < length events) × (event_of events c ≡ t.event)) c t.noted who
-          (⊎_elim (λ (yes' : is_noted c t.noted ≡ true). yes') (λ (not : is_noted c t.noted ≡ false). absurd (has_line t.taken k d lt (none c not))) (bool_cases (is_noted c t.noted)));
+          (⊎_elim (λ (yes' : is_noted c t.noted ≡ true). yes')
+          (λ (not : is_noted c t.noted ≡ false). absurd (has_line t.taken k d lt (none c not))) (bool_cases (is_noted c t.noted)));
       lines = λ c low is. has_lines events texts all t c first (ap (is_noted c) clients ∙ is_client events t.event c low is) (known c low is);
       numbered = λ c. ⊎_elim
           (λ (yes' : is_noted c t.noted ≡ true).
@@ -116,7 +122,8 @@ served_one events texts all t first none clients few known =
           let h = known c w.0 w.1 in
           let ts : List (List ℕ) = take h.count (texts_of texts c) in
           let size : length ts ≤ 4294967295 = omega (arith, length-take h.count (texts_of texts c), few c) in
-          subst (IsNumbered 0) (ap (take (length (of c t.taken))) (sym h.posted) ∙ first c h.told) (numbered_take 0 (length (of c t.taken)) (lines_from c 0 ts) (numbered_lines c 0 ts (omega (arith, size)))))
+          subst (IsNumbered 0) (ap (take (length (of c t.taken))) (sym h.posted) ∙ first c h.told)
+          (numbered_take 0 (length (of c t.taken)) (lines_from c 0 ts) (numbered_lines c 0 ts (omega (arith, size)))))
           (λ (not : is_noted c t.noted ≡ false). subst (IsNumbered 0) (sym (none c not)) tt)
           (bool_cases (is_noted c t.noted));
     }
@@ -138,6 +145,7 @@ closed_are_served o tied closed = record {
       served_one (events_of o) (all_texts o) o.all (any_intake inlet) inlet.first inlet.none
       (subst (λ (t : Intake). t.noted ≡ clients_of (events_of o) t.event) at (tied.are_for.clients k (any_intake d) (omega (arith, size, lt))))
       (λ c. few_texts (all_texts o) c tied.few)
-      (λ c low is. subst (IsKnown (all_texts o) o.all c) at (tied.back c (omega (arith, ap length closed)) low k (any_intake d) (omega (arith, size, lt)) (ap (λ (t : Intake). t.event) at ∙ sym is))));
+      (λ c low is. subst (IsKnown (all_texts o) o.all c) at
+      (tied.back c (omega (arith, ap length closed)) low k (any_intake d) (omega (arith, size, lt)) (ap (λ (t : Intake). t.event) at ∙ sym is))));
   short = λ not. subst (λ (n : ℕ). FellShort (events_of o) (all_texts o) n (intakes o)) (ap length closed) (tied.short not);
 }

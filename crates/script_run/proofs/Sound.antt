@@ -19,7 +19,8 @@ takes_first t queued h = λ c told. ap (take (length (of c t.taken))) (h.told c 
 pub takes_none : (t : Intake) (queued : List Line) → Accounts t.noted t.known t.taken queued → TakesNone t
 takes_none t queued h = λ c not. first_of_none (of c t.taken) (of c queued) (h.stray c not)
 
-accounts_taken : (noted : List ℕ) (known : List Told) (taken rest : List Line) (x : Line) → Accounts noted known taken (x ∷ rest) → Accounts noted known (taken ++ x ∷ []) rest
+accounts_taken : (noted : List ℕ) (known : List Told) (taken rest : List Line) (x : Line) → Accounts noted known taken (x ∷ rest)
+    → Accounts noted known (taken ++ x ∷ []) rest
 accounts_taken noted known taken rest x h = record {
   told = λ c told. h.told c told ∙ sym (of_moved c taken rest x);
   stray = λ c not. of_moved c taken rest x ∙ h.stray c not;
@@ -29,10 +30,14 @@ accounts_taken noted known taken rest x h = record {
 pub sound_taken : (t u : Intake) (x : Line) → InletTakes t u x → TakesFirst u × TakesNone u
 sound_taken t u x h =
     let now = accounts_taken t.noted t.known t.taken h.rest x h.queued in
-    subst (λ (v : Intake). TakesFirst v × TakesNone v) (sym h.after) (takes_first (record t { taken = t.taken ++ x ∷ [] }) h.rest now, takes_none (record t { taken = t.taken ++ x ∷ [] }) h.rest now)
+    subst (λ (v : Intake). TakesFirst v × TakesNone v) (sym h.after) (
+      takes_first (record t { taken = t.taken ++ x ∷ [] }) h.rest now,
+      takes_none (record t { taken = t.taken ++ x ∷ [] }) h.rest now,
+    )
 
 pub sound_nothing : (t u : Intake) → InletFindsNothing t u → TakesFirst u × TakesNone u
-sound_nothing t u h = subst (λ (v : Intake). TakesFirst v × TakesNone v) (sym h.after) (takes_first (record t { finds = t.finds + 1 }) [] h.queued, takes_none (record t { finds = t.finds + 1 }) [] h.queued)
+sound_nothing t u h = subst (λ (v : Intake). TakesFirst v × TakesNone v) (sym h.after)
+    (takes_first (record t { finds = t.finds + 1 }) [] h.queued, takes_none (record t { finds = t.finds + 1 }) [] h.queued)
 
 pub sound_after : (t u : Intake) (answer : Option Line) → IfSome answer (InletTakes t u) → IfNone answer (InletFindsNothing t u) → TakesFirst u × TakesNone u
 sound_after t u (Some x) line nothing = sound_taken t u x line

@@ -17,7 +17,8 @@ pub record IsSame (t u : Intake) : Type 0 where
 pub for_kept : (events : List ℕ) (before after : List Intake) → EachInlet IsSame before after → AreFor events before → AreFor events after
 for_kept events before after same h =
     let size : length after ≡ length before = same.0 in
-    let event : (k : ℕ) (d : Intake) → k < length before → (slice_index_or after k d).event ≡ (slice_index_or before k d).event = λ k d lt. (same.1 k d lt).event in
+    let event : (k : ℕ) (d : Intake) → k < length before
+    → (slice_index_or after k d).event ≡ (slice_index_or before k d).event = λ k d lt. (same.1 k d lt).event in
     record {
       rise = (
         (λ k d lt. subst (λ (e : ℕ). e ≤ 31) (sym (event k d (omega (arith, size, lt)))) (h.rise.0 k d (omega (arith, size, lt)))),
@@ -38,12 +39,21 @@ for_kept events before after same h =
           ap is_lane (same.1 k d low).place ∙ h.lanes k d low ∙ ap (λ (cs : List ℕ). eqb (length cs) 1) (sym (same.1 k d low).noted);
     }
 
-pub known_again : (texts : List (List (List ℕ))) (all : Bool) (c : ℕ) (t u : Intake) → u.place ≡ t.place → is_told c u.known ≡ is_told c t.known → lines_in_pass c u.known ≡ lines_in_pass c t.known → IsKnown texts all c t → IsKnown texts all c u
-known_again texts all c t u place told lines h = record { told = told ∙ h.told; count = h.count; posted = lines ∙ h.posted; whole = h.whole; sole = λ lane. h.sole (sym (ap is_lane place) ∙ lane) }
+pub known_again : (texts : List (List (List ℕ))) (all : Bool) (c : ℕ) (t u : Intake) → u.place ≡ t.place
+    → is_told c u.known ≡ is_told c t.known → lines_in_pass c u.known ≡ lines_in_pass c t.known → IsKnown texts all c t → IsKnown texts all c u
+known_again texts all c t u place told lines h = record {
+  told = told ∙ h.told;
+  count = h.count;
+  posted = lines ∙ h.posted;
+  whole = h.whole;
+  sole = λ lane. h.sole (sym (ap is_lane place) ∙ lane);
+}
 
 -- a client that fell short still does, where as much is known of what it has posted
 pub short_again : (events : List ℕ) (texts : List (List (List ℕ))) (n m : ℕ) (before after : List Intake) → m ≤ n → EachInlet IsSame before after
-    → ((c : ℕ) → n ≤ c → c < length events → (k : ℕ) (d : Intake) → k < length before → (slice_index_or before k d).event ≡ event_of events c → lines_in_pass c (slice_index_or after k d).known ≡ lines_in_pass c (slice_index_or before k d).known)
+    → ((c : ℕ) → n ≤ c → c < length events → (k : ℕ) (d : Intake) → k < length before
+    → (slice_index_or before k d).event ≡ event_of events c
+    → lines_in_pass c (slice_index_or after k d).known ≡ lines_in_pass c (slice_index_or before k d).known)
     → FellShort events texts n before → FellShort events texts m after
 short_again events texts n m before after less same told h = record {
   client = h.client;
@@ -58,7 +68,8 @@ short_again events texts n m before after less same told h = record {
       omega (arith, l, e);
 }
 
-pub out_kept : (events : List ℕ) (texts : List (List (List ℕ))) (before after : List Intake) (c : ℕ) (out : Client) → EachInlet IsSame before after → IsOut events texts before c out → IsOut events texts after c out
+pub out_kept : (events : List ℕ) (texts : List (List (List ℕ))) (before after : List Intake) (c : ℕ) (out : Client)
+    → EachInlet IsSame before after → IsOut events texts before c out → IsOut events texts after c out
 out_kept events texts before after c out same h = record {
   inside = (let s = same.0 in let i = h.inside in omega (arith, s, i));
   event = λ d. (same.1 out.inlet d h.inside).event ∙ h.event d;
@@ -92,7 +103,8 @@ draws_keep_ties events texts all out before after h gave =
           let size = gave.0 in
           let low : k < length before = omega (arith, size, inside) in
           let known = ap (λ (t : Intake). t.known) (gave.1 k d low).after in
-          known_again texts all c (slice_index_or before k d) (slice_index_or after k d) (same.1 k d low).place (ap (is_told c) known) (ap (lines_in_pass c) known) (h.back c high lt k d low (sym (same.1 k d low).event ∙ is));
+          known_again texts all c (slice_index_or before k d) (slice_index_or after k d) (same.1 k d low).place (ap (is_told c) known)
+          (ap (lines_in_pass c) known) (h.back c high lt k d low (sym (same.1 k d low).event ∙ is));
       short = λ not.
           let stays : length out ≤ length out = omega arith in
           short_again events texts (length out) (length out) before after stays same

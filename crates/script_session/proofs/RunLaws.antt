@@ -48,16 +48,19 @@ setting-is script turns r h =
     the_setting : Script → PodParams → Names → Setting ThreadBody
     the_setting p params names = record { next = body_next; bodies = bodies_of p; params = params; names = names }
 
-pub session-is : (script : Script) (turns : ℕ) (r : Played Script) → Plays script turns r → run.session_of body_next bodies_of r ≡ session_at script r.takes r.calls
+pub session-is : (script : Script) (turns : ℕ) (r : Played Script) → Plays script turns r
+    → run.session_of body_next bodies_of r ≡ session_at script r.takes r.calls
 session-is script turns r h = ap (λ (s : Setting ThreadBody). play s r.takes r.calls) (setting-is script turns r h)
 
-pub lines-is : (script : Script) (turns : ℕ) (r : Played Script) → Plays script turns r → run.trace_of body_next bodies_of proc_names r ≡ lines_after script r.takes r.calls
+pub lines-is : (script : Script) (turns : ℕ) (r : Played Script) → Plays script turns r
+    → run.trace_of body_next bodies_of proc_names r ≡ lines_after script r.takes r.calls
 unfolding lines_after
 lines-is script turns r h =
     ap (λ p. lines (proc_names p) (run.session_of body_next bodies_of r).steps) h.program
     ∙ ap (λ (s : Sessions.Session ThreadBody). lines (proc_names script) s.steps) (session-is script turns r h)
 
-pub before-is : (script : Script) (turns : ℕ) (r : Played Script) → Plays script turns r → run.trace_before body_next bodies_of proc_names r ≡ lines_before script r.takes r.calls
+pub before-is : (script : Script) (turns : ℕ) (r : Played Script) → Plays script turns r
+    → run.trace_before body_next bodies_of proc_names r ≡ lines_before script r.takes r.calls
 unfolding lines_before
 before-is script turns r h =
     ap (λ p. lines (proc_names p) (but_last (run.session_of body_next bodies_of r).steps)) h.program
@@ -68,9 +71,11 @@ unfolding play
 no-lines procs s = refl
 
 -- nothing of the trace is told yet
-pub told-before : (script : Script) (turns : ℕ) (o : Played Script) (old : Option (List ℕ)) → o ≡ opening_run script turns → old ≡ after_append old (run.trace_of body_next bodies_of proc_names o)
+pub told-before : (script : Script) (turns : ℕ) (o : Played Script) (old : Option (List ℕ)) → o ≡ opening_run script turns
+    → old ≡ after_append old (run.trace_of body_next bodies_of proc_names o)
 told-before script turns o old h =
-    sym (ap (λ x. after_append old (run.trace_of body_next bodies_of proc_names x)) h ∙ ap (after_append old) (no-lines (proc_names script) (setting_of script)) ∙ appended-nil old)
+    sym (ap (λ x. after_append old (run.trace_of body_next bodies_of proc_names x)) h
+    ∙ ap (after_append old) (no-lines (proc_names script) (setting_of script)) ∙ appended-nil old)
 
 pub is-new : (script : Script) (turns : ℕ) (o : Played Script) → o ≡ opening_run script turns → IsNew o
 is-new script turns o h = (ap (λ (x : Played Script). x.calls) h, ap (λ (x : Played Script). x.takes) h)

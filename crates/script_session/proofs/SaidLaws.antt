@@ -14,7 +14,8 @@ use Rattle.script_text.proofs.ScriptLaws.{one_script, verdict_long}
 use Rattle.script_text.specs.declared.reason.Reason.{Reason}
 use Rattle.script_text.specs.declared.script.Script.{Script}
 use Rattle.std.proofs.lemmas.Bool.{cases_lt, lt-ltb}
-use Rattle.std.proofs.Common.{Err, inl, subst, List, None, Option, Result, Some, [], ap, arith, length, length-take, refl, sym, take, take_all, inr, ℕ, ◌≤◌, ◌∙◌, ◌≡◌}
+use Rattle.std.proofs.Common.{Err, inl, subst, List, None, Option, Result, Some, [], ap, arith, length}
+use Rattle.std.proofs.Common.{length-take, refl, sym, take, take_all, inr, ℕ, ◌≤◌, ◌∙◌, ◌≡◌}
 use Rattle.std.proofs.lemmas.List.{drop_all}
 
 -- a text that isn't too long was read whole
@@ -24,7 +25,9 @@ short-read told h = take_all 16777217 told (omega (arith, length-take 16777217 t
 -- a verdict on what was read is one on all that there was
 same-verdict : (told : List ℕ) → verdict (take 16777217 told) ≡ verdict told
 same-verdict told = elim (cases_lt 16777216 (length told)) [
-  | inl long ↦ verdict_long (take 16777217 told) (lt-ltb 16777216 (length (take 16777217 told)) (omega (arith, length-take 16777217 told, long))) ∙ sym (verdict_long told (lt-ltb 16777216 (length told) long))
+  | inl long
+      ↦ verdict_long (take 16777217 told) (lt-ltb 16777216 (length (take 16777217 told)) (omega (arith, length-take 16777217 told, long)))
+      ∙ sym (verdict_long told (lt-ltb 16777216 (length told) long))
   | inr short ↦ ap verdict (take_all 16777217 told (omega (arith, short)))
 ]
 
@@ -37,11 +40,13 @@ pub says-all : (left : Option (List ℕ)) (script : Script) (says : Script → T
 says-all None script says h s = (script, s)
 says-all (Some told) script says h s = ((script, h), λ other spells. subst says (one_script told script other h spells) s)
 
-pub refuses-of : (left : Option (List ℕ)) (bytes : List ℕ) (line : ℕ) (why : Reason) → HasFront most_read left bytes → verdict bytes ≡ Err (line, why) → Refuses left line why
+pub refuses-of : (left : Option (List ℕ)) (bytes : List ℕ) (line : ℕ) (why : Reason) → HasFront most_read left bytes
+    → verdict bytes ≡ Err (line, why) → Refuses left line why
 refuses-of None bytes line why read v = tt
 refuses-of (Some told) bytes line why read v = sym (same-verdict told) ∙ ap verdict (sym read) ∙ v
 
-pub gives-bad : (bytes : List ℕ) (r : Result Script ReadErr) (line : ℕ) (why : Reason) → r ≡ Err (err.Bad line why) → Gives (verdict bytes) r → verdict bytes ≡ Err (line, why)
+pub gives-bad : (bytes : List ℕ) (r : Result Script ReadErr) (line : ℕ) (why : Reason) → r ≡ Err (err.Bad line why)
+    → Gives (verdict bytes) r → verdict bytes ≡ Err (line, why)
 gives-bad bytes r line why is g = subst (λ (x : Result Script ReadErr). Gives (verdict bytes) x) is g
 
 -- what is a script was read to its end
@@ -80,7 +85,8 @@ read-of source script end.Reported h r = absurd r
 read-of source script end.Same h r = absurd r
 read-of source script (end.Differs line) h r = absurd r
 
-pub says-of : (ran : Script → SessionEnd → Type 0) (source sink : Stream) (session : Session) (script : Script) (e : SessionEnd) → IsRead source script → IsRanEnd e
+pub says-of : (ran : Script → SessionEnd → Type 0) (source sink : Stream) (session : Session) (script : Script) (e : SessionEnd)
+    → IsRead source script → IsRanEnd e
     → ran script e → EndsBy ran source sink session e
 says-of ran source sink session script (end.Ended status) h r s = (h.faultless, says-all source.old script (λ (x : Script). ran x (end.Ended status)) h.holds s)
 says-of ran source sink session script end.Stuck h r s = (h.faultless, says-all source.old script (λ (x : Script). ran x end.Stuck) h.holds s)
@@ -96,13 +102,15 @@ says-of ran source sink session script end.Same h r s = absurd r
 says-of ran source sink session script (end.Differs line) h r s = absurd r
 
 -- a session of a script that was read
-pub session-of : (ran : Script → SessionEnd → Type 0) (source sink : Stream) (session : Session) (script : Script) → IsRead source script → session.status ≡ status_of session.end
+pub session-of : (ran : Script → SessionEnd → Type 0) (source sink : Stream) (session : Session) (script : Script) → IsRead source script
+    → session.status ≡ status_of session.end
     → IsRanEnd session.end → ran script session.end → IsOf ran source sink session
 session-of ran source sink session script h status r s =
     record { status = status; read = read-of source script session.end h r; says = says-of ran source sink session script session.end h r s }
 
 -- a session for which none was read
-not-read-by : (ran : Script → SessionEnd → Type 0) (source sink : Stream) (e : SessionEnd) → IsQuiet sink → IsNotRead source e → IsOf ran source sink (outcome_of e [] 0)
+not-read-by : (ran : Script → SessionEnd → Type 0) (source sink : Stream) (e : SessionEnd) → IsQuiet sink → IsNotRead source e
+    → IsOf ran source sink (outcome_of e [] 0)
 not-read-by ran source sink end.ReadFault quiet h =
     record { status = refl; read = h.1; says = (h.0, record { quiet = quiet; taken = refl; calls = refl }) }
 not-read-by ran source sink end.NoMemory quiet h =
@@ -119,5 +127,6 @@ not-read-by ran source sink end.Reported quiet h = absurd h
 not-read-by ran source sink end.Same quiet h = absurd h
 not-read-by ran source sink (end.Differs line) quiet h = absurd h
 
-pub not-read : (ran : Script → SessionEnd → Type 0) (source sink : Stream) (e : SessionEnd) (session : Session) → session ≡ outcome_of e [] 0 → IsQuiet sink → IsNotRead source e → IsOf ran source sink session
+pub not-read : (ran : Script → SessionEnd → Type 0) (source sink : Stream) (e : SessionEnd) (session : Session)
+    → session ≡ outcome_of e [] 0 → IsQuiet sink → IsNotRead source e → IsOf ran source sink session
 not-read ran source sink e session is quiet h = subst (λ (x : Session). IsOf ran source sink x) (sym is) (not-read-by ran source sink e quiet h)

@@ -11,13 +11,16 @@ use Rattle.script_text.specs.declared.stage.Stage.{Stage}
 use Rattle.script_text.specs.declared.reader.Reader.{Reader}
 use Rattle.script_lines.proofs.PrintableLaws.{said_is_printable}
 
-pub judged_good : (r : Reader) (line : List ℕ) (p : Phrase) → phrase_at line ≡ Some p → may_stand_at r.stage r.declared r.draft.posted p ≡ true → after_judge None r line ≡ after_take r p
+pub judged_good : (r : Reader) (line : List ℕ) (p : Phrase) → phrase_at line ≡ Some p
+    → may_stand_at r.stage r.declared r.draft.posted p ≡ true → after_judge None r line ≡ after_take r p
 judged_good r line p e s = rw (said_is_printable line p e, e, s) refl
 
-told_bad : (s : Stage) (known : Declared) (posted line : List ℕ) (o : Option Phrase) (p : Phrase) → o ≡ Some p → may_stand_at s known posted p ≡ false → judge_phrase_at s known posted line o ≡ Err (reason_of s line)
+told_bad : (s : Stage) (known : Declared) (posted line : List ℕ) (o : Option Phrase) (p : Phrase) → o ≡ Some p
+    → may_stand_at s known posted p ≡ false → judge_phrase_at s known posted line o ≡ Err (reason_of s line)
 told_bad s known posted line o p e f = ap (judge_phrase_at s known posted line) e ∙ ap (λ b. cond b (Ok p) (Err (reason_of s line))) f
 
-pub judged_bad : (r : Reader) (line : List ℕ) (p : Phrase) → phrase_at line ≡ Some p → may_stand_at r.stage r.declared r.draft.posted p ≡ false → after_judge None r line ≡ record r { bad = Some (reason_of r.stage line) }
+pub judged_bad : (r : Reader) (line : List ℕ) (p : Phrase) → phrase_at line ≡ Some p
+    → may_stand_at r.stage r.declared r.draft.posted p ≡ false → after_judge None r line ≡ record r { bad = Some (reason_of r.stage line) }
 judged_bad r line p e s =
     let told = told_bad r.stage r.declared r.draft.posted line (phrase_at line) p e s in
     ap (λ v. after_verdict r (cond v (judge_phrase_at r.stage r.declared r.draft.posted line (phrase_at line)) (Err reason.Bytes))) (said_is_printable line p e)

@@ -1,5 +1,6 @@
 -- What is kept of a line says as much as the line.
-use Rattle.std.proofs.Common.{◌≡◌, ℕ, zero, suc, ◌+◌, ◌-◌, ◌<◌, ◌≤◌, min, Bool, true, false, ◌&&◌, cond, eqb, leb, ltb, List, [], ◌∷◌, ◌++◌, length, take, drop, fold, Option, Some, None, Ok, Err, refl, sym, ap, subst, ◌∙◌, arith, inl, inr, ◌⊎◌, append_assoc, length-append}
+use Rattle.std.proofs.Common.{◌≡◌, ℕ, zero, suc, ◌+◌, ◌-◌, ◌<◌, ◌≤◌, min, Bool, true, false, ◌&&◌, cond, eqb, leb, ltb, List, [], ◌∷◌, ◌++◌, length, take}
+use Rattle.std.proofs.Common.{drop, fold, Option, Some, None, Ok, Err, refl, sym, ap, subst, ◌∙◌, arith, inl, inr, ◌⊎◌, append_assoc, length-append}
 use Rattle.std.specs.Prelude.{codes, option_map}
 use Rattle.std.specs.Str.{bytes_eq}
 use Rattle.std.proofs.lemmas.Bool.{cases_lt, lt-ltb}
@@ -80,35 +81,49 @@ not_word w s h = elim (bytes_eq w s) as (λ v. bytes_eq w s ≡ v → v ≡ fals
 ] refl
 
 long_word : (w : List ℕ) → 7 ≤ length w → word_reason w ≡ None
-long_word w h = rw (not_word w (codes "limit") (omega (arith, h)), not_word w (codes "client") (omega (arith, h)), not_word w (codes "native") (omega (arith, h)), not_word w (codes "proc") (omega (arith, h)), not_word w (codes "post") (omega (arith, h))) refl
+long_word w h = rw (
+  not_word w (codes "limit") (omega (arith, h)),
+  not_word w (codes "client") (omega (arith, h)),
+  not_word w (codes "native") (omega (arith, h)),
+  not_word w (codes "proc") (omega (arith, h)),
+  not_word w (codes "post") (omega (arith, h)),
+)
+    refl
 
 word_alike : (front x y : List ℕ) → 7 ≤ length front → word_reason (first_word (front ++ x)) ≡ word_reason (first_word (front ++ y))
 word_alike front x y h = elim (cases_lt (reach 32 front) (length front)) [
   | inl lt ↦ ap word_reason (first_in front x lt ∙ sym (first_in front y lt))
-  | inr ge ↦ long_word (first_word (front ++ x)) (omega (arith, h, first_past front x ge)) ∙ sym (long_word (first_word (front ++ y)) (omega (arith, h, first_past front y ge)))
+  | inr ge
+      ↦ long_word (first_word (front ++ x)) (omega (arith, h, first_past front x ge))
+      ∙ sym (long_word (first_word (front ++ y)) (omega (arith, h, first_past front y ge)))
 ]
 
 -- ---- What two lines declare that begin alike.
 
 -- after a word, both have nothing, or begin alike still
 abbrev AreBehind : List ℕ → List ℕ → List ℕ → List ℕ → Type 0
-AreBehind w front x y = (behind w (front ++ x) ≡ []) × (behind w (front ++ y) ≡ []) ⊎ ((f : List ℕ) × (length front ≡ length w + length f) × (behind w (front ++ x) ≡ f ++ x) × (behind w (front ++ y) ≡ f ++ y))
+AreBehind w front x y = (behind w (front ++ x) ≡ []) × (behind w (front ++ y) ≡ [])
+    ⊎ ((f : List ℕ) × (length front ≡ length w + length f) × (behind w (front ++ x) ≡ f ++ x) × (behind w (front ++ y) ≡ f ++ y))
 
 are_behind : (w front x y : List ℕ) → length w ≤ length front → AreBehind w front x y
 are_behind [] front x y h = inr (front, omega arith, refl, refl)
 are_behind (b ∷ bs) [] x y h = absurd (omega (arith, h))
-are_behind (b ∷ bs) (c ∷ cs) x y h = elim (eqb b c) as (λ v. (cond v (behind bs (cs ++ x)) [] ≡ []) × (cond v (behind bs (cs ++ y)) [] ≡ []) ⊎ ((f : List ℕ) × (length (c ∷ cs) ≡ length (b ∷ bs) + length f) × (cond v (behind bs (cs ++ x)) [] ≡ f ++ x) × (cond v (behind bs (cs ++ y)) [] ≡ f ++ y))) [
-  | true ↦ elim (are_behind bs cs x y (omega (arith, h))) [
-    | inl p ↦ inl p
-    | inr p ↦ inr (p.0, omega (arith, p.1), p.2, p.3)
-  ]
-  | false ↦ inl (refl, refl)
-]
+are_behind (b ∷ bs) (c ∷ cs) x y h = elim (eqb b c) as
+    (λ v. (cond v (behind bs (cs ++ x)) [] ≡ []) × (cond v (behind bs (cs ++ y)) [] ≡ [])
+    ⊎ ((f : List ℕ) × (length (c ∷ cs) ≡ length (b ∷ bs) + length f) × (cond v (behind bs (cs ++ x)) [] ≡ f ++ x) × (cond v (behind bs (cs ++ y)) [] ≡ f ++ y))) [
+      | true ↦ elim (are_behind bs cs x y (omega (arith, h))) [
+        | inl p ↦ inl p
+        | inr p ↦ inr (p.0, omega (arith, p.1), p.2, p.3)
+      ]
+      | false ↦ inl (refl, refl)
+    ]
 
 proc_alike : (front x y : List ℕ) → 1024 ≤ length front → proc_on (front ++ x) ≡ proc_on (front ++ y)
 proc_alike front x y h = elim (are_behind (codes "proc ") front x y (omega (arith, h))) [
   | inl p ↦ ap only_name (p.0 ∙ sym p.1)
-  | inr p ↦ ap only_name p.2 ∙ long_name (p.0 ++ x) (omega (arith, h, p.1, length-append p.0 x)) ∙ sym (ap only_name p.3 ∙ long_name (p.0 ++ y) (omega (arith, h, p.1, length-append p.0 y)))
+  | inr p
+      ↦ ap only_name p.2 ∙ long_name (p.0 ++ x) (omega (arith, h, p.1, length-append p.0 x))
+      ∙ sym (ap only_name p.3 ∙ long_name (p.0 ++ y) (omega (arith, h, p.1, length-append p.0 y)))
 ]
 
 native_alike : (front x y : List ℕ) → 1024 ≤ length front → native_on (front ++ x) ≡ native_on (front ++ y)
@@ -135,7 +150,8 @@ printable_append xs ys = list_all-append (λ b. leb 32 b && leb b 126) xs ys
 long_alike : (front x y : List ℕ) → 1024 ≤ length front → is_printable x ≡ is_printable y → Alike (front ++ x) (front ++ y)
 long_alike front x y h e = record {
   printable = printable_append front x ∙ ap (λ v. is_printable front && v) e ∙ sym (printable_append front y);
-  said = long_says_nothing (front ++ x) (omega (arith, h, length-append front x)) ∙ sym (long_says_nothing (front ++ y) (omega (arith, h, length-append front y)));
+  said = long_says_nothing (front ++ x) (omega (arith, h, length-append front x))
+      ∙ sym (long_says_nothing (front ++ y) (omega (arith, h, length-append front y)));
   word = word_alike front x y (omega (arith, h));
   procs = proc_alike front x y h;
   natives = native_alike front x y h;
@@ -163,7 +179,8 @@ kept_alike line = elim (cases_lt 1024 (length line)) [
       let long : length front ≡ 1024 = length-take-le 1024 line (omega (arith, lt)) in
       let whole : front ++ rest ≡ line = take-append-drop 1024 line in
       let same : kept_bytes line ≡ front ++ bad_mark (is_printable rest) = ap kept_bytes (sym whole) ∙ kept_long front rest long in
-      subst (λ l. Alike l line) (sym same) (subst (λ l. Alike (front ++ bad_mark (is_printable rest)) l) whole (long_alike front (bad_mark (is_printable rest)) rest (omega (arith, long)) (marked_is (is_printable rest))))
+      subst (λ l. Alike l line) (sym same) (subst (λ l. Alike (front ++ bad_mark (is_printable rest)) l) whole
+      (long_alike front (bad_mark (is_printable rest)) rest (omega (arith, long)) (marked_is (is_printable rest))))
 ]
 
 -- what is kept of a line that goes on
@@ -177,13 +194,22 @@ kept_on line more = elim (cases_lt 1024 (length line)) [
       let long : length front ≡ 1024 = length-take-le 1024 line (omega (arith, lt)) in
       let whole : front ++ rest ≡ line = take-append-drop 1024 line in
       let same : kept_bytes line ≡ front ++ mark = ap kept_bytes (sym whole) ∙ kept_long front rest long in
-      let clear : is_printable (mark ++ more) ≡ is_printable (rest ++ more) = printable_append mark more ∙ ap (λ v. v && is_printable more) (marked_is (is_printable rest)) ∙ sym (printable_append rest more) in
-      let left : kept_bytes (kept_bytes line ++ more) ≡ front ++ bad_mark (is_printable (mark ++ more)) = ap (λ l. kept_bytes (l ++ more)) same ∙ ap kept_bytes (append_assoc front mark more) ∙ kept_long front (mark ++ more) long in
-      let right : kept_bytes (line ++ more) ≡ front ++ bad_mark (is_printable (rest ++ more)) = ap (λ l. kept_bytes (l ++ more)) (sym whole) ∙ ap kept_bytes (append_assoc front rest more) ∙ kept_long front (rest ++ more) long in
+      let clear : is_printable (mark ++ more)
+      ≡ is_printable (rest ++ more) = printable_append mark more ∙ ap (λ v. v && is_printable more) (marked_is (is_printable rest))
+      ∙ sym (printable_append rest more) in
+      let left : kept_bytes (kept_bytes line ++ more)
+      ≡ front
+      ++ bad_mark (is_printable (mark ++ more)) = ap (λ l. kept_bytes (l ++ more)) same ∙ ap kept_bytes (append_assoc front mark more)
+      ∙ kept_long front (mark ++ more) long in
+      let right : kept_bytes (line ++ more)
+      ≡ front
+      ++ bad_mark (is_printable (rest ++ more)) = ap (λ l. kept_bytes (l ++ more)) (sym whole)
+      ∙ ap kept_bytes (append_assoc front rest more) ∙ kept_long front (rest ++ more) long in
       left ∙ ap (λ v. front ++ bad_mark v) clear ∙ sym right
 ]
 
-kept_cut : (t far : List ℕ) → 1024 ≤ length t ⊎ (far ≡ []) → kept_bytes (t ++ far) ≡ take (min (length t) 1024) t ++ bad_mark (is_printable (drop (min (length t) 1024) t) && is_printable far)
+kept_cut : (t far : List ℕ) → 1024 ≤ length t ⊎ (far ≡ [])
+    → kept_bytes (t ++ far) ≡ take (min (length t) 1024) t ++ bad_mark (is_printable (drop (min (length t) 1024) t) && is_printable far)
 unfolding kept_bytes
 kept_cut t far (inl ge) =
     let end : min (length t) 1024 ≡ 1024 = omega (arith, ge) in
@@ -191,29 +217,43 @@ kept_cut t far (inl ge) =
 kept_cut t far (inr none) = elim (cases_lt (length t) 1024) [
   | inl lt ↦
       let end : min (length t) 1024 ≡ length t = omega (arith, lt) in
-      rw (none, append-nil t, end, take_all 1024 t (omega (arith, lt)), drop_all 1024 t (omega (arith, lt)), take_all (length t) t (omega arith), drop_all (length t) t (omega arith)) refl
+      rw (
+        none,
+        append-nil t,
+        end,
+        take_all 1024 t (omega (arith, lt)),
+        drop_all 1024 t (omega (arith, lt)),
+        take_all (length t) t (omega arith),
+        drop_all (length t) t (omega arith),
+      )
+      refl
   | inr ge ↦
       let end : min (length t) 1024 ≡ 1024 = omega (arith, ge) in
       rw (end, take-append-le 1024 t far ge, drop-append-le 1024 t far ge, printable_append (drop 1024 t) far) refl
 ]
 
 -- one more part of a line, of which as much is put to the rest as there is room for
-pub kept_parts : (tail part t new : List ℕ) (room end : ℕ) (clear : Bool) → room ≡ min (1024 - length tail) (length part) → t ≡ tail ++ take room part → end ≡ min (length t) 1024
+pub kept_parts : (tail part t new : List ℕ) (room end : ℕ) (clear : Bool) → room ≡ min (1024 - length tail) (length part)
+    → t ≡ tail ++ take room part → end ≡ min (length t) 1024
     → clear ≡ (is_printable (drop end t) && is_printable (drop room part)) → new ≡ take end t ++ bad_mark clear → new ≡ kept_bytes (tail ++ part)
 kept_parts tail part t new room end clear r e n c k =
-    let whole : t ++ drop room part ≡ tail ++ part = ap (λ l. l ++ drop room part) e ∙ append_assoc tail (take room part) (drop room part) ∙ ap (λ l. tail ++ l) (take-append-drop room part) in
+    let whole : t ++ drop room part
+    ≡ tail
+    ++ part = ap (λ l. l ++ drop room part) e ∙ append_assoc tail (take room part) (drop room part) ∙ ap (λ l. tail ++ l) (take-append-drop room part) in
     let cut : 1024 ≤ length t ⊎ (drop room part ≡ []) = elim (cases_lt (1024 - length tail) (length part)) [
       | inl lt ↦ inl (omega (arith, lt, r, ap length e, length-append tail (take room part), length-take-le room part (omega (arith, lt, r))))
       | inr ge ↦ inr (drop_all room part (omega (arith, ge, r)))
     ] in
-    k ∙ ap (λ v. take end t ++ bad_mark v) c ∙ ap (λ m. take m t ++ bad_mark (is_printable (drop m t) && is_printable (drop room part))) n ∙ sym (kept_cut t (drop room part) cut) ∙ ap kept_bytes whole
+    k ∙ ap (λ v. take end t ++ bad_mark v) c ∙ ap (λ m. take m t ++ bad_mark (is_printable (drop m t) && is_printable (drop room part))) n
+    ∙ sym (kept_cut t (drop room part) cut) ∙ ap kept_bytes whole
 
 -- ---- A reader that takes one for the other.
 
 reason_alike : (a b : List ℕ) → Alike a b → (s : Stage) → reason_of s a ≡ reason_of s b
 reason_alike a b k s = λ i. reason_behind s (k.word i) (option_map (λ (p : Phrase). role_of p.op) (k.said i))
 
-told_alike : (a b : List ℕ) → Alike a b → (s : Stage) (known : Declared) (posted : List ℕ) (o : Option Phrase) → judge_phrase_at s known posted a o ≡ judge_phrase_at s known posted b o
+told_alike : (a b : List ℕ) → Alike a b → (s : Stage) (known : Declared) (posted : List ℕ) (o : Option Phrase)
+    → judge_phrase_at s known posted a o ≡ judge_phrase_at s known posted b o
 told_alike a b k s known posted None = ap (λ (why : Reason). Err why) (reason_alike a b k s)
 told_alike a b k s known posted (Some p) = ap (λ (why : Reason). cond (may_stand_at s known posted p) (Ok p) (Err why)) (reason_alike a b k s)
 
@@ -245,7 +285,8 @@ unfolding kept_bytes
 answer_kept r [] = refl
 answer_kept r (b ∷ bs) = by_cases (first_missing r.declared r.draft.script.names.procs r.mentions) r.bad
   where
-    by_cases : (o : Option ℕ) (bad : Option Reason) → answer_by o bad r (take 1024 (b ∷ bs) ++ bad_mark (is_printable (drop 1024 (b ∷ bs)))) ≡ answer_by o bad r (b ∷ bs)
+    by_cases : (o : Option ℕ) (bad : Option Reason)
+        → answer_by o bad r (take 1024 (b ∷ bs) ++ bad_mark (is_printable (drop 1024 (b ∷ bs)))) ≡ answer_by o bad r (b ∷ bs)
     by_cases (Some n) bad = refl
     by_cases None (Some why) = refl
     by_cases None None = refl
@@ -277,12 +318,15 @@ cut_push : (tail rest t : List ℕ) → IsTail tail → line_cut rest ≡ ([], t
 cut_push [] rest t h e = e
 cut_push (b ∷ tl) rest t h e = let i = tail_inv b tl h in rw (i.0, cut_push tl rest t i.1 e) refl
 
-pub kept_piece : (r : Reader) (t piece : List ℕ) → IsTail t → (lines_on r (kept_bytes t) piece ≡ lines_on r t piece) × (kept_bytes (line_cut (kept_bytes t ++ piece)).1 ≡ kept_bytes (line_cut (t ++ piece)).1)
+pub kept_piece : (r : Reader) (t piece : List ℕ) → IsTail t
+    → (lines_on r (kept_bytes t) piece ≡ lines_on r t piece) × (kept_bytes (line_cut (kept_bytes t ++ piece)).1 ≡ kept_bytes (line_cut (t ++ piece)).1)
 kept_piece r t piece h = by_lines (line_cut piece).0 (line_cut piece).1 refl
   where
     step_on : (line : List ℕ) → step r (kept_bytes t ++ line) ≡ step r (t ++ line)
     step_on line = sym (kept_step r (kept_bytes t ++ line)) ∙ ap (step r) (kept_on t line) ∙ kept_step r (t ++ line)
 
-    by_lines : (ls : List (List ℕ)) (tl : List ℕ) → line_cut piece ≡ (ls, tl) → (lines_on r (kept_bytes t) piece ≡ lines_on r t piece) × (kept_bytes (line_cut (kept_bytes t ++ piece)).1 ≡ kept_bytes (line_cut (t ++ piece)).1)
+    by_lines : (ls : List (List ℕ)) (tl : List ℕ) → line_cut piece ≡ (ls, tl)
+        → (lines_on r (kept_bytes t) piece ≡ lines_on r t piece) × (kept_bytes (line_cut (kept_bytes t ++ piece)).1 ≡ kept_bytes (line_cut (t ++ piece)).1)
     by_lines [] tl e = rw (cut_push (kept_bytes t) piece tl (kept_tail t h) e, cut_push t piece tl h e) (refl, kept_on t tl)
-    by_lines (l ∷ ls) tl e = rw (cut_push_line (kept_bytes t) piece l ls tl (kept_tail t h) e, cut_push_line t piece l ls tl h e) (ap (λ (q : Reader). fold step q ls) (step_on l), refl)
+    by_lines (l ∷ ls) tl e = rw (cut_push_line (kept_bytes t) piece l ls tl (kept_tail t h) e, cut_push_line t piece l ls tl h e)
+        (ap (λ (q : Reader). fold step q ls) (step_on l), refl)

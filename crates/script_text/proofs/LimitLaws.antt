@@ -1,5 +1,6 @@
 -- A script that is read is within the limits of a pod.
-use Rattle.std.proofs.Common.{◌≡◌, ℕ, suc, ◌+◌, ◌^◌, ◌<◌, ◌≤◌, Bool, true, false, not, ◌&&◌, cond, leb, List, [], ◌∷◌, ◌++◌, length, fold, Option, Some, None, Result, Ok, Err, refl, sym, ap, subst, arith, append_assoc, length-append}
+use Rattle.std.proofs.Common.{◌≡◌, ℕ, suc, ◌+◌, ◌^◌, ◌<◌, ◌≤◌, Bool, true, false, not, ◌&&◌, cond, leb, List, [], ◌∷◌, ◌++◌, length}
+use Rattle.std.proofs.Common.{fold, Option, Some, None, Result, Ok, Err, refl, sym, ap, subst, arith, append_assoc, length-append}
 use Rattle.std.specs.Prelude.{IfOk, option_to_list}
 use Rattle.std.specs.List.{AllByRecursion}
 use Rattle.std.proofs.lemmas.Bool.{leb-true}
@@ -21,9 +22,11 @@ use Rattle.script_lines.specs.Phrase.{Phrase}
 use Rattle.script_lines.proofs.TableLaws.{only_of_role}
 use Rattle.script_lines.specs.Table.{row_of, role_of, slots_of}
 use Rattle.script_lines.specs.Line.{phrase_text, SlotFits, IsPhrase, IsLine}
-use Rattle.script_text.specs.Grammar.{declared_of, posted_of, stage_behind_first, stage_after, stage_of, follows, keeps_rule, may_stand, AllStand, spelling, SpelledBy, Spells}
+use Rattle.script_text.specs.Grammar.{declared_of, posted_of, stage_behind_first, stage_after, stage_of, follows}
+use Rattle.script_text.specs.Grammar.{keeps_rule, may_stand, AllStand, spelling, SpelledBy, Spells}
 use Rattle.script_text.specs.Limits.{IsWithinLimits}
-use Rattle.script_text.specs.Meaning.{contains_name, is_some_text, enter, statement_of, with_statement, after_push, native_kind, empty_draft, after_name, places_of, after_enter, after_add_at, after_add, draft_of, script_of}
+use Rattle.script_text.specs.Meaning.{contains_name, is_some_text, enter, statement_of, with_statement, after_push, native_kind, empty_draft}
+use Rattle.script_text.specs.Meaning.{after_name, places_of, after_enter, after_add_at, after_add, draft_of, script_of}
 use Rattle.script_lines.proofs.WordLemmas.{both}
 use Rattle.script_text.proofs.TrackLaws.{fold_push, stage_push}
 
@@ -58,7 +61,8 @@ record Few (n : ℕ) (d : Draft) : Type 0 where
   mons : length d.script.names.mons ≤ n
   conds : length d.script.names.conds ≤ n
 
-few_entered : (n : ℕ) (d : Draft) (p : Phrase) → Few n d → Few (suc n) (after_enter d p) × (procs_in (after_enter d p) ≤ n) × (length (after_enter d p).script.natives ≤ n)
+few_entered : (n : ℕ) (d : Draft) (p : Phrase) → Few n d
+    → Few (suc n) (after_enter d p) × (procs_in (after_enter d p) ≤ n) × (length (after_enter d p).script.natives ≤ n)
 few_entered n d p h = (
   record {
     procs = omega (arith, h.procs);
@@ -72,19 +76,38 @@ few_entered n d p h = (
 )
 
 few_pushed : (n : ℕ) (at : Places) (d : Draft) (p : Phrase) → Few n d → Few n (after_push at d p)
-few_pushed n at d p h = record { procs = omega (arith, h.procs, grown_alike (statement_of p.op at p) d.current); natives = h.natives; threads = h.threads; mons = h.mons; conds = h.conds }
+few_pushed n at d p h = record {
+  procs = omega (arith, h.procs, grown_alike (statement_of p.op at p) d.current);
+  natives = h.natives;
+  threads = h.threads;
+  mons = h.mons;
+  conds = h.conds;
+}
 
 current_short : (o : Option Proc) → length (option_to_list o) ≤ 1
 current_short None = omega arith
 current_short (Some p) = omega arith
 
-few_more : (r : Role) (n : ℕ) (at : Places) (d : Draft) (p : Phrase) → Few (suc n) d → procs_in d ≤ n → length d.script.natives ≤ n → Few (suc n) (after_add_at r at d p)
+few_more : (r : Role) (n : ℕ) (at : Places) (d : Draft) (p : Phrase) → Few (suc n) d → procs_in d ≤ n → length d.script.natives ≤ n
+    → Few (suc n) (after_add_at r at d p)
 few_more role.Header n at d p h procs natives = h
 few_more role.Pod n at d p h procs natives = record { procs = h.procs; natives = h.natives; threads = h.threads; mons = h.mons; conds = h.conds }
 few_more role.Limit n at d p h procs natives = record { procs = h.procs; natives = h.natives; threads = h.threads; mons = h.mons; conds = h.conds }
 few_more role.Client n at d p h procs natives = record { procs = h.procs; natives = h.natives; threads = h.threads; mons = h.mons; conds = h.conds }
-few_more role.Native n at d p h procs natives = record { procs = h.procs; natives = omega (arith, natives, length-append d.script.natives (record { name = at.procedure; kind = native_kind p.event at.thread } ∷ [])); threads = h.threads; mons = h.mons; conds = h.conds }
-few_more role.Proc n at d p h procs natives = record { procs = omega (arith, procs, length-append d.script.procs (option_to_list d.current)); natives = h.natives; threads = h.threads; mons = h.mons; conds = h.conds }
+few_more role.Native n at d p h procs natives = record {
+  procs = h.procs;
+  natives = omega (arith, natives, length-append d.script.natives (record { name = at.procedure; kind = native_kind p.event at.thread } ∷ []));
+  threads = h.threads;
+  mons = h.mons;
+  conds = h.conds;
+}
+few_more role.Proc n at d p h procs natives = record {
+  procs = omega (arith, procs, length-append d.script.procs (option_to_list d.current));
+  natives = h.natives;
+  threads = h.threads;
+  mons = h.mons;
+  conds = h.conds;
+}
 few_more role.Post n at d p h procs natives = record { procs = h.procs; natives = h.natives; threads = h.threads; mons = h.mons; conds = h.conds }
 few_more role.Statement n at d p h procs natives = few_pushed (suc n) at d p h
 few_more role.Skip n at d p h procs natives = few_pushed (suc n) at d p h
@@ -147,8 +170,10 @@ comes_late role.Skip = true
 comes_late role.Again = true
 
 behind_pod : (s : Stage) (r : Role) (m held : ℕ) → comes_late r ≡ true → follows s r ≡ true → Ranked s m held → Ranks m
-behind_pod stages.Start r m held l f h = elim r as (λ x. comes_late x ≡ true → follows stages.Start x ≡ true → Ranks m) [ role.Header ↦ λ i j. absurd cc | role.Pod ↦ λ i j. absurd cc | _ ↦ λ i j. absurd cc ] l f
-behind_pod stages.Header r m held l f h = elim r as (λ x. comes_late x ≡ true → follows stages.Header x ≡ true → Ranks m) [ role.Header ↦ λ i j. absurd cc | role.Pod ↦ λ i j. absurd cc | _ ↦ λ i j. absurd cc ] l f
+behind_pod stages.Start r m held l f h = elim r as (λ x. comes_late x ≡ true → follows stages.Start x ≡ true → Ranks m)
+    [ role.Header ↦ λ i j. absurd cc | role.Pod ↦ λ i j. absurd cc | _ ↦ λ i j. absurd cc ] l f
+behind_pod stages.Header r m held l f h = elim r as (λ x. comes_late x ≡ true → follows stages.Header x ≡ true → Ranks m)
+    [ role.Header ↦ λ i j. absurd cc | role.Pod ↦ λ i j. absurd cc | _ ↦ λ i j. absurd cc ] l f
 behind_pod stages.Pod r m held l f h = h
 behind_pod stages.Clients r m held l f h = h
 behind_pod stages.Natives r m held l f h = h
@@ -221,8 +246,11 @@ priority_kept role.Skip at d p l = refl
 priority_kept role.Again at d p l = refl
 
 -- one more line that may stand
-ranked_more : (r : Role) (s : Stage) (known : Declared) (posted : List ℕ) (at : Places) (d : Draft) (p : Phrase) → (follows s r && keeps_rule known posted r p) ≡ true → Ranked s d.script.maxpri (procs_in d) → Ranked (stage_after s r) (after_add_at r at d p).script.maxpri (procs_in (after_add_at r at d p))
-ranked_more role.Header s known posted at d p t h = header_first s d.script.maxpri (procs_in d) (both (follows s role.Header) (keeps_rule known posted role.Header p) t).0 h
+ranked_more : (r : Role) (s : Stage) (known : Declared) (posted : List ℕ) (at : Places) (d : Draft) (p : Phrase)
+    → (follows s r && keeps_rule known posted r p) ≡ true → Ranked s d.script.maxpri (procs_in d)
+    → Ranked (stage_after s r) (after_add_at r at d p).script.maxpri (procs_in (after_add_at r at d p))
+ranked_more role.Header s known posted at d p t h =
+    header_first s d.script.maxpri (procs_in d) (both (follows s role.Header) (keeps_rule known posted role.Header p) t).0 h
 ranked_more role.Pod s known posted at d p t h =
     let u = both (leb 1 p.number) (leb p.number 255) (both (follows s role.Pod) (keeps_rule known posted role.Pod p) t).1 in
     (leb-true 1 p.number u.0, leb-true p.number 255 u.1)
@@ -231,10 +259,12 @@ ranked_more role.Limit s known posted at d p t h =
     late_ranked s role.Limit d.script.maxpri (procs_in (after_add_at role.Limit at d p)) refl (behind_pod s role.Limit d.script.maxpri (procs_in d) refl f h) f
 ranked_more role.Client s known posted at d p t h =
     let f = (both (follows s role.Client) (keeps_rule known posted role.Client p) t).0 in
-    late_ranked s role.Client d.script.maxpri (procs_in (after_add_at role.Client at d p)) refl (behind_pod s role.Client d.script.maxpri (procs_in d) refl f h) f
+    late_ranked s role.Client d.script.maxpri (procs_in (after_add_at role.Client at d p)) refl
+    (behind_pod s role.Client d.script.maxpri (procs_in d) refl f h) f
 ranked_more role.Native s known posted at d p t h =
     let f = (both (follows s role.Native) (keeps_rule known posted role.Native p) t).0 in
-    late_ranked s role.Native d.script.maxpri (procs_in (after_add_at role.Native at d p)) refl (behind_pod s role.Native d.script.maxpri (procs_in d) refl f h) f
+    late_ranked s role.Native d.script.maxpri (procs_in (after_add_at role.Native at d p)) refl
+    (behind_pod s role.Native d.script.maxpri (procs_in d) refl f h) f
 ranked_more role.Proc s known posted at d p t h =
     let f = (both (follows s role.Proc) (keeps_rule known posted role.Proc p) t).0 in
     late_ranked s role.Proc d.script.maxpri (procs_in (after_add_at role.Proc at d p)) refl (behind_pod s role.Proc d.script.maxpri (procs_in d) refl f h) f
@@ -243,7 +273,8 @@ ranked_more role.Post s known posted at d p t h =
     late_ranked s role.Post d.script.maxpri (procs_in (after_add_at role.Post at d p)) refl (behind_pod s role.Post d.script.maxpri (procs_in d) refl f h) f
 ranked_more role.Statement s known posted at d p t h =
     let f = (both (follows s role.Statement) (keeps_rule known posted role.Statement p) t).0 in
-    late_ranked s role.Statement d.script.maxpri (procs_in (after_add_at role.Statement at d p)) refl (behind_pod s role.Statement d.script.maxpri (procs_in d) refl f h) f
+    late_ranked s role.Statement d.script.maxpri (procs_in (after_add_at role.Statement at d p)) refl
+    (behind_pod s role.Statement d.script.maxpri (procs_in d) refl f h) f
 ranked_more role.Skip s known posted at d p t h =
     let f = (both (follows s role.Skip) (keeps_rule known posted role.Skip p) t).0 in
     late_ranked s role.Skip d.script.maxpri (procs_in (after_add_at role.Skip at d p)) refl (behind_pod s role.Skip d.script.maxpri (procs_in d) refl f h) f
@@ -258,7 +289,8 @@ AreRanked lines = Ranked (stage_of lines) (draft_of lines).script.maxpri (procs_
 ranked_push : (before : List Phrase) (p : Phrase) → may_stand before p ≡ true → AreRanked before → AreRanked (before ++ p ∷ [])
 ranked_push before p s h =
     let d = draft_of before in
-    let more = ranked_more (role_of p.op) (stage_of before) (declared_of before) (posted_of before) (places_of (after_name d.script.names p) d.script.texts p) (after_enter d p) p s h in
+    let more = ranked_more (role_of p.op) (stage_of before) (declared_of before) (posted_of before)
+    (places_of (after_name d.script.names p) d.script.texts p) (after_enter d p) p s h in
     rw (stage_push before p, fold_push after_add empty_draft before p) more
 
 ranked_on : (before ps : List Phrase) → AllStand before ps → AreRanked before → AreRanked (before ++ ps)
@@ -276,7 +308,8 @@ limit_fits : (o : Op) (p : Phrase) → role_of o ≡ role.Limit → AllByRecursi
 unfolding row_of
 limit_fits o p e h = (subst (λ x. AllByRecursion (SlotFits p) (slots_of x)) (only_of_role role.Limit op.Limit refl o e) h).0
 
-bears_more : (r : Role) (known : Declared) (posted : List ℕ) (at : Places) (d : Draft) (p : Phrase) → role_of p.op ≡ r → keeps_rule known posted r p ≡ true → IsPhrase p → Bears d → Bears (after_add_at r at d p)
+bears_more : (r : Role) (known : Declared) (posted : List ℕ) (at : Places) (d : Draft) (p : Phrase) → role_of p.op ≡ r
+    → keeps_rule known posted r p ≡ true → IsPhrase p → Bears d → Bears (after_add_at r at d p)
 bears_more role.Header known posted at d p e k f h = h
 bears_more role.Pod known posted at d p e k f h = h
 bears_more role.Limit known posted at d p e k f h = (leb-true 1 p.number k, limit_fits p.op p e f)
@@ -294,7 +327,8 @@ bears_on before (p ∷ ps) s l h =
     let r = role_of p.op in
     let d = draft_of before in
     let k = (both (follows (stage_of before) r) (keeps_rule (declared_of before) (posted_of before) r p) s.0).1 in
-    let one = bears_more r (declared_of before) (posted_of before) (places_of (after_name d.script.names p) d.script.texts p) (after_enter d p) p refl k l.0.0 h in
+    let one = bears_more r (declared_of before) (posted_of before) (places_of (after_name d.script.names p) d.script.texts p)
+    (after_enter d p) p refl k l.0.0 h in
     let more : Bears (draft_of (before ++ p ∷ [])) = rw (fold_push after_add empty_draft before p) one in
     subst (λ (x : List Phrase). Bears (draft_of x)) (append_assoc before (p ∷ []) ps) (bears_on (before ++ p ∷ []) ps s.1 l.1 more)
 

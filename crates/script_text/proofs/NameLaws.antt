@@ -1,5 +1,6 @@
 -- Names that are found by their bytes.
-use Rattle.std.proofs.Common.{◌≡◌, ℕ, suc, Bool, true, false, ◌&&◌, ◌||◌, cond, List, [], ◌∷◌, ◌++◌, length, Option, Some, None, is_some, option_map, refl, sym, ap, ◌∙◌}
+use Rattle.std.proofs.Common.{◌≡◌, ℕ, suc, Bool, true, false, ◌&&◌, ◌||◌, cond, List, [], ◌∷◌, ◌++◌}
+use Rattle.std.proofs.Common.{length, Option, Some, None, is_some, option_map, refl, sym, ap, ◌∙◌}
 use Rattle.std.specs.Prelude.{Result, Ok, Err, OnErr, OnOk}
 use Rattle.std.specs.Str.{bytes_eq}
 use Rattle.std.specs.Cmp.Lexicographic.{bytes_decides, nat_list_eq_equiv}
@@ -79,7 +80,8 @@ pushed (n ∷ ns) w new v = by (bytes_eq n v) refl (pushed ns w (neither (bytes_
     apart h = nat_list_eq_equiv.symm w v ∙ sym (nat_list_eq_equiv.congr n v w h) ∙ (neither (bytes_eq n w) (contains_name ns w) new).0
 
     by : (b : Bool) → bytes_eq n v ≡ b → place_in (ns ++ w ∷ []) v ≡ cond (bytes_eq w v) (Some (length ns)) (place_in ns v)
-        → cond b (Some 0) (option_map suc (place_in (ns ++ w ∷ []) v)) ≡ cond (bytes_eq w v) (Some (suc (length ns))) (cond b (Some 0) (option_map suc (place_in ns v)))
+        → cond b (Some 0) (option_map suc (place_in (ns ++ w ∷ []) v))
+        ≡ cond (bytes_eq w v) (Some (suc (length ns))) (cond b (Some 0) (option_map suc (place_in ns v)))
     by true h later = sym (λ i. cond (apart h i) (Some (suc (length ns))) (Some 0))
     by false h later = ap (option_map suc) later ∙ raised (bytes_eq w v) (length ns) (place_in ns v)
 

@@ -1,5 +1,6 @@
 -- A number says which digits it has.
-use Rattle.std.proofs.Common.{Bool, List, None, Some, [], ap, arith, cond, drop, false, get_or, length, refl, subst, suc, sym, true, zero, ℕ, ◌+◌, ◌*◌, ◌-◌, ◌<◌, ◌∙◌, ◌∷◌, ◌≡◌, ◌≤◌}
+use Rattle.std.proofs.Common.{Bool, List, None, Some, [], ap, arith, cond, drop, false, get_or, length, refl}
+use Rattle.std.proofs.Common.{subst, suc, sym, true, zero, ℕ, ◌+◌, ◌*◌, ◌-◌, ◌<◌, ◌∙◌, ◌∷◌, ◌≡◌, ◌≤◌}
 use Rattle.std.proofs.lemmas.Bool.{lt-ltb, ltb-true}
 use Rattle.std.proofs.lemmas.List.{drop_more, length-drop}
 use Rattle.std.specs.Cmp.{first_so, second_so}
@@ -86,7 +87,8 @@ pub read_more : (word : List ℕ) (number at byte : ℕ) → 0 < at → at ≤ l
 read_more word number at byte some within short here more few digits full =
     let step = back word at some within in
     let is : is_digit byte ≡ true = both (nat_lt 0 byte) (nat_lt byte 256) (lt-ltb 0 byte more) (lt-ltb byte 256 few) in
-    let all : is_full (drop (at - 1) word) ≡ true = ap is_full step ∙ both (is_digit (get_or word (at - 1) 0)) (is_full (drop at word)) (ap is_digit (sym here) ∙ is) full in
+    let all : is_full (drop (at - 1) word)
+    ≡ true = ap is_full step ∙ both (is_digit (get_or word (at - 1) 0)) (is_full (drop at word)) (ap is_digit (sym here) ∙ is) full in
     let sum : of_digits (drop (at - 1) word) ≡ get_or word (at - 1) 0 + 256 * of_digits (drop at word) = ap of_digits step in
     let same : number * 256 + byte ≡ of_digits (drop (at - 1) word) = omega (arith, sum, here, digits) in
     record {

@@ -1,5 +1,6 @@
 -- What a line that says something is besides: it declares what its phrase does.
-use Rattle.std.proofs.Common.{◌≡◌, ℕ, suc, true, false, not, ◌||◌, cond, eqb, ltb, List, [], ◌∷◌, ◌++◌, length, take, Option, Some, None, is_none, refl, ap, subst, ◌∙◌, arith, length-append}
+use Rattle.std.proofs.Common.{◌≡◌, ℕ, suc, true, false, not, ◌||◌, cond, eqb, ltb, List, [], ◌∷◌, ◌++◌, length}
+use Rattle.std.proofs.Common.{take, Option, Some, None, is_none, refl, ap, subst, ◌∙◌, arith, length-append}
 use Rattle.std.specs.List.{flat_map, AllByRecursion}
 use Rattle.std.proofs.lemmas.Bool.{lt-ltb}
 use Rattle.std.proofs.lemmas.List.{append-nil, take_at}
@@ -28,11 +29,12 @@ spaced_name w rest h =
 
 phrase_declares : (d : Declared) (p : Phrase) → IsPhrase p → after_note d (phrase_text p) ≡ declares (role_of p.op) d p
 unfolding row_of
-phrase_declares d p h = elim p.op as (λ o. AllByRecursion (SlotFits p) (slots_of o) → after_note d (key_of o ++ flat_map (slot_text p) (slots_of o)) ≡ declares (role_of o) d p) [
-  | op.Native ↦ λ f. rw (append-nil (32 ∷ built_text p.event p.thread), spaced_name p.procedure (built_text p.event p.thread) f.0, f.0) refl
-  | op.Proc ↦ λ f. rw (append-nil p.procedure, f.0) refl
-  | _ ↦ λ f. refl
-] h
+phrase_declares d p h = elim p.op as
+    (λ o. AllByRecursion (SlotFits p) (slots_of o) → after_note d (key_of o ++ flat_map (slot_text p) (slots_of o)) ≡ declares (role_of o) d p) [
+      | op.Native ↦ λ f. rw (append-nil (32 ∷ built_text p.event p.thread), spaced_name p.procedure (built_text p.event p.thread) f.0, f.0) refl
+      | op.Proc ↦ λ f. rw (append-nil p.procedure, f.0) refl
+      | _ ↦ λ f. refl
+    ] h
 
 pub said_declares : (d : Declared) (line : List ℕ) (p : Phrase) → phrase_at line ≡ Some p → after_note d line ≡ declares (role_of p.op) d p
 said_declares d line p e = let f = phrase_found line p e in ap (after_note d) f.1 ∙ phrase_declares d p f.0
@@ -52,9 +54,12 @@ pub starting_word : (line : List ℕ) (p : Phrase) → phrase_at line ≡ Some p
 unfolding row_of
 starting_word line p e s =
     let f = phrase_found line p e in
-    let by_table : (not (starts p.op) || is_none (word_reason (first_word (key_of p.op)))) ≡ true = on_all (λ o. not (starts o) || is_none (word_reason (first_word (key_of o)))) refl p.op in
-    let first : first_word line ≡ first_word (key_of p.op) = ap first_word f.1 ∙ first_of_key (key_of p.op) (flat_map (slot_text p) (slots_of p.op)) (stops_there _ (slots_stop p)) in
-    ap word_reason first ∙ none_of (word_reason (first_word (key_of p.op))) (subst (λ b. (not b || is_none (word_reason (first_word (key_of p.op)))) ≡ true) s by_table)
+    let by_table : (not (starts p.op) || is_none (word_reason (first_word (key_of p.op))))
+    ≡ true = on_all (λ o. not (starts o) || is_none (word_reason (first_word (key_of o)))) refl p.op in
+    let first : first_word line
+    ≡ first_word (key_of p.op) = ap first_word f.1 ∙ first_of_key (key_of p.op) (flat_map (slot_text p) (slots_of p.op)) (stops_there _ (slots_stop p)) in
+    ap word_reason first
+    ∙ none_of (word_reason (first_word (key_of p.op))) (subst (λ b. (not b || is_none (word_reason (first_word (key_of p.op)))) ≡ true) s by_table)
   where
     none_of : (o : Option Reason) → is_none o ≡ true → o ≡ None
     none_of None h = refl

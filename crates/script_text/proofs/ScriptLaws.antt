@@ -1,5 +1,6 @@
 -- The verdict on a text is a script exactly where the text spells it.
-use Rattle.std.proofs.Common.{◌≡◌, ℕ, suc, ◌<◌, ◌≤◌, true, false, ◌&&◌, cond, eqb, leb, ltb, fold, List, [], ◌∷◌, ◌++◌, length, map, Some, None, Result, Ok, Err, refl, sym, ap, subst, ◌∙◌, arith, append_assoc}
+use Rattle.std.proofs.Common.{◌≡◌, ℕ, suc, ◌<◌, ◌≤◌, true, false, ◌&&◌, cond, eqb, leb, ltb, fold, List, [], ◌∷◌, ◌++◌, length}
+use Rattle.std.proofs.Common.{map, Some, None, Result, Ok, Err, refl, sym, ap, subst, ◌∙◌, arith, append_assoc}
 use Rattle.std.specs.Prelude.{IsTrue, IfOk}
 use Rattle.std.specs.List.{flat_map, AllByRecursion}
 use Rattle.std.proofs.lemmas.Bool.{leb-true, le-ltb, ltb-false, ne_eqb, eqb-false, eqb-true}
@@ -17,7 +18,8 @@ use Rattle.script_lines.specs.Reading.{phrase_at}
 use Rattle.script_text.specs.Meaning.{script_of}
 use Rattle.script_lines.specs.Line.{phrase_text, IsLine, with_newline}
 use Rattle.script_text.specs.Grammar.{declares, declared_of, nothing, may_stand, is_declared, AllStand, spelling, SpelledBy, Spells}
-use Rattle.script_text.specs.Spelling.{onto_first, line_cut, reason_at, judge_phrase, judge, at_line, read_on, after_note, declared_in, finish, verdict_by, verdict, Gives, IsReadAs}
+use Rattle.script_text.specs.Spelling.{onto_first, line_cut, reason_at, judge_phrase, judge, at_line, read_on, after_note}
+use Rattle.script_text.specs.Spelling.{declared_in, finish, verdict_by, verdict, Gives, IsReadAs}
 use Rattle.script_lines.proofs.WordLemmas.{both}
 use Rattle.script_lines.proofs.PhraseLaws.{phrase_found, phrase_again, phrase_needed}
 use Rattle.script_lines.proofs.PrintableLaws.{phrase_is_printable}
@@ -32,10 +34,12 @@ AllDeclared d ps = AllByRecursion (λ p. IsTrue (is_declared d p)) ps
 line_again : (p : Phrase) → IsLine p → phrase_at (phrase_text p) ≡ Some p
 line_again p h = phrase_again p h.0 ∙ ap (λ (q : Phrase). Some q) h.1
 
-pub judge_again : (d : Declared) (before : List Phrase) (p : Phrase) → IsLine p → may_stand before p ≡ true → is_declared d p ≡ true → judge d before (phrase_text p) ≡ Ok p
+pub judge_again : (d : Declared) (before : List Phrase) (p : Phrase) → IsLine p → may_stand before p ≡ true → is_declared d p ≡ true
+    → judge d before (phrase_text p) ≡ Ok p
 judge_again d before p h s a = rw (phrase_is_printable p h.0, line_again p h, s, a) refl
 
-read_again : (d : Declared) (before ps : List Phrase) → AllByRecursion IsLine ps → AllStand before ps → AllDeclared d ps → read_on d before (map phrase_text ps) ≡ Ok (before ++ ps)
+read_again : (d : Declared) (before ps : List Phrase) → AllByRecursion IsLine ps → AllStand before ps → AllDeclared d ps
+    → read_on d before (map phrase_text ps) ≡ Ok (before ++ ps)
 read_again d before [] h s a = rw append-nil refl
 read_again d before (p ∷ ps) h s a =
     rw (judge_again d before p h.0 s.0 a.0) (read_again d (before ++ p ∷ []) ps h.1 s.1 a.1 ∙ ap (λ (l : List Phrase). Ok l) (append_assoc before (p ∷ []) ps))
@@ -54,9 +58,11 @@ cut_again (p ∷ ps) h =
     rw (append_assoc (phrase_text p) (10 ∷ []) (spelling ps), cut_line (phrase_text p) (spelling ps) (phrase_is_printable p h.0.0), cut_again ps h.1) refl
 
 -- what the lines of a text declare is what its phrases declare
-declared_on : (d : Declared) (ps : List Phrase) → AllByRecursion IsLine ps → fold after_note d (map phrase_text ps) ≡ fold (λ (x : Declared) (p : Phrase). declares (role_of p.op) x p) d ps
+declared_on : (d : Declared) (ps : List Phrase) → AllByRecursion IsLine ps
+    → fold after_note d (map phrase_text ps) ≡ fold (λ (x : Declared) (p : Phrase). declares (role_of p.op) x p) d ps
 declared_on d [] h = refl
-declared_on d (p ∷ ps) h = ap (λ (x : Declared). fold after_note x (map phrase_text ps)) (said_declares d (phrase_text p) p (line_again p h.0)) ∙ declared_on (declares (role_of p.op) d p) ps h.1
+declared_on d (p ∷ ps) h = ap (λ (x : Declared). fold after_note x (map phrase_text ps)) (said_declares d (phrase_text p) p (line_again p h.0))
+    ∙ declared_on (declares (role_of p.op) d p) ps h.1
 
 nothing_more : (d : Declared) → after_note d [] ≡ d
 nothing_more d = refl
@@ -97,38 +103,45 @@ pub record Judged (d : Declared) (before : List Phrase) (line : List ℕ) (p : P
   pub declares : is_declared d p ≡ true
 
 pub judge_found : (d : Declared) (before : List Phrase) (line : List ℕ) (p : Phrase) → judge d before line ≡ Ok p → Judged d before line p
-judge_found d before line p e = elim (is_printable line) as (λ v. is_printable line ≡ v → cond v (judge_phrase d before line (phrase_at line)) (Err reason.Bytes) ≡ Ok p → Judged d before line p) [
-  | false ↦ λ i f. absurd cc
-  | true ↦ λ i f. elim (phrase_at line) as (λ o. phrase_at line ≡ o → judge_phrase d before line o ≡ Ok p → Judged d before line p) [
-    | None ↦ λ j g. absurd cc
-    | Some q ↦ λ j g. elim (may_stand before q && is_declared d q) as (λ v. (may_stand before q && is_declared d q) ≡ v → cond v (Ok q) (Err (reason_at before line)) ≡ Ok p → Judged d before line p) [
-      | false ↦ λ k h. absurd cc
-      | true ↦ λ k h.
-          let same : q ≡ p = cc in
-          let t = phrase_found line q j in
-          let u = both (may_stand before q) (is_declared d q) k in
-          subst (Judged d before line) same (record { is_line = (t.0, phrase_needed line q j); text_is = t.1; stands = u.0; declares = u.1 })
-    ] refl g
-  ] refl f
-] refl e
+judge_found d before line p e = elim (is_printable line) as
+    (λ v. is_printable line ≡ v → cond v (judge_phrase d before line (phrase_at line)) (Err reason.Bytes) ≡ Ok p → Judged d before line p) [
+      | false ↦ λ i f. absurd cc
+      | true ↦ λ i f. elim (phrase_at line) as (λ o. phrase_at line ≡ o → judge_phrase d before line o ≡ Ok p → Judged d before line p) [
+        | None ↦ λ j g. absurd cc
+        | Some q
+            ↦ λ j g. elim (may_stand before q && is_declared d q) as
+            (λ v. (may_stand before q && is_declared d q) ≡ v → cond v (Ok q) (Err (reason_at before line)) ≡ Ok p → Judged d before line p) [
+              | false ↦ λ k h. absurd cc
+              | true ↦ λ k h.
+                  let same : q ≡ p = cc in
+                  let t = phrase_found line q j in
+                  let u = both (may_stand before q) (is_declared d q) k in
+                  subst (Judged d before line) same (record { is_line = (t.0, phrase_needed line q j); text_is = t.1; stands = u.0; declares = u.1 })
+            ] refl g
+      ] refl f
+    ] refl e
 
-pub read_found : (d : Declared) (before : List Phrase) (lines : List (List ℕ)) (all : List Phrase) → read_on d before lines ≡ Ok all → (more : List Phrase) × Read d before lines all more
-read_found d before [] all e = ([], record { all_is = (let same : before ≡ all = cc in sym same ∙ sym (append-nil before)); texts = refl; are_lines = tt; stand = tt; declared = tt })
-read_found d before (l ∷ ls) all e = elim (judge d before l) as (λ r. judge d before l ≡ r → at_line (suc (length before)) r (λ p. read_on d (before ++ p ∷ []) ls) ≡ Ok all → (more : List Phrase) × Read d before (l ∷ ls) all more) [
-  | Err x ↦ λ i f. absurd cc
-  | Ok p ↦ λ i f.
-      let j = judge_found d before l p i in
-      let r = read_found d (before ++ p ∷ []) ls all f in (
-        p ∷ r.0,
-        record {
-          all_is = r.1.all_is ∙ append_assoc before (p ∷ []) r.0;
-          texts = ap (λ (x : List ℕ). x ∷ ls) j.text_is ∙ ap (λ (x : List (List ℕ)). phrase_text p ∷ x) r.1.texts;
-          are_lines = (j.is_line, r.1.are_lines);
-          stand = (j.stands, r.1.stand);
-          declared = (j.declares, r.1.declared);
-        },
-      )
-] refl e
+pub read_found : (d : Declared) (before : List Phrase) (lines : List (List ℕ)) (all : List Phrase) → read_on d before lines ≡ Ok all
+    → (more : List Phrase) × Read d before lines all more
+read_found d before [] all e =
+    ([], record { all_is = (let same : before ≡ all = cc in sym same ∙ sym (append-nil before)); texts = refl; are_lines = tt; stand = tt; declared = tt })
+read_found d before (l ∷ ls) all e = elim (judge d before l) as
+    (λ r. judge d before l ≡ r → at_line (suc (length before)) r (λ p. read_on d (before ++ p ∷ []) ls) ≡ Ok all
+    → (more : List Phrase) × Read d before (l ∷ ls) all more) [
+      | Err x ↦ λ i f. absurd cc
+      | Ok p ↦ λ i f.
+          let j = judge_found d before l p i in
+          let r = read_found d (before ++ p ∷ []) ls all f in (
+            p ∷ r.0,
+            record {
+              all_is = r.1.all_is ∙ append_assoc before (p ∷ []) r.0;
+              texts = ap (λ (x : List ℕ). x ∷ ls) j.text_is ∙ ap (λ (x : List (List ℕ)). phrase_text p ∷ x) r.1.texts;
+              are_lines = (j.is_line, r.1.are_lines);
+              stand = (j.stands, r.1.stand);
+              declared = (j.declares, r.1.declared);
+            },
+          )
+    ] refl e
 
 -- the text that was cut
 abbrev joined : List (List ℕ) × List ℕ → List ℕ
@@ -165,12 +178,15 @@ made ps = Ok (script_of ps)
 finish_ok : (r : Result (List Phrase) (ℕ × Reason)) (tail : List ℕ) (s : Script) → finish r tail ≡ Ok s → (ps : List Phrase) × Finished r tail s ps
 finish_ok (Err f) tail s e = absurd cc
 finish_ok (Ok qs) (b ∷ tail) s e = absurd cc
-finish_ok (Ok qs) [] s e = elim (eqb (length (script_of qs).procs) 0) as (λ v. eqb (length (script_of qs).procs) 0 ≡ v → cond v (missing qs) (made qs) ≡ Ok s → (ps : List Phrase) × Finished (Ok qs) [] s ps) [
-  | true ↦ λ t f. absurd cc
-  | false ↦ λ t f. (qs, record { were = refl; no_tail = refl; some = (let ne = eqb-false (length (script_of qs).procs) 0 t in omega arith); script_is = (let same : script_of qs ≡ s = cc in sym same) })
-] refl e
+finish_ok (Ok qs) [] s e = elim (eqb (length (script_of qs).procs) 0) as
+    (λ v. eqb (length (script_of qs).procs) 0 ≡ v → cond v (missing qs) (made qs) ≡ Ok s → (ps : List Phrase) × Finished (Ok qs) [] s ps) [
+      | true ↦ λ t f. absurd cc
+      | false ↦ λ t f. (qs, record { were = refl; no_tail = refl; some = (let ne = eqb-false (length (script_of qs).procs) 0 t in omega arith); script_is = (let same : script_of qs ≡ s = cc in sym same) })
+    ] refl e
 
-found_spells : (text : List ℕ) (ls : List (List ℕ)) (tail : List ℕ) (s : Script) (ps more : List Phrase) → text ≡ joined (ls, tail) → length text ≤ 16777216 → tail ≡ [] → 0 < length (script_of ps).procs → s ≡ script_of ps → Read (declared_in (ls ++ tail ∷ [])) [] ls ps more → SpelledBy text s ps
+found_spells : (text : List ℕ) (ls : List (List ℕ)) (tail : List ℕ) (s : Script) (ps more : List Phrase) → text ≡ joined (ls, tail)
+    → length text ≤ 16777216 → tail ≡ [] → 0 < length (script_of ps).procs → s ≡ script_of ps
+    → Read (declared_in (ls ++ tail ∷ [])) [] ls ps more → SpelledBy text s ps
 found_spells text ls tail s ps more text-is short none some script-is r =
     let same : ps ≡ more = r.all_is in
     let texts : ls ≡ map phrase_text ps = r.texts ∙ ap (map phrase_text) (sym same) in

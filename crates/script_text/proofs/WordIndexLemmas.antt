@@ -48,9 +48,11 @@ module _ (word : List ℕ) (number : Option ℕ) (old new : Numbered) where
     where
       by : (p : Option ℕ) → word_number w ≡ p → entry_under new w p ≡ cond (bytes_eq word w) number (entry_under old w p)
       by (Some d) h = puts d ∙ ap (λ b. cond b number (at_digits old d)) (same_test word w k d e h)
-      by None h = ap (lookup (λ key. is_eq (slice_cmp nat_cmp w key))) same ∙ sym (λ i. cond (apart_none word w k e h i) number (lookup (λ key. is_eq (slice_cmp nat_cmp w key)) old.long))
+      by None h = ap (lookup (λ key. is_eq (slice_cmp nat_cmp w key))) same
+          ∙ sym (λ i. cond (apart_none word w k e h i) number (lookup (λ key. is_eq (slice_cmp nat_cmp w key)) old.long))
 
-  pub put_short : (k : ℕ) → word_number word ≡ Some k → k ≤ 18446744073709551615 → new.wide ≡ old.wide → new.long ≡ old.long → PutsAt old.short new.short k number → Puts old new word number
+  pub put_short : (k : ℕ) → word_number word ≡ Some k → k ≤ 18446744073709551615 → new.wide ≡ old.wide → new.long ≡ old.long
+      → PutsAt old.short new.short k number → Puts old new word number
   put_short k e small wide long puts = put_number k e long (λ d. by d (nat_le d 18446744073709551615) refl)
     where
       by : (d : ℕ) (b : Bool) → nat_le d 18446744073709551615 ≡ b
@@ -58,25 +60,30 @@ module _ (word : List ℕ) (number : Option ℕ) (old new : Numbered) where
           ≡ cond (is_eq (nat_cmp k d)) number (cond b (lookup (λ key. is_eq (nat_cmp d key)) old.short) (lookup (λ key. is_eq (nat_cmp d key)) old.wide))
       by d true h = puts d
       by d false h = ap (lookup (λ key. is_eq (nat_cmp d key))) wide
-          ∙ sym (λ i. cond (other_size k d true false (le-leb k 18446744073709551615 small) h true≢false i) number (lookup (λ key. is_eq (nat_cmp d key)) old.wide))
+          ∙ sym (λ i.
+          cond (other_size k d true false (le-leb k 18446744073709551615 small) h true≢false i) number (lookup (λ key. is_eq (nat_cmp d key)) old.wide))
 
-  pub put_wide : (k : ℕ) → word_number word ≡ Some k → 18446744073709551615 < k → new.short ≡ old.short → new.long ≡ old.long → PutsAt old.wide new.wide k number → Puts old new word number
+  pub put_wide : (k : ℕ) → word_number word ≡ Some k → 18446744073709551615 < k → new.short ≡ old.short → new.long ≡ old.long
+      → PutsAt old.wide new.wide k number → Puts old new word number
   put_wide k e great short long puts = put_number k e long (λ d. by d (nat_le d 18446744073709551615) refl)
     where
       by : (d : ℕ) (b : Bool) → nat_le d 18446744073709551615 ≡ b
           → cond b (lookup (λ key. is_eq (nat_cmp d key)) new.short) (lookup (λ key. is_eq (nat_cmp d key)) new.wide)
           ≡ cond (is_eq (nat_cmp k d)) number (cond b (lookup (λ key. is_eq (nat_cmp d key)) old.short) (lookup (λ key. is_eq (nat_cmp d key)) old.wide))
       by d true h = ap (lookup (λ key. is_eq (nat_cmp d key))) short
-          ∙ sym (λ i. cond (other_size k d false true (lt-leb k 18446744073709551615 great) h (λ e. true≢false (sym e)) i) number (lookup (λ key. is_eq (nat_cmp d key)) old.short))
+          ∙ sym (λ i. cond (other_size k d false true (lt-leb k 18446744073709551615 great) h (λ e. true≢false (sym e)) i) number
+          (lookup (λ key. is_eq (nat_cmp d key)) old.short))
       by d false h = puts d
 
   pub put_long : word_number word ≡ None → new.short ≡ old.short → new.wide ≡ old.wide
-      → ((q : List ℕ) → lookup (λ key. is_eq (slice_cmp nat_cmp q key)) new.long ≡ cond (bytes_eq word q) number (lookup (λ key. is_eq (slice_cmp nat_cmp q key)) old.long))
+      → ((q : List ℕ)
+      → lookup (λ key. is_eq (slice_cmp nat_cmp q key)) new.long ≡ cond (bytes_eq word q) number (lookup (λ key. is_eq (slice_cmp nat_cmp q key)) old.long))
       → Puts old new word number
   put_long e short wide puts w = by (word_number w) refl
     where
       by : (p : Option ℕ) → word_number w ≡ p → entry_under new w p ≡ cond (bytes_eq word w) number (entry_under old w p)
-      by (Some d) h = (λ i. cond (nat_le d 18446744073709551615) (lookup (λ key. is_eq (nat_cmp d key)) (short i)) (lookup (λ key. is_eq (nat_cmp d key)) (wide i)))
+      by (Some d) h = (λ i.
+          cond (nat_le d 18446744073709551615) (lookup (λ key. is_eq (nat_cmp d key)) (short i)) (lookup (λ key. is_eq (nat_cmp d key)) (wide i)))
           ∙ sym (λ i. cond ((nat_list_eq_equiv.symm word w ∙ apart_none w word d h e) i) number (at_digits old d))
       by None h = puts w
 
@@ -86,7 +93,8 @@ apart_bytes : (bs cs ks : List ℕ) → bytes_eq bs cs ≡ false → is_eq (slic
 apart_bytes bs cs ks n y = is_eq-slice_cmp cs ks ∙ nat_list_eq_equiv.symm cs ks ∙ sym (nat_list_eq_equiv.congr bs ks cs (sym (is_eq-slice_cmp bs ks) ∙ y)) ∙ n
 
 module _ {A : Type 0} where
-  pub found_keyed : (w : List ℕ) (es : List (Vec ℕ A × ℕ)) → lookup (λ key. is_eq (slice_cmp nat_cmp w key)) (entries_by_key es) ≡ lookup (is_at (λ key. slice_cmp nat_cmp w key.items)) es
+  pub found_keyed : (w : List ℕ) (es : List (Vec ℕ A × ℕ))
+      → lookup (λ key. is_eq (slice_cmp nat_cmp w key)) (entries_by_key es) ≡ lookup (is_at (λ key. slice_cmp nat_cmp w key.items)) es
   found_keyed w [] = refl
   found_keyed w (e ∷ es) = ap (λ rest. cond (is_eq (slice_cmp nat_cmp w e.0.items)) (Some e.1) rest) (found_keyed w es)
 
@@ -97,11 +105,17 @@ module _ {A : Type 0} where
 
   pub updates_keyed : (word : List ℕ) (number : Option ℕ) (old new : BTreeMap (Vec ℕ A) ℕ)
       → UpdatesBy (λ x y. slice_cmp nat_cmp x.items y.items) (λ key. slice_cmp nat_cmp word key.items) old new number
-      → (q : List ℕ) → lookup (λ key. is_eq (slice_cmp nat_cmp q key)) (entries_by_key new.entries) ≡ cond (bytes_eq word q) number (lookup (λ key. is_eq (slice_cmp nat_cmp q key)) (entries_by_key old.entries))
+      → (q : List ℕ)
+      → lookup (λ key. is_eq (slice_cmp nat_cmp q key)) (entries_by_key new.entries)
+      ≡ cond (bytes_eq word q) number (lookup (λ key. is_eq (slice_cmp nat_cmp q key)) (entries_by_key old.entries))
   updates_keyed word number old new u q = by (bytes_eq word q) refl
     where
-      by : (b : Bool) → bytes_eq word q ≡ b → lookup (λ key. is_eq (slice_cmp nat_cmp q key)) (entries_by_key new.entries) ≡ cond b number (lookup (λ key. is_eq (slice_cmp nat_cmp q key)) (entries_by_key old.entries))
-      by true h = found_keyed q new.entries ∙ subst (λ w. lookup (is_at (λ key. slice_cmp nat_cmp w key.items)) new.entries ≡ number) ((bytes_decides word q).0 h) u.1
+      by : (b : Bool) → bytes_eq word q ≡ b
+          → lookup (λ key. is_eq (slice_cmp nat_cmp q key)) (entries_by_key new.entries)
+          ≡ cond b number (lookup (λ key. is_eq (slice_cmp nat_cmp q key)) (entries_by_key old.entries))
+      by true h = found_keyed q new.entries
+          ∙ subst (λ w. lookup (is_at (λ key. slice_cmp nat_cmp w key.items)) new.entries ≡ number) ((bytes_decides word q).0 h) u.1
       by false h = found_keyed q new.entries
-          ∙ keeps _ _ old.entries new.entries u.3 (is_at (λ key. slice_cmp nat_cmp q key.items)) (λ x y. (eq_by_cmp_equiv nat_list_cmp_total).congr q x.items y.items) (λ key. apart_bytes word q key.items h)
+          ∙ keeps _ _ old.entries new.entries u.3 (is_at (λ key. slice_cmp nat_cmp q key.items))
+          (λ x y. (eq_by_cmp_equiv nat_list_cmp_total).congr q x.items y.items) (λ key. apart_bytes word q key.items h)
           ∙ sym (found_keyed q old.entries)

@@ -53,7 +53,8 @@ buried_lasts = record {
       let does = moved.does in
       record {
         lawful = moved.lawful;
-        gone = λ n. gone_then s after n (deaths n steps) (count_by (is_died n) made.effects) _ (died_push n steps made) (was.gone n) (was.once n) (does.stays n) (does.gone n);
+        gone = λ n. gone_then s after n (deaths n steps) (count_by (is_died n) made.effects) _ (died_push n steps made) (was.gone n)
+            (was.once n) (does.stays n) (does.gone n);
         once = λ n. once_then s after n (deaths n steps) (count_by (is_died n) made.effects) _ (died_push n steps made) (was.gone n) (was.once n) (does.dies n);
       };
 }

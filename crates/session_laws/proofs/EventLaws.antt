@@ -26,7 +26,8 @@ pod_events_are_exact B setting low high takes n h =
       effects_are = moved.effects_are;
       reports = λ before later is heard.
           every_death_is_reported later (after_moves before start) heard
-          ∙ ap (λ (es : EventState). reports_of_moves later (after_moves before start) ++ es.reports) (sym (moved.pod_is ∙ ap (λ moves. after_moves moves start) is ∙ moved-append before later start));
+          ∙ ap (λ (es : EventState). reports_of_moves later (after_moves before start) ++ es.reports)
+          (sym (moved.pod_is ∙ ap (λ moves. after_moves moves start) is ∙ moved-append before later start));
       traps = λ e.
           let none : pends e start ≡ 0 = refl in
           omega (arith, traps_are_raised_once e moved.moves start moved.can, ap (count_by (is_raised e)) moved.effects_are, ap (pends e) moved.pod_is, none);

@@ -4,13 +4,15 @@ use Rattle.lwp_types.specs.Agents.{deliver, deliver_to, end_agent, event_agents,
 use Rattle.lwp_types.specs.Case.{Case, Check, refusal_case, silent_case, unless, value_case, with_zero}
 use Rattle.lwp_types.specs.Choice.{choice}
 use Rattle.lwp_types.specs.Conditions.{after_wait, after_wake, after_wake_all, condition_of}
-use Rattle.lwp_types.specs.Death.{answer_joiners, bury, death, destroy_case, end_agents, refuse_receivers, refuse_sender, refuse_senders, release_all, run_all_exits, withdraw}
+use Rattle.lwp_types.specs.Death.{answer_joiners, bury, death, destroy_case, end_agents, refuse_receivers}
+use Rattle.lwp_types.specs.Death.{refuse_sender, refuse_senders, release_all, run_all_exits, withdraw}
 use Rattle.lwp_types.specs.Exceptions.{caught_marks, exits_of, first_frames, frames, handler_of, later_frames, on_exit, with_match}
 use Rattle.lwp_types.specs.Exits.{catch_case, exit_case, leave_frame, excnotify_case_by, run_exit, unwind}
 use Rattle.lwp_types.specs.Messages.{after_reply, as_answer, as_received, next_letter, post, receive_by, receivers_of, takes_from, with_holding, without_letter}
 use Rattle.lwp_types.specs.MonitorRelease.{grant, last_lock, next_owner, release, without_lock}
 use Rattle.lwp_types.specs.Monitors.{after_exit, after_request, depth_in, enter_case, is_owned_by_other, with_depth}
-use Rattle.lwp_types.specs.State.{Outcome, State, ThreadRow, and_then, for_each, in_order, is_agent, marks_in, passes, still, thread_of, with_marks, with_marks_of}
+use Rattle.lwp_types.specs.State.{Outcome, State, ThreadRow, and_then, for_each, in_order, is_agent}
+use Rattle.lwp_types.specs.State.{marks_in, passes, still, thread_of, with_marks, with_marks_of}
 use Rattle.lwp_types.specs.Step.{case_of, step, step_by, step_if}
 use Rattle.lwp_types.specs.Time.{after_tick, due_threads, tick, time_out}
 use Rattle.lwp_types.specs.Unblock.{after_block, after_block_for, nonexist, unblock, zero_answer}
@@ -27,7 +29,8 @@ use Rattle.lwp_types.specs.declared.rows.Request.{Request}
 use Rattle.lwp_types.specs.declared.rows.WaitRow.{WaitRow}
 use Rattle.pod_laws.proofs.Checks.{unless_keeps}
 use Rattle.pod_laws.specs.Once.{sets_of_call, sets_of_step}
-use Rattle.session_laws.specs.Numbers.{DeliveriesBearNone, DeliveriesKeepProcs, DeliveriesNumberNone, DeliveriesTick, StepsBearNone, StepsKeepProcs, StepsKeepTheClock, StepsNumberExits, any_exit, bears}
+use Rattle.session_laws.specs.Numbers.{DeliveriesBearNone, DeliveriesKeepProcs, DeliveriesNumberNone, DeliveriesTick, StepsBearNone}
+use Rattle.session_laws.specs.Numbers.{StepsKeepProcs, StepsKeepTheClock, StepsNumberExits, any_exit, bears}
 use Rattle.std.proofs.Common.{Bool, List, None, Option, Some, [], ap, arith, cond, eqb, false, length, refl, sym, true, ℕ, ◌++◌, ◌+◌, ◌-◌, ◌∙◌, ◌∷◌, ◌≡◌, ◌||◌}
 use Rattle.std.specs.List.{fold}
 use Rattle.std.specs.Prelude.{nat_le}
@@ -68,14 +71,18 @@ none_exited m s = by_depth (nat_le (depth_in s.locks m) 1)
 none_posted : (letter : Letter) (s : State) → NoneGiven s (post letter s).after
 none_posted letter s = by_test (passes (λ (row : ThreadRow). takes_from letter.from row.block) (thread_of s letter.to))
   where
-    by_test : (b : Bool) → NoneGiven s (cond b (unblock (as_answer letter) letter.to (record s { letters = s.letters ++ as_received letter ∷ [] })) (still (record s { letters = s.letters ++ letter ∷ [] }))).after
+    by_test : (b : Bool)
+        → NoneGiven s (cond b (unblock (as_answer letter) letter.to (record s { letters = s.letters ++ as_received letter ∷ [] }))
+        (still (record s { letters = s.letters ++ letter ∷ [] }))).after
     by_test true = refl
     by_test false = refl
 
 none_replied : (u : ℕ) (text : List ℕ) (s : State) → NoneGiven s (after_reply u text s).after
 none_replied u text s = by_agent (is_agent s u)
   where
-    by_agent : (b : Bool) → NoneGiven s (cond b (still (record s { letters = without_letter u s.letters; agents = with_holding u false s.agents })) (unblock (answer.Reply text) u (record s { letters = without_letter u s.letters }))).after
+    by_agent : (b : Bool)
+        → NoneGiven s (cond b (still (record s { letters = without_letter u s.letters; agents = with_holding u false s.agents }))
+        (unblock (answer.Reply text) u (record s { letters = without_letter u s.letters }))).after
     by_agent true = refl
     by_agent false = refl
 
@@ -89,9 +96,11 @@ none_woken_all (Some row) ws s = none_woken row.mon ws s
 
 none_waited : (t c : ℕ) (o : Option Lock) (s : State) → NoneGiven s (after_wait t c o s).after
 none_waited t c None s = refl
-none_waited t c (Some lock) s = none_released lock.mon (after_block (record s { waits = s.waits ++ record { cond = c; tid = t; depth = lock.depth } ∷ [] }) t (block.Waiting c))
+none_waited t c (Some lock) s =
+    none_released lock.mon (after_block (record s { waits = s.waits ++ record { cond = c; tid = t; depth = lock.depth } ∷ [] }) t (block.Waiting c))
 
-none_each : {A : Type 0} (change : A → State → Outcome) → ((x : A) (s : State) → NoneGiven s (change x s).after) → (xs : List A) (s : State) → NoneGiven s (for_each change xs s).after
+none_each : {A : Type 0} (change : A → State → Outcome) → ((x : A) (s : State) → NoneGiven s (change x s).after) → (xs : List A) (s : State)
+    → NoneGiven s (for_each change xs s).after
 unfolding for_each and_then
 none_each change one [] s = refl
 none_each change one (x ∷ xs) s = none_each change one xs (change x s).after ∙ one x s
@@ -118,7 +127,8 @@ none_unwound t kept gone s = none_each (run_exit t) (λ x s. none_run s t x.call
 
 -- ---- a death
 
-none_first : (change : State → Outcome) (changes : List (State → Outcome)) (s : State) → NoneGiven s (change s).after → NoneGiven (change s).after (in_order changes (change s).after).after → NoneGiven s (in_order (change ∷ changes) s).after
+none_first : (change : State → Outcome) (changes : List (State → Outcome)) (s : State) → NoneGiven s (change s).after
+    → NoneGiven (change s).after (in_order changes (change s).after).after → NoneGiven s (in_order (change ∷ changes) s).after
 unfolding in_order and_then
 none_first change changes s one two = two ∙ one
 
@@ -148,10 +158,12 @@ none_received s t from mode.Poll None = refl
 none_received s t from mode.Poll (Some letter) = refl
 none_received s t from mode.Block None = refl
 none_received s t from mode.Block (Some letter) = refl
-none_received s t from (mode.Until ticks) None = none_cond s (eqb ticks 0) (refusal_case s error.Timeout) (silent_case (still (after_block_for s t (block.Receiving from) ticks))) refl refl
+none_received s t from (mode.Until ticks) None =
+    none_cond s (eqb ticks 0) (refusal_case s error.Timeout) (silent_case (still (after_block_for s t (block.Receiving from) ticks))) refl refl
 none_received s t from (mode.Until ticks) (Some letter) = refl
 
-none_matched : (s : State) (on_match : Found → Case) (o : Option Found) → ((f : Found) → NoneGiven s (on_match f).after) → NoneGiven s (with_match s on_match o).after
+none_matched : (s : State) (on_match : Found → Case) (o : Option Found) → ((f : Found) → NoneGiven s (on_match f).after)
+    → NoneGiven s (with_match s on_match o).after
 none_matched s on_match None fine = refl
 none_matched s on_match (Some f) fine = fine f
 
@@ -173,7 +185,9 @@ unfolding unless
 exit_numbered s t x = by_tests (nat_le 256 (length (marks_in s t))) (nat_le 4294967295 s.next_registration)
   where
     by_tests : (a b : Bool)
-        → (cond a (refusal_case s error.NoRoom) (cond b (refusal_case s error.NoRoom) (value_case (record s { threads = with_marks t (marks_in s t ++ mark.Exit s.next_registration x ∷ []) s.threads; next_registration = s.next_registration + 1 }) s.next_registration))).after.next_registration
+        → (cond a (refusal_case s error.NoRoom) (cond b (refusal_case s error.NoRoom) (value_case
+        (record s { threads = with_marks t (marks_in s t ++ mark.Exit s.next_registration x ∷ []) s.threads; next_registration = s.next_registration + 1 })
+        s.next_registration))).after.next_registration
         ≡ s.next_registration + cond (a || b) 0 1
     by_tests true b = omega arith
     by_tests false true = omega arith
@@ -196,7 +210,8 @@ plain s t c made never none = record {
 }
 
 -- one that may bear a thread or an agent
-bearing : (s : State) (t : ℕ) (c : Call) (checks : List Check) (otherwise : Case) → sets_of_call any_exit s t c ≡ 0 → bears c ≡ true → otherwise.after.next_registration ≡ s.next_registration → otherwise.after.now ≡ s.now → otherwise.after.procs ≡ s.procs
+bearing : (s : State) (t : ℕ) (c : Call) (checks : List Check) (otherwise : Case) → sets_of_call any_exit s t c ≡ 0 → bears c ≡ true
+    → otherwise.after.next_registration ≡ s.next_registration → otherwise.after.now ≡ s.now → otherwise.after.procs ≡ s.procs
     → Numbers s t c (unless s checks otherwise)
 bearing s t c checks otherwise never is number clock count = record {
   next = omega (arith, never, unless_keeps (λ (after : State). after.next_registration ≡ s.next_registration) s checks otherwise refl (λ passed. number));
@@ -209,16 +224,19 @@ bearing s t c checks otherwise never is number clock count = record {
 case_numbers : (s : State) (t : ℕ) (c : Call) → Numbers s t c (case_of s t c)
 case_numbers s t (call.Create number prio flags) = bearing s t _ _ _ refl refl refl refl refl
 case_numbers s t (call.Destroy u) = plain s t _ _ refl (none_unless s _ _ (none_destroyed s t u))
-case_numbers s t (call.Sleep ticks) = plain s t _ _ refl (none_cond s (eqb ticks 0) (value_case s 0) (silent_case (still (after_block_for s t block.Sleeping ticks))) refl refl)
+case_numbers s t (call.Sleep ticks) =
+    plain s t _ _ refl (none_cond s (eqb ticks 0) (value_case s 0) (silent_case (still (after_block_for s t block.Sleeping ticks))) refl refl)
 case_numbers s t call.Me = plain s t _ _ refl refl
 case_numbers s t call.GetExit = plain s t _ _ refl refl
 case_numbers s t call.Threads = plain s t _ _ refl refl
-case_numbers s t (call.Send u room text) = plain s t _ _ refl (none_unless s _ _ (none_posted (record { from = t; to = u; text = text; room = room; received = false }) (after_block s t block.Sending)))
+case_numbers s t (call.Send u room text) = plain s t _ _ refl
+    (none_unless s _ _ (none_posted (record { from = t; to = u; text = text; room = room; received = false }) (after_block s t block.Sending)))
 case_numbers s t (call.Recv from how) = plain s t _ _ refl (none_unless s _ _ (none_received s t from how (next_letter s.letters t from)))
 case_numbers s t (call.Reply u text) = plain s t _ _ refl (none_unless s _ _ (none_replied u text s))
 case_numbers s t call.Senders = plain s t _ _ refl refl
 case_numbers s t call.Receivers = plain s t _ _ refl refl
-case_numbers s t (call.Enter m) = plain s t _ _ refl (none_unless s _ _ (none_cond s (is_owned_by_other s.locks t m) (silent_case (still (after_request s t m))) (enter_case s t m) refl refl))
+case_numbers s t (call.Enter m) = plain s t _ _ refl
+    (none_unless s _ _ (none_cond s (is_owned_by_other s.locks t m) (silent_case (still (after_request s t m))) (enter_case s t m) refl refl))
 case_numbers s t (call.MonExit m) = plain s t _ _ refl (none_unless s _ _ (none_exited m s))
 case_numbers s t (call.MonBreak m) = plain s t _ _ refl (none_unless s _ _ (none_released m s))
 case_numbers s t call.Monitors = plain s t _ _ refl refl
@@ -227,7 +245,9 @@ case_numbers s t (call.Notify c) = plain s t _ _ refl (none_unless s _ _ (none_w
 case_numbers s t (call.Broadcast c) = plain s t _ _ refl (none_unless s _ _ (none_woken_all (condition_of s.conditions c) _ s))
 case_numbers s t (call.CvSend c u) = plain s t _ _ refl (none_unless s _ _ (none_woken_all (condition_of s.conditions c) _ s))
 case_numbers s t call.Conds = plain s t _ _ refl refl
-case_numbers s t call.Return = plain s t _ _ refl (none_cond s (nat_le 2 (frames (marks_in s t))) (leave_frame s t) (silent_case (death t s)) (none_unwound t (first_frames (frames (marks_in s t) - 1) (marks_in s t)) (later_frames (frames (marks_in s t) - 1) (marks_in s t)) s) (none_died t s))
+case_numbers s t call.Return =
+    plain s t _ _ refl (none_cond s (nat_le 2 (frames (marks_in s t))) (leave_frame s t) (silent_case (death t s))
+    (none_unwound t (first_frames (frames (marks_in s t) - 1) (marks_in s t)) (later_frames (frames (marks_in s t) - 1) (marks_in s t)) s) (none_died t s))
 case_numbers s t (call.OnExit x) = record {
   next = exit_numbered s t x;
   still = unless_keeps (λ (after : State). after.now ≡ s.now) s _ _ refl (λ passed. refl);
@@ -235,7 +255,8 @@ case_numbers s t (call.OnExit x) = record {
   born = λ is. unless_keeps (λ (after : State). after.births ≡ s.births) s _ _ refl (λ passed. refl);
 }
 case_numbers s t (call.Raise q) = plain s t _ _ refl (none_unless s _ _ (none_matched s (catch_case s t q) (handler_of s t q) (λ f. none_caught s t q f)))
-case_numbers s t (call.ExcNotify q) = plain s t _ _ refl (none_unless s _ _ (none_matched s (λ f. excnotify_case_by s t q f f.func) (handler_of s t q) (λ f. none_notified s t q f f.func)))
+case_numbers s t (call.ExcNotify q) =
+    plain s t _ _ refl (none_unless s _ _ (none_matched s (λ f. excnotify_case_by s t q f f.func) (handler_of s t q) (λ f. none_notified s t q f f.func)))
 case_numbers s t (call.Bound q) = plain s t _ _ refl (none_unless s _ _ (none_matched s _ (handler_of s t q) (λ f. refl)))
 case_numbers s t (call.Agent e) = bearing s t _ _ _ refl refl refl refl refl
 case_numbers s t call.Agents = plain s t _ _ refl refl
@@ -279,13 +300,17 @@ steps_bear_none s c is = by_choice (choice s)
     by_choice (Some t) = (case_numbers s t c).born is
 
 -- what a delivery leaves as it was: it makes a tick, or nothing else than others
-delivered_so : (s : State) (e : ℕ) (text : List ℕ) → counters (deliver s e text).after ≡ (s.next_registration, cond (eqb e 0) (s.now + 1) s.now, s.births, s.procs)
+delivered_so : (s : State) (e : ℕ) (text : List ℕ)
+    → counters (deliver s e text).after ≡ (s.next_registration, cond (eqb e 0) (s.now + 1) s.now, s.births, s.procs)
 unfolding deliver and_then
 delivered_so s e text = by_clock (eqb e 0)
   where
-    by_clock : (b : Bool) → counters (cond b (tick s) (for_each (deliver_to text) (event_agents s.agents e) s)).after ≡ (s.next_registration, cond b (s.now + 1) s.now, s.births, s.procs)
+    by_clock : (b : Bool)
+        → counters (cond b (tick s) (for_each (deliver_to text) (event_agents s.agents e) s)).after
+        ≡ (s.next_registration, cond b (s.now + 1) s.now, s.births, s.procs)
     by_clock true = none_each time_out (λ u now. refl) (due_threads (after_tick s)) (after_tick s)
-    by_clock false = none_each (deliver_to text) (λ row now. none_posted (message text row) (record now { agents = with_holding row.number true now.agents })) (event_agents s.agents e) s
+    by_clock false = none_each (deliver_to text)
+        (λ row now. none_posted (message text row) (record now { agents = with_holding row.number true now.agents })) (event_agents s.agents e) s
 
 pub deliveries_number_none : DeliveriesNumberNone
 deliveries_number_none s e text = ap (λ (k : ℕ × ℕ × ℕ × ℕ). k.0) (delivered_so s e text)

@@ -21,7 +21,8 @@ use Rattle.pod_events.specs.Events.{EventState, after_pass_on, after_take_trap, 
 use Rattle.pod_events.specs.Laws.{AsksForFates}
 use Rattle.pod_events.specs.Rites.{after_first_report, as_rites, report_text, after_rites}
 use Rattle.pod_events.specs.Step.{event_step, event_step_by, event_step_if}
-use Rattle.pod_events.specs.Traps.{after_call, after_call_as, after_machine_step, after_trap, after_trap_and_call, agent_event_of, but_call, is_catch, is_given, notice, after_refusal, trap_of, trap_refusal}
+use Rattle.pod_events.specs.Traps.{after_call, after_call_as, after_machine_step, after_trap, after_trap_and_call, agent_event_of}
+use Rattle.pod_events.specs.Traps.{but_call, is_catch, is_given, notice, after_refusal, trap_of, trap_refusal}
 use Rattle.pod_laws.proofs.Absent.{deliveries_are_quiet}
 use Rattle.pod_laws.proofs.Chosen.{chosen}
 use Rattle.pod_laws.proofs.Died.{case_died, death_died, finished_died, the_dead_are_forgotten}
@@ -34,7 +35,8 @@ use Rattle.session_laws.proofs.Numbering.{deliveries_number_none, steps_number_e
 use Rattle.session_laws.proofs.Told.{Sets, Sets.Exit, Sets.Nothing, step_told_before, what_it_sets}
 use Rattle.session_laws.specs.Exits.{exits_set_in, has_number, sets_by_effects, is_set_by}
 use Rattle.session_laws.specs.Numbers.{any_exit}
-use Rattle.std.proofs.Common.{Bool, List, None, Option, Some, [], ap, append-nil, arith, cond, count_by, drop, eqb, false, length, map, refl, subst, suc, sum_by, sym, true, zero, ℕ, ◌++◌, ◌+◌, ◌∙◌, ◌∷◌, ◌≡◌, ◌≤◌, ◌||◌}
+use Rattle.std.proofs.Common.{Bool, List, None, Option, Some, [], ap, append-nil, arith, cond, count_by, drop, eqb, false, length}
+use Rattle.std.proofs.Common.{map, refl, subst, suc, sum_by, sym, true, zero, ℕ, ◌++◌, ◌+◌, ◌∙◌, ◌∷◌, ◌≡◌, ◌≤◌, ◌||◌}
 use Rattle.std.proofs.lemmas.Bool.{and_from, and_parts, eqb-true}
 use Rattle.std.proofs.lemmas.Bool.Decides.{nat_tests}
 use Rattle.std.proofs.lemmas.List.Sums.{sum_by-cons}
@@ -56,15 +58,19 @@ below_next : (k n : ℕ) → cond (eqb n k) 1 0 + one (nat_lt k n) ≡ one (nat_
 below_next k n = grind (arith, nat_tests)
 
 -- a call sets one of the number k exactly if k is given by it
-number_set : (s : State) (k t : ℕ) (c : Call) → Sets c → sets_of_call (has_number k) s t c + one (nat_lt k s.next_registration) ≡ one (nat_lt k (s.next_registration + sets_of_call any_exit s t c))
-number_set s k t c (Nothing none untold) = omega (arith, none (has_number k) s t, ap (λ n. one (nat_lt k (s.next_registration + n))) (none any_exit s t), below_same k s.next_registration)
+number_set : (s : State) (k t : ℕ) (c : Call) → Sets c
+    → sets_of_call (has_number k) s t c + one (nat_lt k s.next_registration) ≡ one (nat_lt k (s.next_registration + sets_of_call any_exit s t c))
+number_set s k t c (Nothing none untold) =
+    omega (arith, none (has_number k) s t, ap (λ n. one (nat_lt k (s.next_registration + n))) (none any_exit s t), below_same k s.next_registration)
 number_set s k t c (Exit x e) = rw e (by_room (nat_le 256 (length (marks_in s t)) || nat_le 4294967295 s.next_registration))
   where
-    by_room : (b : Bool) → cond b 0 (cond (eqb s.next_registration k) 1 0) + one (nat_lt k s.next_registration) ≡ one (nat_lt k (s.next_registration + cond b 0 1))
+    by_room : (b : Bool)
+        → cond b 0 (cond (eqb s.next_registration k) 1 0) + one (nat_lt k s.next_registration) ≡ one (nat_lt k (s.next_registration + cond b 0 1))
     by_room true = below_same k s.next_registration
     by_room false = below_next k s.next_registration
 
-number_now : (s : State) (k : ℕ) (o : Option ℕ) (c : Call) → sets_of_step (has_number k) s o c + one (nat_lt k s.next_registration) ≡ one (nat_lt k (s.next_registration + sets_of_step any_exit s o c))
+number_now : (s : State) (k : ℕ) (o : Option ℕ) (c : Call)
+    → sets_of_step (has_number k) s o c + one (nat_lt k s.next_registration) ≡ one (nat_lt k (s.next_registration + sets_of_step any_exit s o c))
 number_now s k None c = below_same k s.next_registration
 number_now s k (Some t) c = number_set s k t c (what_it_sets c)
 
@@ -108,9 +114,15 @@ module _ (u : ℕ) (p : ExitTest) where
   none_left [] gone = refl
   none_left (row ∷ rows) gone = by_test (is_number u row) refl gone (none_left rows)
     where
-      by_test : (b : Bool) → is_number u row ≡ b → is_some (cond b (Some row) (find (is_number u) rows)) ≡ false → (is_some (find (is_number u) rows) ≡ false → sum_by (row_passing (is_set_by u p)) rows ≡ 0) → sum_by (row_passing (is_set_by u p)) (row ∷ rows) ≡ 0
+      by_test : (b : Bool) → is_number u row ≡ b → is_some (cond b (Some row) (find (is_number u) rows)) ≡ false
+          → (is_some (find (is_number u) rows) ≡ false → sum_by (row_passing (is_set_by u p)) rows ≡ 0) → sum_by (row_passing (is_set_by u p)) (row ∷ rows) ≡ 0
       by_test true e gone rest = absurd (cc)
-      by_test false e gone rest = omega (arith, sum_by-cons (row_passing (is_set_by u p)) row rows, count_never (mark_passes (is_set_by u p) row.number) (other_mark row.number e) row.marks, rest gone)
+      by_test false e gone rest = omega (
+        arith,
+        sum_by-cons (row_passing (is_set_by u p)) row rows,
+        count_never (mark_passes (is_set_by u p) row.number) (other_mark row.number e) row.marks,
+        rest gone,
+      )
 
   -- who isn't live doesn't call, and so sets nothing
   others_set : (s : State) (t : ℕ) (c : Call) → eqb t u ≡ false → Sets c → sets_of_call (is_set_by u p) s t c ≡ 0
@@ -179,7 +191,8 @@ later-tame (e ∷ es) tame = by_effect e (and_parts (is_tame e) (list_all is_tam
 -- a report, too
 later-rites : (dead : ℕ) (es : List Effect) → list_all is_later es ≡ true → list_all is_later (map (as_rites dead) es) ≡ true
 later-rites dead [] h = refl
-later-rites dead (e ∷ es) h = by_effect e (and_parts (is_later e) (list_all is_later es) h).0 (later-rites dead es (and_parts (is_later e) (list_all is_later es) h).1)
+later-rites dead (e ∷ es) h =
+    by_effect e (and_parts (is_later e) (list_all is_later es) h).0 (later-rites dead es (and_parts (is_later e) (list_all is_later es) h).1)
   where
     by_effect : (e : Effect) → is_later e ≡ true → list_all is_later (map (as_rites dead) es) ≡ true → list_all is_later (map (as_rites dead) (e ∷ es)) ≡ true
     by_effect (effect.Called t c) h rest = absurd (cc)
@@ -280,9 +293,11 @@ module _ (s after : State) (es : List Effect) (sets : ExitTest → ℕ) (does : 
         balance = λ p. omega (arith, does.balance p, quiet.marks p, quiet.exits p, count-append (is_exit_passing p) es sent);
         numbers = deliveries_number_none after e text ∙ does.numbers;
         given = does.given;
-        dies = λ n. let same : count_by (is_died n) es ≡ count_by (is_died n) (es ++ sent) = omega (arith, count-append (is_died n) es sent, quiet.deaths n) in subst (Dies s n) same (does.dies n);
+        dies = λ n. let same : count_by (is_died n) es ≡ count_by (is_died n) (es ++ sent) = omega (arith, count-append (is_died n) es sent, quiet.deaths n) in
+            subst (Dies s n) same (does.dies n);
         stays = λ n h. gone_stays n after (deliver after e text).after (deliver_fades n after e text) (does.stays n h);
-        gone = λ n some. gone_stays n after (deliver after e text).after (deliver_fades n after e text) (does.gone n (omega (arith, some, count-append (is_died n) es sent, quiet.deaths n)));
+        gone = λ n some. gone_stays n after (deliver after e text).after (deliver_fades n after e text)
+            (does.gone n (omega (arith, some, count-append (is_died n) es sent, quiet.deaths n)));
         mute = λ u gone p. omega (arith, count-append (is_exit_passing (is_set_by u p)) es sent, does.mute u gone p, quiet.exits (is_set_by u p));
       }
 
@@ -308,10 +323,17 @@ record Calls (s after : State) (es : List Effect) : Type 0 where
   lawful : Lawful after None
 
 -- a call that sets none, and its answer
-calls_quiet : (s : State) → Lawful s None → (t : ℕ) (c : Call) (a : Answer) → ((x : ExitCall) → c ≡ call.OnExit x → ⊥) → Calls s s (effect.Called t c ∷ effect.Answered t a ∷ [])
+calls_quiet : (s : State) → Lawful s None → (t : ℕ) (c : Call) (a : Answer) → ((x : ExitCall) → c ≡ call.OnExit x → ⊥)
+    → Calls s s (effect.Called t c ∷ effect.Answered t a ∷ [])
 calls_quiet s was t c a never = record {
   sets = λ p. 0;
-  does = does_none s _ (λ q asks. omega (arith, count-cons q (effect.Called t c) (effect.Answered t a ∷ []), count-cons q (effect.Answered t a) [], ap one (asks.no_call t c), ap one (asks.no_answer t a)));
+  does = does_none s _ (λ q asks. omega (
+    arith,
+    count-cons q (effect.Called t c) (effect.Answered t a ∷ []),
+    count-cons q (effect.Answered t a) [],
+    ap one (asks.no_call t c),
+    ap one (asks.no_answer t a),
+  ));
   told = λ p rest later. by_sets p rest (what_it_sets c);
   lawful = was;
 }
@@ -320,15 +342,19 @@ calls_quiet s was t c a never = record {
     by_sets p rest (Nothing none untold) = untold p t (effect.Answered t a ∷ rest)
     by_sets p rest (Exit x e) = absurd (never x e)
 
-calls_made : (s : State) → Lawful s None → (trapped : List Bool) (t : ℕ) (c : Call) → choice s ≡ Some t → Calls s (after_call s trapped t c).state (after_call s trapped t c).effects
+calls_made : (s : State) → Lawful s None → (trapped : List Bool) (t : ℕ) (c : Call) → choice s ≡ Some t
+    → Calls s (after_call s trapped t c).state (after_call s trapped t c).effects
 calls_made s was trapped t c turn = by_trap (trap_of c) refl
   where
     by_refusal : (e : ℕ) → trap_of c ≡ Some e → (o : Option LwpErr) → Calls s (after_trap s trapped t c e o).state (after_trap s trapped t c e o).effects
     by_refusal e is None = calls_quiet s was t c _ (λ x same. let no : Some e ≡ None = sym is ∙ ap trap_of same in absurd (cc))
     by_refusal e is (Some why) = calls_quiet s was t c _ (λ x same. let no : Some e ≡ None = sym is ∙ ap trap_of same in absurd (cc))
 
-    by_agent : (b : Bool) → passes (is_trapped trapped) (agent_event_of c) ≡ b → Calls s (cond b (after_refusal s trapped t c error.InUse) (after_machine_step trapped (step s c))).state (cond b (after_refusal s trapped t c error.InUse) (after_machine_step trapped (step s c))).effects
-    by_agent true is = calls_quiet s was t c _ (λ x same. let no : false ≡ true = sym (ap (λ d. passes (is_trapped trapped) (agent_event_of d)) same) ∙ is in absurd (cc))
+    by_agent : (b : Bool) → passes (is_trapped trapped) (agent_event_of c) ≡ b
+        → Calls s (cond b (after_refusal s trapped t c error.InUse) (after_machine_step trapped (step s c))).state
+        (cond b (after_refusal s trapped t c error.InUse) (after_machine_step trapped (step s c))).effects
+    by_agent true is = calls_quiet s was t c _
+        (λ x same. let no : false ≡ true = sym (ap (λ d. passes (is_trapped trapped) (agent_event_of d)) same) ∙ is in absurd (cc))
     by_agent false is = record {
       sets = λ p. sets_of_step p s (choice s) c;
       does = does_step s was c;
@@ -350,11 +376,13 @@ but_call-same s c q asks = by_choice (choice s)
     by_choice (Some u) = omega (arith, count-cons q (effect.Called u c) (drop 1 (step_by s u c).effects), ap one (asks.no_call u c))
 
 -- a step that no thread asked for
-calls_unasked : (s : State) → Lawful s None → (t : ℕ) (c : Call) → choice s ≡ Some t → ((p : ExitTest) → sets_of_call p s t c ≡ 0) → Calls s (but_call (step s c)).after (but_call (step s c)).effects
+calls_unasked : (s : State) → Lawful s None → (t : ℕ) (c : Call) → choice s ≡ Some t → ((p : ExitTest) → sets_of_call p s t c ≡ 0)
+    → Calls s (but_call (step s c)).after (but_call (step s c)).effects
 calls_unasked s was t c turn none = record {
   sets = λ p. sets_of_step p s (choice s) c;
   does = does_as s (step s c).after (step s c).effects (λ p. sets_of_step p s (choice s) c) (does_step s was c) (drop 1 (step s c).effects) (but_call-same s c);
-  told = λ p rest later. later-none p (drop 1 (step s c).effects ++ rest) (later-append (drop 1 (step s c).effects) rest (later-step s t c turn) later) ∙ sym (ap (λ o. sets_of_step p s o c) turn ∙ none p);
+  told = λ p rest later. later-none p (drop 1 (step s c).effects ++ rest) (later-append (drop 1 (step s c).effects) rest (later-step s t c turn) later)
+      ∙ sym (ap (λ o. sets_of_step p s o c) turn ∙ none p);
   lawful = Lawful-step s was c;
 }
 
@@ -362,18 +390,23 @@ calls_unasked s was t c turn none = record {
 calls_trapped : (s after : State) (es : List Effect) (t e : ℕ) → Calls s after es → Calls s after (effect.Trapped t e ∷ es)
 calls_trapped s after es t e calls = record {
   sets = calls.sets;
-  does = does_as s after es calls.sets calls.does (effect.Trapped t e ∷ es) (λ q asks. omega (arith, count-cons q (effect.Trapped t e) es, ap one (asks.no_trap t e)));
+  does = does_as s after es calls.sets calls.does (effect.Trapped t e ∷ es)
+      (λ q asks. omega (arith, count-cons q (effect.Trapped t e) es, ap one (asks.no_trap t e)));
   told = λ p rest later. calls.told p rest later;
   lawful = calls.lawful;
 }
 
-calls_called : (s : State) → Lawful s None → (trapped : List Bool) (t : ℕ) (c : Call) (pending : Option ℕ) → choice s ≡ Some t → Calls s (after_trap_and_call s trapped t c pending).state (after_trap_and_call s trapped t c pending).effects
+calls_called : (s : State) → Lawful s None → (trapped : List Bool) (t : ℕ) (c : Call) (pending : Option ℕ) → choice s ≡ Some t
+    → Calls s (after_trap_and_call s trapped t c pending).state (after_trap_and_call s trapped t c pending).effects
 calls_called s was trapped t c None turn = calls_made s was trapped t c turn
 calls_called s was trapped t c (Some e) turn = by_given (passes is_given (notice s t e)) (passes is_catch (notice s t e))
   where
     by_given : (b d : Bool) → Calls s
-        (cond b (after_call s trapped t c) (cond d (after_machine_step trapped (but_call (step s (call.ExcNotify e)))) (after_machine_step trapped (but_call (step s (call.Destroy t)))))).state
-        (effect.Trapped t e ∷ (cond b (after_call s trapped t c) (cond d (after_machine_step trapped (but_call (step s (call.ExcNotify e)))) (after_machine_step trapped (but_call (step s (call.Destroy t)))))).effects)
+        (cond b (after_call s trapped t c) (cond d (after_machine_step trapped (but_call (step s (call.ExcNotify e))))
+        (after_machine_step trapped (but_call (step s (call.Destroy t)))))).state
+        (effect.Trapped t e
+        ∷ (cond b (after_call s trapped t c) (cond d (after_machine_step trapped (but_call (step s (call.ExcNotify e))))
+        (after_machine_step trapped (but_call (step s (call.Destroy t)))))).effects)
     by_given true d = calls_trapped s _ _ t e (calls_made s was trapped t c turn)
     by_given false true = calls_trapped s _ _ t e (calls_unasked s was t (call.ExcNotify e) turn (λ p. refl))
     by_given false false = calls_trapped s _ _ t e (calls_unasked s was t (call.Destroy t) turn (λ p. refl))
@@ -393,7 +426,8 @@ idle_moved s was = record { sets = λ p. 0; does = does_none s [] (λ q asks. re
 
 rites-same : (q : Effect → Bool) → AsksForFates q → (dead : ℕ) (es : List Effect) → count_by q (map (as_rites dead) es) ≡ count_by q es
 rites-same q asks dead [] = refl
-rites-same q asks dead (x ∷ xs) = omega (arith, count-cons q (as_rites dead x) (map (as_rites dead) xs), count-cons q x xs, ap one (same x), rites-same q asks dead xs)
+rites-same q asks dead (x ∷ xs) =
+    omega (arith, count-cons q (as_rites dead x) (map (as_rites dead) xs), count-cons q x xs, ap one (same x), rites-same q asks dead xs)
   where
     same : (x : Effect) → q (as_rites dead x) ≡ q x
     same (effect.Called t c) = refl
@@ -407,19 +441,28 @@ rites-same q asks dead (x ∷ xs) = omega (arith, count-cons q (as_rites dead x)
     same (effect.Rites a d) = refl
 
 -- with the report after it
-said_moved : (from s : State) (es : List Effect) (reports : List ℕ) → Calls from s es → Moved from (after_rites s es reports).state (after_rites s es reports).effects
+said_moved : (from s : State) (es : List Effect) (reports : List ℕ) → Calls from s es
+    → Moved from (after_rites s es reports).state (after_rites s es reports).effects
 said_moved from s es reports calls = by_armed (is_event_armed s rites_event) refl reports
   where
     silent : Moved from s es
-    silent = record { sets = calls.sets; does = calls.does; told = λ p. sym (ap (exits_set_in p) (append-nil es)) ∙ calls.told p [] refl; lawful = calls.lawful }
+    silent = record {
+      sets = calls.sets;
+      does = calls.does;
+      told = λ p. sym (ap (exits_set_in p) (append-nil es)) ∙ calls.told p [] refl;
+      lawful = calls.lawful;
+    }
 
-    by_armed : (b : Bool) → is_event_armed s rites_event ≡ b → (rs : List ℕ) → Moved from (cond b (after_first_report s es rs) (record { state = s; reports = rs; effects = es })).state (cond b (after_first_report s es rs) (record { state = s; reports = rs; effects = es })).effects
+    by_armed : (b : Bool) → is_event_armed s rites_event ≡ b → (rs : List ℕ)
+        → Moved from (cond b (after_first_report s es rs) (record { state = s; reports = rs; effects = es })).state
+        (cond b (after_first_report s es rs) (record { state = s; reports = rs; effects = es })).effects
     by_armed true arms [] = silent
     by_armed true arms (dead ∷ later) =
         let sent = (deliver s rites_event (report_text dead)).effects in
         record {
           sets = calls.sets;
-          does = does_as from _ (es ++ sent) calls.sets (does_delivery from s es calls.sets calls.does rites_event (report_text dead)) (es ++ map (as_rites dead) sent)
+          does = does_as from _ (es ++ sent) calls.sets (does_delivery from s es calls.sets calls.does rites_event (report_text dead))
+              (es ++ map (as_rites dead) sent)
               (λ q asks. omega (arith, count-append q es (map (as_rites dead) sent), count-append q es sent, rites-same q asks dead sent));
           told = λ p. calls.told p (map (as_rites dead) sent) (later-rites dead sent (later-deliver s rites_event (report_text dead)));
           lawful = Lawful-deliver s calls.lawful rites_event arms (report_text dead);
@@ -434,11 +477,14 @@ call_moved es was c = by_choice (choice es.state) refl
     by_choice None is = idle_moved es.state was
     by_choice (Some t) is = said_moved es.state _ _ _ (calls_called es.state was es.trapped t c es.pending is)
 
-pub take_moved : (es : EventState) → Lawful es.state None → (e : ℕ) (text : List ℕ) → is_takeable es e ≡ true → Moved es.state (take_event es e text).after.state (take_event es e text).effects
+pub take_moved : (es : EventState) → Lawful es.state None → (e : ℕ) (text : List ℕ) → is_takeable es e ≡ true
+    → Moved es.state (take_event es e text).after.state (take_event es e text).effects
 unfolding take_event
 take_moved es was e text may = by_trapped (is_trapped es.trapped e) may
   where
-    by_trapped : (b : Bool) → cond b (may_trap es) (nat_lt e rites_event && is_event_armed es.state e) ≡ true → Moved es.state (cond b (after_take_trap es e) (after_pass_on es (deliver es.state e text))).after.state (cond b (after_take_trap es e) (after_pass_on es (deliver es.state e text))).effects
+    by_trapped : (b : Bool) → cond b (may_trap es) (nat_lt e rites_event && is_event_armed es.state e) ≡ true
+        → Moved es.state (cond b (after_take_trap es e) (after_pass_on es (deliver es.state e text))).after.state
+        (cond b (after_take_trap es e) (after_pass_on es (deliver es.state e text))).effects
     by_trapped true h = record {
       sets = λ p. 0;
       does = does_none es.state _ (λ q asks. omega (arith, count-cons q (effect.Delivered null_id e) [], ap one (asks.no_delivery null_id e)));

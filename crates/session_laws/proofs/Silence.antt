@@ -22,12 +22,14 @@ record Silent (s : State) (steps : List Made) : Type 0 where
   silent : (u m : ℕ) → 1 ≤ deaths u (take m steps) → (p : ExitTest) → exits_run (is_set_by u p) (drop m steps) ≡ 0
 
 -- one step more, in which nothing runs of those that have died before
-silent_push : (s : State) (steps : List Made) (made : Made) → Silent s steps → ((u : ℕ) → is_thread s u ≡ false → (p : ExitTest) → exits_passing (is_set_by u p) made.effects ≡ 0)
+silent_push : (s : State) (steps : List Made) (made : Made) → Silent s steps
+    → ((u : ℕ) → is_thread s u ≡ false → (p : ExitTest) → exits_passing (is_set_by u p) made.effects ≡ 0)
     → (u m : ℕ) → 1 ≤ deaths u (take m (steps ++ made ∷ [])) → (p : ExitTest) → exits_run (is_set_by u p) (drop m (steps ++ made ∷ [])) ≡ 0
 silent_push s steps made was none u m died p = by_length (nat_le m (length steps)) refl
   where
     gone : 1 ≤ deaths u (take m steps) → is_thread s u ≡ false
-    gone some = (or_parts (is_thread s u) (is_agent s u) (was.buried.gone u (omega (arith, some, sum_by-take-le (λ (made : Made). count_by (is_died u) made.effects) steps m))).dead).0
+    gone some = (or_parts (is_thread s u) (is_agent s u)
+        (was.buried.gone u (omega (arith, some, sum_by-take-le (λ (made : Made). count_by (is_died u) made.effects) steps m))).dead).0
 
     later : m ≤ length steps → 1 ≤ deaths u (take m steps) → exits_run (is_set_by u p) (drop m (steps ++ made ∷ [])) ≡ 0
     later within some = omega (
@@ -54,7 +56,10 @@ silent_lasts = record {
 }
 
 silent_opening : (params : PodParams) → 1 ≤ params.maxpri → params.maxpri ≤ 255 → Silent (opening params) []
-silent_opening params low high = record { buried = buried_opening params low high; silent = λ u m died p. ap (exits_run (is_set_by u p)) (drop_all m [] (omega arith)) }
+silent_opening params low high = record {
+  buried = buried_opening params low high;
+  silent = λ u m died p. ap (exits_run (is_set_by u p)) (drop_all m [] (omega arith));
+}
 
 pub the_dead_run_nothing : (B : Type 0) → InEverySession B (TheDeadRunNothing {B = B})
 the_dead_run_nothing B setting low high takes n h = (play_lasts Silent silent_lasts setting (silent_opening setting.params low high) takes n h).silent

@@ -30,7 +30,8 @@ module _ (Holds : State → List Made → Type 0) (lasts : Lasts Holds) {B : Typ
   called_lasts : (live : Live B) (steps : List Made) (t : ℕ) (reply : Polled B) → Holds live.pod.state steps
       → InIt (with_move (record { live = live; steps = steps }) None (call_move setting.bodies live t reply))
   unfolding call_move
-  called_lasts live steps t reply h = lasts.push live.pod.state (event_step live.pod reply.0).after.state steps _ h (call_moved live.pod (lasts.lawful live.pod.state steps h) reply.0)
+  called_lasts live steps t reply h =
+      lasts.push live.pod.state (event_step live.pod reply.0).after.state steps _ h (call_moved live.pod (lasts.lawful live.pod.state steps h) reply.0)
 
   row_lasts : (live : Live B) (steps : List Made) (t : ℕ) (o : Option (Row B)) → Holds live.pod.state steps
       → InIt (with_move (record { live = live; steps = steps }) None (move_row setting.next setting.bodies live t o))
@@ -48,19 +49,22 @@ module _ (Holds : State → List Made → Type 0) (lasts : Lasts Holds) {B : Typ
 
   take_lasts : (took : Took) (s : Session B) → IsTrue (is_take_due took s) → InIt s → InIt (take_step setting took s)
   unfolding take_move
-  take_lasts took s may h = lasts.push s.live.pod.state (take_event s.live.pod took.event took.line.text).after.state s.steps _ h (take_moved s.live.pod (lasts.lawful s.live.pod.state s.steps h) took.event took.line.text may)
+  take_lasts took s may h = lasts.push s.live.pod.state (take_event s.live.pod took.event took.line.text).after.state s.steps _ h
+      (take_moved s.live.pod (lasts.lawful s.live.pod.state s.steps h) took.event took.line.text may)
 
   module _ (start : Holds (opening setting.params) []) where
     calls_last : (n : ℕ) → InIt (session_of_calls setting n)
     calls_last zero = start
     calls_last (suc n) = call_lasts (session_of_calls setting n) (calls_last n)
 
-    with_lasts : (took : Took) (before : ℕ → Session B) (Before : ℕ → Type 0) → ((n : ℕ) → Before n → InIt (before n)) → (n : ℕ) → TakeDue setting took before Before n → InIt (with_take setting took before n)
+    with_lasts : (took : Took) (before : ℕ → Session B) (Before : ℕ → Type 0) → ((n : ℕ) → Before n → InIt (before n)) → (n : ℕ)
+        → TakeDue setting took before Before n → InIt (with_take setting took before n)
     with_lasts took before Before was zero h = take_lasts took (before 0) h.2 (was 0 h.1)
     with_lasts took before Before was (suc n) h = by_turn (took.turn == suc n) (λ d. with_lasts took before Before was n d) h
       where
         by_turn : (b : Bool) → (TakeDue setting took before Before n → InIt (with_take setting took before n))
-            → MatchBool b (Before (suc n) × IsTrue (is_take_due took (before (suc n)))) (TakeDue setting took before Before n × IsTrue (is_call_due (with_take setting took before n)))
+            → MatchBool b (Before (suc n) × IsTrue (is_take_due took (before (suc n))))
+            (TakeDue setting took before Before n × IsTrue (is_call_due (with_take setting took before n)))
             → InIt (if b then take_step setting took (before (suc n)) else call_step setting (with_take setting took before n))
         by_turn true rest h = take_lasts took (before (suc n)) h.1 (was (suc n) h.0)
         by_turn false rest h = call_lasts (with_take setting took before n) (rest h.0)

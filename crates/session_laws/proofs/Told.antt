@@ -9,7 +9,8 @@ use Rattle.lwp_types.specs.declared.call.Effect.{Effect}
 use Rattle.lwp_types.specs.declared.call.ExitCall.{ExitCall}
 use Rattle.pod_laws.specs.Once.{ExitTest, sets_of_call, sets_of_step}
 use Rattle.session_laws.specs.Exits.{exits_set_in, sets_if_answered, sets_by_effects}
-use Rattle.std.proofs.Common.{Bool, List, None, Option, Some, [], ap, append_assoc, cond, eq-eqb, eqb, false, length, refl, sym, true, ℕ, ◌++◌, ◌+◌, ◌∙◌, ◌∷◌, ◌≡◌, ◌||◌}
+use Rattle.std.proofs.Common.{Bool, List, None, Option, Some, [], ap, append_assoc, cond, eq-eqb, eqb}
+use Rattle.std.proofs.Common.{false, length, refl, sym, true, ℕ, ◌++◌, ◌+◌, ◌∙◌, ◌∷◌, ◌≡◌, ◌||◌}
 use Rattle.std.specs.Prelude.{nat_le}
 use Rattle.lwp_types.specs.declared.call.Call.TheVariants as call
 use Rattle.lwp_types.specs.declared.call.LwpErr.TheVariants as error
@@ -18,7 +19,8 @@ use Rattle.lwp_types.specs.declared.rows.Mark.TheVariants as mark
 -- what a call sets: one exit procedure, unless it is refused, or nothing
 pub data Sets (c : Call) : Type 0 where
   Exit : (x : ExitCall) → c ≡ call.OnExit x → Sets c
-  Nothing : ((p : ExitTest) (s : State) (t : ℕ) → sets_of_call p s t c ≡ 0) → ((p : ExitTest) (t : ℕ) (es : List Effect) → sets_by_effects p t c es ≡ 0) → Sets c
+  Nothing : ((p : ExitTest) (s : State) (t : ℕ) → sets_of_call p s t c ≡ 0)
+      → ((p : ExitTest) (t : ℕ) (es : List Effect) → sets_by_effects p t c es ≡ 0) → Sets c
 
 pub what_it_sets : (c : Call) → Sets c
 what_it_sets (call.OnExit x) = Exit x refl
@@ -29,7 +31,8 @@ module _ (p : ExitTest) where
   abbrev answered_in : ℕ → Case → List Effect → List Effect
   answered_in t made rest = made.others ++ (own_effects t made.own ++ rest)
 
-  exit_told : (s : State) (t : ℕ) (x : ExitCall) (rest : List Effect) → sets_if_answered p t x (answered_in t (on_exit s t x) rest) ≡ sets_of_call p s t (call.OnExit x)
+  exit_told : (s : State) (t : ℕ) (x : ExitCall) (rest : List Effect)
+      → sets_if_answered p t x (answered_in t (on_exit s t x) rest) ≡ sets_of_call p s t (call.OnExit x)
   unfolding unless
   exit_told s t x rest = by_tests (nat_le 256 (length (marks_in s t))) (nat_le 4294967295 s.next_registration)
     where
@@ -42,7 +45,12 @@ module _ (p : ExitTest) where
       refusal false = refl
 
       by_tests : (a b : Bool)
-          → sets_if_answered p t x (answered_in t (cond a (refusal_case s error.NoRoom) (cond b (refusal_case s error.NoRoom) (value_case (record s { threads = with_marks t (marks_in s t ++ mark.Exit s.next_registration x ∷ []) s.threads; next_registration = s.next_registration + 1 }) s.next_registration))) rest)
+          → sets_if_answered p t x (answered_in t
+          (cond a (refusal_case s error.NoRoom) (cond b (refusal_case s error.NoRoom) (value_case (record s {
+            threads = with_marks t (marks_in s t ++ mark.Exit s.next_registration x ∷ []) s.threads;
+            next_registration = s.next_registration + 1;
+          }) s.next_registration)))
+          rest)
           ≡ cond (a || b) 0 (cond (p t s.next_registration x) 1 0)
       by_tests true b = refusal (eqb t t)
       by_tests false true = refusal (eqb t t)
@@ -61,7 +69,8 @@ module _ (p : ExitTest) where
       by_choice (Some t) = case_told s t c (end_effects (case_of s t c).after) (what_it_sets c)
 
   -- whatever is told after the step
-  pub step_told_before : (s : State) (t : ℕ) (c : Call) (rest : List Effect) → choice s ≡ Some t → exits_set_in p ((step s c).effects ++ rest) ≡ sets_of_step p s (choice s) c
+  pub step_told_before : (s : State) (t : ℕ) (c : Call) (rest : List Effect) → choice s ≡ Some t
+      → exits_set_in p ((step s c).effects ++ rest) ≡ sets_of_step p s (choice s) c
   unfolding step step_by
   step_told_before s t c rest turn = by_choice (choice s) turn
     where
@@ -69,5 +78,6 @@ module _ (p : ExitTest) where
       by_choice None e = absurd (cc)
       by_choice (Some u) e =
           let made = case_of s u c in
-          ap (sets_by_effects p u c) (append_assoc made.others (own_effects u made.own ++ end_effects made.after) rest ∙ ap (λ es. made.others ++ es) (append_assoc (own_effects u made.own) (end_effects made.after) rest))
+          ap (sets_by_effects p u c) (append_assoc made.others (own_effects u made.own ++ end_effects made.after) rest
+          ∙ ap (λ es. made.others ++ es) (append_assoc (own_effects u made.own) (end_effects made.after) rest))
           ∙ case_told s u c (end_effects made.after ++ rest) (what_it_sets c)

@@ -30,7 +30,8 @@ module _ (s : State) (t : ℕ) where
   abbrev AllBlocked : List ℕ → Type 0
   AllBlocked c = AllByRecursion (λ u. is_blocked_in s u ≡ true) c
 
-  joined : (here : ℕ) → is_blocked_in s here ≡ true → (o : Option (List ℕ)) → ((us : List ℕ) → o ≡ Some us → AllBlocked us) → (c : List ℕ) → option_map (λ us. here ∷ us) o ≡ Some c → AllBlocked c
+  joined : (here : ℕ) → is_blocked_in s here ≡ true → (o : Option (List ℕ)) → ((us : List ℕ) → o ≡ Some us → AllBlocked us) → (c : List ℕ)
+      → option_map (λ us. here ∷ us) o ≡ Some c → AllBlocked c
   joined here blocked None rest c is = absurd (none-some c is)
   joined here blocked (Some us) rest c is = subst AllBlocked (ap list_in is) (blocked, rest us refl)
 
@@ -38,14 +39,17 @@ module _ (s : State) (t : ℕ) where
   all_blocked zero here c is = absurd (none-some c is)
   all_blocked (suc n) here c is = by_less (ltb here t) (λ u us same. all_blocked n u us same) is
     where
-      by_same : (b : Bool) → ((u : ℕ) (us : List ℕ) → round (next_of s) t n u ≡ Some us → AllBlocked us) → is_blocked_in s here ≡ true → (u : ℕ) → cond b (Some (here ∷ [])) (option_map (λ us. here ∷ us) (round (next_of s) t n u)) ≡ Some c → AllBlocked c
+      by_same : (b : Bool) → ((u : ℕ) (us : List ℕ) → round (next_of s) t n u ≡ Some us → AllBlocked us) → is_blocked_in s here ≡ true
+          → (u : ℕ) → cond b (Some (here ∷ [])) (option_map (λ us. here ∷ us) (round (next_of s) t n u)) ≡ Some c → AllBlocked c
       by_same true later blocked u e = joined here blocked (Some []) (λ us same. subst AllBlocked (ap list_in same) tt) c e
       by_same false later blocked u e = joined here blocked (round (next_of s) t n u) (λ us same. later u us same) c e
 
-      by_next : (o : Option ℕ) → ((u : ℕ) (us : List ℕ) → round (next_of s) t n u ≡ Some us → AllBlocked us) → next_of s here ≡ o → round_by (round (next_of s) t n) t here o ≡ Some c → AllBlocked c
+      by_next : (o : Option ℕ) → ((u : ℕ) (us : List ℕ) → round (next_of s) t n u ≡ Some us → AllBlocked us) → next_of s here ≡ o
+          → round_by (round (next_of s) t n) t here o ≡ Some c → AllBlocked c
       by_next None later is_next e = absurd (none-some c e)
       by_next (Some u) later is_next e = by_same (eqb u t) later (blocked_in s u (thread_of s here) is_next) u e
 
-      by_less : (b : Bool) → ((u : ℕ) (us : List ℕ) → round (next_of s) t n u ≡ Some us → AllBlocked us) → cond b None (round_by (round (next_of s) t n) t here (next_of s here)) ≡ Some c → AllBlocked c
+      by_less : (b : Bool) → ((u : ℕ) (us : List ℕ) → round (next_of s) t n u ≡ Some us → AllBlocked us)
+          → cond b None (round_by (round (next_of s) t n) t here (next_of s here)) ≡ Some c → AllBlocked c
       by_less true later e = absurd (none-some c e)
       by_less false later e = by_next (next_of s here) later refl e

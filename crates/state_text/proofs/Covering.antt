@@ -3,7 +3,8 @@ use Rattle.lwp_types.specs.State.{member}
 use Rattle.state_text.specs.Covers.{AreCovered, AreDone, HasAll, IsCovered, IsLeastFrom, Leads, comes, is_unseen}
 use Rattle.state_text.specs.Keys.{key_at}
 use Rattle.state_text.specs.Waiting.{round, round_by}
-use Rattle.std.proofs.Common.{Bool, List, None, Option, Some, [], ap, arith, cond, eqb, false, get_or, inl, inr, length, ltb, refl, replicate, set, suc, sym, true, zero, ℕ, ◌++◌, ◌+◌, ◌<◌, ◌∙◌, ◌∷◌, ◌||◌, ◌≡◌, ◌⊎◌, ◌≤◌}
+use Rattle.std.proofs.Common.{Bool, List, None, Option, Some, [], ap, arith, cond, eqb, false, get_or, inl, inr, length, ltb}
+use Rattle.std.proofs.Common.{refl, replicate, set, suc, sym, true, zero, ℕ, ◌++◌, ◌+◌, ◌<◌, ◌∙◌, ◌∷◌, ◌||◌, ◌≡◌, ◌⊎◌, ◌≤◌}
 use Rattle.std.proofs.lemmas.Bool.{cases_lt, eq-eqb, eqb-true, false≢true, ltb-false}
 use Rattle.std.proofs.lemmas.Bool.Decides.{eqb_tells}
 use Rattle.std.proofs.lemmas.List.{get_or-replicate, get_or-set_other, get_or-set_same, length-replicate, length-set}
@@ -40,7 +41,8 @@ module _ (next : ℕ → Option ℕ) where
   goes_on m zero here u is h = absurd (false≢true h)
   goes_on m (suc n) here u is h = by_less (ltb here m) refl (rw is at h)
     where
-      by_same : (b : Bool) → eqb u m ≡ b → is_some (cond b (Some (here ∷ [])) (option_map (λ us. here ∷ us) (round next m n u))) ≡ true → (u ≡ m) ⊎ (comes next m n u ≡ true)
+      by_same : (b : Bool) → eqb u m ≡ b → is_some (cond b (Some (here ∷ [])) (option_map (λ us. here ∷ us) (round next m n u))) ≡ true
+          → (u ≡ m) ⊎ (comes next m n u ≡ true)
       by_same true e g = inl (eqb-true u m e)
       by_same false e g = inr (mapped (λ us. here ∷ us) (round next m n u) g)
 
@@ -79,7 +81,8 @@ module _ (next : ℕ → Option ℕ) where
       leads_on colours start found more was all covered = ((λ p lt seen. covers_more found more all (key_at keys p) (was p lt seen)), covered)
 
       module _ (old new : List ℕ) (start here place colour : ℕ) (leads : Leads next many keys old new start here) (at : key_at keys place ≡ here) where
-        set_seen : (found : List ℕ) → IsCovered next many found here → AreCovered next many keys new found → AreCovered next many keys (set new place colour) found
+        set_seen : (found : List ℕ) → IsCovered next many found here → AreCovered next many keys new found
+            → AreCovered next many keys (set new place colour) found
         set_seen found covered was p lt seen = elim (eqb_tells p place) [
           | inl same ↦ ap_to (sym at ∙ ap (λ q. key_at keys q) (sym same.1)) covered
           | inr other ↦ was p (omega (arith, lt, length-set new place colour)) (ap (λ c. eqb c 0) (sym (get_or-set_other new place p colour 0 other.1)) ∙ seen)
@@ -210,7 +213,8 @@ module _ (next : ℕ → Option ℕ) (many : ℕ) (keys old : List ℕ) (colour 
 
     module _ (place : ℕ) (within : place < length new) (at : key_at keys place ≡ here) where
       -- one comes to somebody who had been seen before
-      pub meets : is_unseen new place ≡ false → eqb (get_or new place 0) colour ≡ false → (found : List ℕ) → AreCovered next many keys old found → AreDone next many keys start new found
+      pub meets : is_unseen new place ≡ false → eqb (get_or new place 0) colour ≡ false → (found : List ℕ)
+          → AreCovered next many keys old found → AreDone next many keys start new found
       meets seen other found was =
           let here_covered : IsCovered next many found here = rw (← at) (way.before found was place within seen other) in
           way.leads found found was (λ m h. h) here_covered
@@ -220,10 +224,14 @@ module _ (next : ℕ → Option ℕ) (many : ℕ) (keys old : List ℕ) (colour 
       further u is = record {
         places = length-set new place colour ∙ way.places;
         before = λ found was p lt seen other. elim (eqb_tells p place) [
-          | inl same ↦ absurd (false≢true (sym other ∙ eq-eqb (get_or (set new place colour) p 0) colour (ap (λ q. get_or (set new place colour) q 0) same.1 ∙ get_or-set_same new place colour 0 within)))
+          | inl same
+              ↦ absurd (false≢true (sym other
+              ∙ eq-eqb (get_or (set new place colour) p 0) colour
+              (ap (λ q. get_or (set new place colour) q 0) same.1 ∙ get_or-set_same new place colour 0 within)))
           | inr apart ↦
               let kept = get_or-set_other new place p colour 0 apart.1 in
-              way.before found was p (omega (arith, lt, length-set new place colour)) (ap (λ c. eqb c 0) (sym kept) ∙ seen) (ap (λ c. eqb c colour) (sym kept) ∙ other)
+              way.before found was p (omega (arith, lt, length-set new place colour)) (ap (λ c. eqb c 0) (sym kept) ∙ seen)
+              (ap (λ c. eqb c colour) (sym kept) ∙ other)
         ];
         leads = leads_further next many keys old new start here place colour way.leads at u is;
       }
@@ -239,11 +247,13 @@ module _ (next : ℕ → Option ℕ) (many : ℕ) (keys : List ℕ) where
   pub none_found : Found next many keys 0 (replicate many 0) []
   none_found = record {
     places = length-replicate {A = ℕ} many 0;
-    covered = λ p lt seen. absurd (false≢true (sym seen ∙ ap (λ c. eqb c 0) (get_or-replicate many p 0 0 (omega (arith, lt, length-replicate {A = ℕ} many 0)))));
+    covered = λ p lt seen.
+        absurd (false≢true (sym seen ∙ ap (λ c. eqb c 0) (get_or-replicate many p 0 0 (omega (arith, lt, length-replicate {A = ℕ} many 0)))));
     done = λ j lt. absurd (omega (arith, lt));
   }
 
-  module _ (i : ℕ) (colours found : List ℕ) (was : Found next many keys i colours found) (start : ℕ) (at : key_at keys i ≡ start) (new : List ℕ) (kept : length new ≡ length colours) where
+  module _ (i : ℕ) (colours found : List ℕ) (was : Found next many keys i colours found) (start : ℕ) (at : key_at keys i ≡ start)
+      (new : List ℕ) (kept : length new ≡ length colours) where
     done_next : (more : List ℕ) → HasAll more found → IsCovered next many more start → (j : ℕ) → j < i + 1 → IsCovered next many more (key_at keys j)
     done_next more all covered j lt = elim (cases_lt j i) [
       | inl before ↦ covers_more next many found more all (key_at keys j) (was.done j before)
@@ -253,13 +263,15 @@ module _ (next : ℕ → Option ℕ) (many : ℕ) (keys : List ℕ) where
     ]
 
     -- a way led to nothing that is not known
-    pub nothing_new : ((found : List ℕ) → AreCovered next many keys colours found → AreDone next many keys start new found) → Found next many keys (i + 1) new found
+    pub nothing_new : ((found : List ℕ) → AreCovered next many keys colours found → AreDone next many keys start new found)
+        → Found next many keys (i + 1) new found
     nothing_new done =
         let all = done found was.covered in
         record { places = kept ∙ was.places; covered = all.0; done = done_next found (λ m h. h) all.1 }
 
     -- a way led into a cycle, of which the least is found
-    pub one_new : (to least : ℕ) → Leads next many keys colours new start to → IsLeastFrom next many to least → Found next many keys (i + 1) new (found ++ least ∷ [])
+    pub one_new : (to least : ℕ) → Leads next many keys colours new start to → IsLeastFrom next many to least
+        → Found next many keys (i + 1) new (found ++ least ∷ [])
     one_new to least leads is =
         let more = found ++ least ∷ [] in
         let all = leads found more was.covered (keeps_all next many found least) (found_least next many found to least is) in

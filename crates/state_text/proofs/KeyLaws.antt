@@ -1,6 +1,7 @@
 -- Keys and their places as numbers, by size: where a key comes next.
 use Rattle.state_text.specs.Keys.{AreCodes, IsAbsent, IsCode, IsNext, IsPlace, code, codes_from, key_at, place_under}
-use Rattle.std.proofs.Common.{Bool, List, None, Some, [], ap, arith, cond, drop, get_or, inl, inr, length, ltb, refl, suc, sym, take, true, false, zero, ℕ, ◌*◌, ◌++◌, ◌+◌, ◌-◌, ◌<◌, ◌∙◌, ◌∷◌, ◌≡◌, ◌≤◌}
+use Rattle.std.proofs.Common.{Bool, List, None, Some, [], ap, arith, cond, drop, get_or, inl, inr, length, ltb, refl}
+use Rattle.std.proofs.Common.{suc, sym, take, true, false, zero, ℕ, ◌*◌, ◌++◌, ◌+◌, ◌-◌, ◌<◌, ◌∙◌, ◌∷◌, ◌≡◌, ◌≤◌}
 use Rattle.std.proofs.lemmas.Bool.{cases_lt, ltb-false, ltb-true, ne_eqb}
 use Rattle.std.proofs.lemmas.List.{append-nil, drop_all, take_all}
 use Rattle.std.proofs.lemmas.List.Sorted.{Contains-permutation, IsPermutation-sym}
@@ -22,7 +23,8 @@ pub are_codes : (keys ys : List ℕ) → length keys ≤ 18446744073709551616 �
 are_codes keys ys few moved rise = record {
   few = few;
   rise = rise;
-  each = λ i lt. Contains-permutation (codes_from 0 keys) ys (code (key_at keys i) i) moved (i, omega (arith, lt, length_codes 0 keys), code_at 0 keys i (code (key_at keys i) i) lt ∙ ap (λ m. code (key_at keys i) m) (omega arith));
+  each = λ i lt. Contains-permutation (codes_from 0 keys) ys (code (key_at keys i) i) moved
+      (i, omega (arith, lt, length_codes 0 keys), code_at 0 keys i (code (key_at keys i) i) lt ∙ ap (λ m. code (key_at keys i) m) (omega arith));
   only = λ c has.
       let found = Contains-permutation ys (codes_from 0 keys) c (IsPermutation-sym (codes_from 0 keys) ys moved) has in
       let lt : found.0 < length keys = omega (arith, found.1, length_codes 0 keys) in
@@ -33,14 +35,21 @@ are_codes keys ys few moved rise = record {
 one_key : (k key p from : ℕ) → p < 18446744073709551616 → code key from ≤ code k p → code k p - key * 18446744073709551616 < 18446744073709551616 → k ≡ key
 one_key k key p from few least most = omega (arith, few, least, most)
 
-module _ (keys codes : List ℕ) (are : AreCodes keys codes) (key from at : ℕ) (point : IsPartitionPoint (λ c. ltb c (code key from) ≡ true) (λ c. ltb c (code key from) ≡ false) codes at) where
+module _ (keys codes : List ℕ) (are : AreCodes keys codes) (key from at : ℕ)
+    (point : IsPartitionPoint (λ c. ltb c (code key from) ≡ true) (λ c. ltb c (code key from) ≡ false) codes at) where
   -- where a key stands its number is among the others
   not_before : (j d : ℕ) → j < length keys → key_at keys j ≡ key → from ≤ j → at < length codes × (get_or codes at d ≤ code key j)
   not_before j d lt same ge =
       let has = are.each j lt in
       let here : get_or codes has.0 (code (key_at keys j) j) ≡ code key j = has.2 ∙ ap (λ k. code k j) same in
       elim (cases_lt has.0 at) [
-        | inl less ↦ absurd (omega (arith, ge, here, ltb-true (get_or codes has.0 (code (key_at keys j) j)) (code key from) (point.0 has.0 (code (key_at keys j) j) (omega arith) less)))
+        | inl less
+            ↦ absurd (omega (
+              arith,
+              ge,
+              here,
+              ltb-true (get_or codes has.0 (code (key_at keys j) j)) (code key from) (point.0 has.0 (code (key_at keys j) j) (omega arith) less),
+            ))
         | inr more ↦ (
           omega (arith, more, has.1),
           omega (arith, here, any_default codes has.0 d (code (key_at keys j) j) has.1, are.rise at has.0 d more has.1),
@@ -53,7 +62,8 @@ module _ (keys codes : List ℕ) (are : AreCodes keys codes) (key from at : ℕ)
       any_default (x ∷ xs) (suc i) d e lt = any_default xs i d e (omega (arith, lt))
 
   -- the number at the place is one of the key
-  pub here_next : (c : ℕ) → at < length codes → get_or codes at c ≡ c → c - key * 18446744073709551616 < 18446744073709551616 → IsPlace keys key from (c - key * 18446744073709551616)
+  pub here_next : (c : ℕ) → at < length codes → get_or codes at c ≡ c → c - key * 18446744073709551616 < 18446744073709551616
+      → IsPlace keys key from (c - key * 18446744073709551616)
   here_next c within is most =
       let found = are.only c (at, within, is) in
       let p = found.place in
@@ -86,7 +96,8 @@ module _ (keys codes : List ℕ) (are : AreCodes keys codes) (key from at : ℕ)
   pub next_here : (c : ℕ) → at < length codes → get_or codes at c ≡ c → IsNext keys key from (place_under key c)
   next_here c within is = by_test (ltb (c - key * 18446744073709551616) 18446744073709551616) refl
     where
-      by_test : (b : Bool) → ltb (c - key * 18446744073709551616) 18446744073709551616 ≡ b → IsNext keys key from (cond b (Some (c - key * 18446744073709551616)) None)
+      by_test : (b : Bool) → ltb (c - key * 18446744073709551616) 18446744073709551616 ≡ b
+          → IsNext keys key from (cond b (Some (c - key * 18446744073709551616)) None)
       by_test true e = here_next c within is (ltb-true (c - key * 18446744073709551616) 18446744073709551616 e)
       by_test false e = none_next c is (ltb-false (c - key * 18446744073709551616) 18446744073709551616 e)
 

@@ -10,7 +10,8 @@ use Rattle.state_text.specs.Keys.{IsAbsent}
 use Rattle.state_text.specs.Text.{cycle_line, is_wanted, taken_of}
 use Rattle.state_text.specs.Waiting.{cycle_from, cycles, next_of}
 use Rattle.state_text.specs.declared.clients.ClientLines.{ClientLines}
-use Rattle.std.proofs.Common.{Bool, List, None, Option, Some, [], ap, append-nil, append_assoc, arith, cond, drop, false, get_or, length, ltb, map, refl, suc, sym, true, ℕ, ◌&&◌, ◌++◌, ◌+◌, ◌<◌, ◌∙◌, ◌∷◌, ◌||◌, ◌≡◌, ◌≤◌}
+use Rattle.std.proofs.Common.{Bool, List, None, Option, Some, [], ap, append-nil, append_assoc, arith, cond, drop, false, get_or}
+use Rattle.std.proofs.Common.{length, ltb, map, refl, suc, sym, true, ℕ, ◌&&◌, ◌++◌, ◌+◌, ◌<◌, ◌∙◌, ◌∷◌, ◌||◌, ◌≡◌, ◌≤◌}
 use Rattle.std.proofs.lemmas.Bool.{false≢true}
 use Rattle.std.proofs.lemmas.List.{at_drop_all, at_drop_more, length-map}
 use Rattle.std.proofs.lemmas.List.Folds.{flat_map-map}
@@ -18,7 +19,9 @@ use Rattle.std.specs.List.{flat_map, fold}
 use Rattle.std.specs.Prelude.{is_some, option_to_list}
 
 -- a list whose entries are told with their places
-module _ {X A : Type 0} (F : ℕ → List X → List A) (g : ℕ → X → List A) (none : (n : ℕ) → F n [] ≡ []) (one : (n : ℕ) (x : X) (xs : List X) → F n (x ∷ xs) ≡ g n x ++ F (n + 1) xs) (out end : List A) (xs : List X) (i : ℕ) (all : out ++ F i (drop i xs) ≡ end) where
+module _ {X A : Type 0} (F : ℕ → List X → List A) (g : ℕ → X → List A) (none : (n : ℕ) → F n [] ≡ [])
+    (one : (n : ℕ) (x : X) (xs : List X) → F n (x ∷ xs) ≡ g n x ++ F (n + 1) xs) (out end : List A) (xs : List X) (i : ℕ)
+    (all : out ++ F i (drop i xs) ≡ end) where
   -- one more is told
   pub place_more : (next : List A) (d : X) → i < length xs → next ≡ out ++ g i (get_or xs i d) → next ++ F (i + 1) (drop (i + 1) xs) ≡ end
   place_more next d lt put =
@@ -76,7 +79,8 @@ as_many copy = length-map copy.threads row_in
 module _ (copy : StateCopy) (found : List ℕ) (t : ℕ) (covered : IsCovered (next_of (state_in copy)) (length copy.threads) found t) where
   -- who is not among those found is the least of no cycle
   pub no_cycle : IsAbsent found t 0 (length found) → cycle_from (state_in copy) t ≡ None
-  no_cycle absent = by_option (cycle_from (state_in copy) t) (λ h. false≢true (sym (not_member found t absent) ∙ covered t (length copy.threads) (omega arith) (rw (← as_many copy) h) (rw (← as_many copy) h)))
+  no_cycle absent = by_option (cycle_from (state_in copy) t)
+      (λ h. false≢true (sym (not_member found t absent) ∙ covered t (length copy.threads) (omega arith) (rw (← as_many copy) h) (rw (← as_many copy) h)))
     where
       by_option : (o : Option (List ℕ)) → (is_some o ≡ true → ⊥) → o ≡ None
       by_option None no_such = refl
@@ -85,14 +89,16 @@ module _ (copy : StateCopy) (found : List ℕ) (t : ℕ) (covered : IsCovered (n
 -- a list of cycles, row by row
 module _ (s : State) (out end : List ℕ) (rows : List ThreadCopy) (i : ℕ) (all : out ++ flat_map cycle_line (cycles_from s (drop i rows)) ≡ end) where
   -- no cycle begins with this thread
-  pub cycle_none : (d : ThreadCopy) → i < length rows → cycle_from s (get_or rows i d).number ≡ None → out ++ flat_map cycle_line (cycles_from s (drop (i + 1) rows)) ≡ end
+  pub cycle_none : (d : ThreadCopy) → i < length rows → cycle_from s (get_or rows i d).number ≡ None
+      → out ++ flat_map cycle_line (cycles_from s (drop (i + 1) rows)) ≡ end
   cycle_none d lt none =
       ap (λ o. out ++ flat_map cycle_line (option_to_list o ++ cycles_from s (drop (i + 1) rows))) (sym none)
       ∙ sym (at_drop_more (λ l. out ++ flat_map cycle_line (cycles_from s l)) rows i d lt)
       ∙ all
 
   -- a cycle begins with this thread
-  pub cycle_one : (d : ThreadCopy) (cycle next : List ℕ) → i < length rows → cycle_from s (get_or rows i d).number ≡ Some cycle → next ≡ out ++ cycle_line cycle → next ++ flat_map cycle_line (cycles_from s (drop (i + 1) rows)) ≡ end
+  pub cycle_one : (d : ThreadCopy) (cycle next : List ℕ) → i < length rows → cycle_from s (get_or rows i d).number ≡ Some cycle
+      → next ≡ out ++ cycle_line cycle → next ++ flat_map cycle_line (cycles_from s (drop (i + 1) rows)) ≡ end
   cycle_one d cycle next lt one put =
       let rest = cycles_from s (drop (i + 1) rows) in
       rw put

@@ -1,5 +1,6 @@
 -- Keys of the entries of a list, and where one of them comes next.
-use Rattle.std.specs.Prelude.{List, MatchOption, None, Option, Some, [], false, if◌then◌else◌, length, nat_lt, slice_index_or, ℕ, ◌*◌, ◌+◌, ◌-◌, ◌<◌, ◌==◌, ◌∷◌, ◌≡◌, ◌≤◌}
+use Rattle.std.specs.Prelude.{List, MatchOption, None, Option, Some, [], false, if◌then◌else◌, length}
+use Rattle.std.specs.Prelude.{nat_lt, slice_index_or, ℕ, ◌*◌, ◌+◌, ◌-◌, ◌<◌, ◌==◌, ◌∷◌, ◌≡◌, ◌≤◌}
 use Rattle.std.specs.List.{Contains}
 use Rattle.std.specs.List.Sorted.{IsNonDecreasing}
 

@@ -29,7 +29,8 @@ use Rattle.state_text.specs.declared.clients.ClientLines.{ClientLines}
 use Rattle.trace_text.specs.Lines.{condition_text, exit_text, func_text, letter_if, monitor_text, pattern_text, proc_text, source_text, thread_text, with_space}
 use Rattle.std.specs.Fmt.{decimal}
 use Rattle.std.specs.List.{filter, find, flat_map}
-use Rattle.std.specs.Prelude.{Bool, List, None, Option, Some, [], codes, drop, false, if◌then◌else◌, is_none, nat_lt, not, option_map, slice_index_or, unwrap_or, ℕ, ◌&&◌, ◌++◌, ◌+◌, ◌-◌, ◌==◌, ◌||◌, ◌∷◌}
+use Rattle.std.specs.Prelude.{Bool, List, None, Option, Some, [], codes, drop, false, if◌then◌else◌, is_none, nat_lt}
+use Rattle.std.specs.Prelude.{not, option_map, slice_index_or, unwrap_or, ℕ, ◌&&◌, ◌++◌, ◌+◌, ◌-◌, ◌==◌, ◌||◌, ◌∷◌}
 use Rattle.lwp_types.specs.declared.rows.Block.TheVariants as block
 use Rattle.lwp_types.specs.declared.rows.Mark.TheVariants as mark
 

@@ -6,7 +6,8 @@ use Rattle.lwp_types.specs.declared.rows.Block.{Block}
 use Rattle.lwp_types.specs.declared.rows.Letter.{Letter}
 use Rattle.lwp_types.specs.declared.rows.Lock.{Lock}
 use Rattle.std.specs.List.{find, flat_map}
-use Rattle.std.specs.Prelude.{Bool, List, None, Option, Some, [], if◌then◌else◌, length, nat_lt, option_and_then, option_map, option_to_list, suc, zero, ℕ, ◌==◌, ◌∷◌}
+use Rattle.std.specs.Prelude.{Bool, List, None, Option, Some, [], if◌then◌else◌, length, nat_lt, option_and_then}
+use Rattle.std.specs.Prelude.{option_map, option_to_list, suc, zero, ℕ, ◌==◌, ◌∷◌}
 use Rattle.lwp_types.specs.declared.rows.Block.TheVariants as block
 
 -- to whom a thread's letter goes, received or not

@@ -11,14 +11,19 @@ use Rattle.lwp_types.specs.declared.call.IdKind.TheVariants as kind
 use Rattle.lwp_types.specs.declared.call.Line.{Line}
 use Rattle.lwp_types.specs.declared.call.LwpErr.{LwpErr}
 use Rattle.lwp_types.specs.declared.call.LwpErr.TheVariants as error
-use Rattle.std.proofs.Common.{Bool, List, None, Option, Some, [], ap, arith, codes, cond, eqb, false, length, length-append, refl, subst, suc, sym, true, ℕ, ◌++◌, ◌-◌, ◌<◌, ◌∙◌, ◌∷◌, ◌≡◌, ◌≤◌, ◌^◌, drop}
+use Rattle.std.proofs.Common.{Bool, List, None, Option, Some, [], ap, arith, codes, cond, eqb, false, length, length-append}
+use Rattle.std.proofs.Common.{refl, subst, suc, sym, true, ℕ, ◌++◌, ◌-◌, ◌<◌, ◌∙◌, ◌∷◌, ◌≡◌, ◌≤◌, ◌^◌, drop}
 use Rattle.std.proofs.lemmas.Bool.{eqb-false, eqb-true}
 use Rattle.std.specs.Fmt.{decimal, digits}
 use Rattle.std.specs.Prelude.{IsTrue, bytes_eq, negsuc, not, pos}
 use Rattle.script_lines.specs.Table.{op_at, row_of}
-use Rattle.trace_lines.proofs.WordLaws.{EndsDigits, behind_again, id_again, id_alone, not_number, not_number_on, number_again, number_alone, number_is_word, rest_again, who_again, who_alone, whole_alone}
-use Rattle.trace_lines.specs.Entries.{also_entry_by, call_entry, entry_of, event_entry_by, exit_entry_by, gain_of, id_of, is_suspended, rites_entry_by, taken_post, target_of, thread_entry, tick_entry_by, trap_entry_by, verb_of, who_of}
-use Rattle.trace_lines.specs.Told.{AlsoIsRead, AnswersAreRead, CallsAreRead, DeathsAreRead, EndsAreRead, EventsAreRead, ExitsAreRead, IsAnswer, IsPrinted, RitesAreRead, TicksAreRead, TrapsAreRead, exit_target, exit_verb, gain_in_answer, is_outcome, is_refused, is_created_suspended, target_of_call, verb_of_call}
+use Rattle.trace_lines.proofs.WordLaws.{EndsDigits, behind_again, id_again, id_alone, not_number, not_number_on, number_again}
+use Rattle.trace_lines.proofs.WordLaws.{number_alone, number_is_word, rest_again, who_again, who_alone, whole_alone}
+use Rattle.trace_lines.specs.Entries.{also_entry_by, call_entry, entry_of, event_entry_by, exit_entry_by, gain_of, id_of, is_suspended, rites_entry_by}
+use Rattle.trace_lines.specs.Entries.{taken_post, target_of, thread_entry, tick_entry_by, trap_entry_by, verb_of, who_of}
+use Rattle.trace_lines.specs.Told.{AlsoIsRead, AnswersAreRead, CallsAreRead, DeathsAreRead, EndsAreRead, EventsAreRead, ExitsAreRead}
+use Rattle.trace_lines.specs.Told.{IsAnswer, IsPrinted, RitesAreRead, TicksAreRead, TrapsAreRead, exit_target, exit_verb, gain_in_answer}
+use Rattle.trace_lines.specs.Told.{is_outcome, is_refused, is_created_suspended, target_of_call, verb_of_call}
 use Rattle.trace_lines.specs.Words.{ends, reach, rest, starts, word}
 use Rattle.trace_lines.specs.declared.entry.Entry.TheVariants as entry
 use Rattle.trace_lines.specs.declared.entry.Gain.TheVariants as gain
@@ -46,7 +51,11 @@ flags_again false false false = refl
 created : (procs : List (List ℕ)) (number prio : ℕ) (flags : Flags) → reach 32 (proc_text procs number) ≡ length (proc_text procs number) → prio < 2 ^ 32
     → is_suspended verb.Create (proc_text procs number ++ (codes " " ++ (decimal prio ++ (codes " " ++ flags_text flags)))) ≡ flags.suspended
 created procs number prio flags one lt =
-    rw (rest_again (proc_text procs number) (decimal prio ++ (codes " " ++ flags_text flags)) one, rest_again (decimal prio) (flags_text flags) (number_is_word prio (omega (arith, lt)))) (flags_again flags.suspended flags.nolastrites flags.server)
+    rw (
+      rest_again (proc_text procs number) (decimal prio ++ (codes " " ++ flags_text flags)) one,
+      rest_again (decimal prio) (flags_text flags) (number_is_word prio (omega (arith, lt))),
+    )
+    (flags_again flags.suspended flags.nolastrites flags.server)
 
 said : (t : ℕ) (text : List ℕ) → call_entry t (codes "say" ++ with_space text) ≡ Some (entry.Called t verb.Say null_id false)
 unfolding op_at row_of
@@ -59,7 +68,8 @@ unfolding op_at row_of
 received procs t None mode le = refl
 received procs t (Some u) mode le = rw (who_again t u _ le refl) refl
 
-replied : (procs : List (List ℕ)) (t u : ℕ) (text : List ℕ) → call_entry t (call_text procs (Some t) (call.Reply u text)) ≡ Some (entry.Called t verb.Other null_id false)
+replied : (procs : List (List ℕ)) (t u : ℕ) (text : List ℕ)
+    → call_entry t (call_text procs (Some t) (call.Reply u text)) ≡ Some (entry.Called t verb.Other null_id false)
 unfolding op_at row_of
 replied procs t u text = refl
 
@@ -71,7 +81,8 @@ asked procs t (call.Destroy u) h = ap (λ n. Some (entry.Called t verb.Destroy n
 asked procs t (call.Suspend u) h = ap (λ n. Some (entry.Called t verb.Suspend n false)) (who_alone t u h)
 asked procs t (call.Resume u) h = ap (λ n. Some (entry.Called t verb.Resume n false)) (who_alone t u h)
 asked procs t (call.Join u) h = ap (λ n. Some (entry.Called t verb.Join n false)) (who_alone t u h)
-asked procs t (call.Send u room text) h = ap (λ n. Some (entry.Called t verb.Send n false)) (who_again t u (codes " " ++ (decimal room ++ with_space text)) h refl)
+asked procs t (call.Send u room text) h =
+    ap (λ n. Some (entry.Called t verb.Send n false)) (who_again t u (codes " " ++ (decimal room ++ with_space text)) h refl)
 asked procs t (call.Recv from mode) h = received procs t from mode h
 asked procs t (call.Reply u text) h = replied procs t u text
 asked procs t (call.Enter m) h = ap (λ n. Some (entry.Called t verb.Enter n false)) (id_alone 109 m h)
@@ -115,7 +126,8 @@ answered t (answer.Value (negsuc n)) h = refl
 answered t (answer.Thread u) h = ap (λ g. Some (entry.Answered t g)) (born u h)
 answered t (answer.Monitor m) h = ap (λ g. Some (entry.Answered t g)) (other_id m (eqb m null_id))
 answered t (answer.Cond c) h = ap (λ g. Some (entry.Answered t g)) (other_condition c (eqb c null_id))
-answered t (answer.Letter from text room) h = ap (λ n. Some (entry.Answered t (gain.Letter n))) (id_again 116 from (codes " " ++ (decimal room ++ with_space text)) h refl)
+answered t (answer.Letter from text room) h =
+    ap (λ n. Some (entry.Answered t (gain.Letter n))) (id_again 116 from (codes " " ++ (decimal room ++ with_space text)) h refl)
 answered t (answer.Reply text) h = refl
 answered t (answer.Bound func arg) h = refl
 answered t (answer.Caught depth mark p) h = refl
@@ -191,7 +203,8 @@ pub reported_again : (procs : List (List ℕ)) (took : Option Line) (agent dead 
 reported_again procs took agent dead la ld = by_null (eqb dead null_id) (eqb agent null_id) refl refl
   where
     by_null : (v w : Bool) → eqb dead null_id ≡ v → eqb agent null_id ≡ w
-        → entry_of (codes "rites " ++ (cond v (codes "none") (116 ∷ decimal dead) ++ (codes " to " ++ cond w (codes "none") (116 ∷ decimal agent)))) ≡ Some (entry.Rites agent dead)
+        → entry_of (codes "rites " ++ (cond v (codes "none") (116 ∷ decimal dead) ++ (codes " to " ++ cond w (codes "none") (116 ∷ decimal agent))))
+        ≡ Some (entry.Rites agent dead)
     by_null true w h g = absurd (omega (arith, eqb-true dead null_id h))
     by_null false true h g = absurd (omega (arith, eqb-true agent null_id g))
     by_null false false h g =
@@ -288,7 +301,8 @@ exit_named (exit.Resume t) a = refl
 exit_named (exit.SetExit code) a = refl
 exit_named (exit.Note text) a = noted text a
 
-exit_targets : (x : ExitCall) (a : Answer) → exit_target x ≤ null_id → target_of (exit_verb x) null_id (rest (exit_text None x ++ answer_text a)) ≡ exit_target x
+exit_targets : (x : ExitCall) (a : Answer) → exit_target x ≤ null_id
+    → target_of (exit_verb x) null_id (rest (exit_text None x ++ answer_text a)) ≡ exit_target x
 exit_targets (exit.MonExit m) a h = named 109 m a h
 exit_targets (exit.MonBreak m) a h = named 109 m a h
 exit_targets (exit.Notify c) a h = refl
@@ -299,7 +313,8 @@ exit_targets (exit.SetExit code) a h = refl
 exit_targets (exit.Note text) a h = refl
 
 ran : (reg : ℕ) (x : ExitCall) (a : Answer) → exit_target x ≤ null_id → IsTrue (is_outcome a)
-    → exit_entry_by reg (exit_text None x ++ answer_text a) (verb_of (word (exit_text None x ++ answer_text a))) ≡ Some (entry.Exited reg (exit_verb x) (exit_target x) (is_refused a))
+    → exit_entry_by reg (exit_text None x ++ answer_text a) (verb_of (word (exit_text None x ++ answer_text a)))
+    ≡ Some (entry.Exited reg (exit_verb x) (exit_target x) (is_refused a))
 ran reg x a h o =
     ap (exit_entry_by reg (exit_text None x ++ answer_text a)) (exit_named x a)
     ∙ ap (λ n. Some (entry.Exited reg (exit_verb x) n (not (ends (codes " = 0") (exit_text None x ++ answer_text a))))) (exit_targets x a h)
@@ -307,4 +322,5 @@ ran reg x a h o =
 
 pub exited_again : (procs : List (List ℕ)) (took : Option Line) (t reg : ℕ) (x : ExitCall) (a : Answer) → ExitsAreRead procs took t reg x a
 exited_again procs took t reg x a lt h o =
-    rw (number_again reg (32 ∷ (exit_text None x ++ answer_text a)) lt refl, behind_again reg (32 ∷ (exit_text None x ++ answer_text a)) lt refl) (ran reg x a h o)
+    rw (number_again reg (32 ∷ (exit_text None x ++ answer_text a)) lt refl, behind_again reg (32 ∷ (exit_text None x ++ answer_text a)) lt refl) (ran
+    reg x a h o)

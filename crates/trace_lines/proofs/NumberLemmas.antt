@@ -13,7 +13,8 @@ too_large : (ds : List ℕ) → 2 ^ 64 ≤ value_after 0 ds → None ≡ value_o
 too_large [] big = refl
 too_large (d ∷ ds) big = rw (le-ltb (value_after 0 (d ∷ ds)) (2 ^ 64) big) refl
 
-pub value_of_too_large : (n i : ℕ) (ds : List ℕ) → i < length ds → value_after n (drop i ds) ≡ value_after 0 ds → 2 ^ 64 ≤ 10 * n + (get_or ds i 0 - 48) → None ≡ value_of ds
+pub value_of_too_large : (n i : ℕ) (ds : List ℕ) → i < length ds → value_after n (drop i ds) ≡ value_after 0 ds
+    → 2 ^ 64 ≤ 10 * n + (get_or ds i 0 - 48) → None ≡ value_of ds
 value_of_too_large n i ds lt e big =
     let step : value_after n (drop i ds) ≡ value_after (10 * n + (get_or ds i 0 - 48)) (drop (suc i) ds) = ap (value_after n) (drop-cons ds i 0 lt) in
     too_large ds (omega (arith, value_ge (10 * n + (get_or ds i 0 - 48)) (drop (suc i) ds)))

@@ -1,6 +1,7 @@
 -- What numbers and words of a line are read as.
 use Rattle.lwp_types.specs.Names.{null_id}
-use Rattle.std.proofs.Common.{Bool, List, Some, [], ap, arith, cond, drop, eqb, false, length, refl, rules, suc, sym, true, ℕ, ◌&&◌, ◌++◌, ◌<◌, ◌∙◌, ◌∷◌, ◌≡◌, ◌≤◌, ◌^◌, codes}
+use Rattle.std.proofs.Common.{Bool, List, Some, [], ap, arith, cond, drop, eqb, false, length, refl, rules}
+use Rattle.std.proofs.Common.{suc, sym, true, ℕ, ◌&&◌, ◌++◌, ◌<◌, ◌∙◌, ◌∷◌, ◌≡◌, ◌≤◌, ◌^◌, codes}
 use Rattle.std.proofs.lemmas.Bool.{lt-ltb, eq-eqb, eqb-true, eqb-false}
 use Rattle.std.proofs.lemmas.Fmt.{decimal_nonempty, digits_decimal, digits_value-decimal}
 use Rattle.std.proofs.lemmas.List.{append-nil, drop_at, take_at}
@@ -89,7 +90,8 @@ pub reach-append : (w r : List ℕ) → reach 32 w ≡ length w → reach 32 (w 
 reach-append [] r h = refl
 reach-append (x ∷ w) r h = by_head (eqb x 32) h (λ e. reach-append w r e)
   where
-    by_head : (v : Bool) → cond v 0 (suc (reach 32 w)) ≡ suc (length w) → (reach 32 w ≡ length w → reach 32 (w ++ 32 ∷ r) ≡ length w) → cond v 0 (suc (reach 32 (w ++ 32 ∷ r))) ≡ suc (length w)
+    by_head : (v : Bool) → cond v 0 (suc (reach 32 w)) ≡ suc (length w) → (reach 32 w ≡ length w → reach 32 (w ++ 32 ∷ r) ≡ length w)
+        → cond v 0 (suc (reach 32 (w ++ 32 ∷ r))) ≡ suc (length w)
     by_head true e later = absurd (omega (arith, e))
     by_head false e later = ap suc (later (omega (arith, e)))
 

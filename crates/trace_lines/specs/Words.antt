@@ -1,6 +1,7 @@
 -- Words and numbers in a line.
 use Rattle.std.specs.Char.{is_ascii_digit}
-use Rattle.std.specs.Prelude.{Bool, List, None, Option, Some, [], bytes_eq, drop, false, if◌then◌else◌, length, nat_lt, suc, take, true, ℕ, ◌*◌, ◌+◌, ◌-◌, ◌==◌, ◌^◌, ◌&&◌, ◌∷◌}
+use Rattle.std.specs.Prelude.{Bool, List, None, Option, Some, [], bytes_eq, drop, false, if◌then◌else◌, length}
+use Rattle.std.specs.Prelude.{nat_lt, suc, take, true, ℕ, ◌*◌, ◌+◌, ◌-◌, ◌==◌, ◌^◌, ◌&&◌, ◌∷◌}
 
 -- whether these bytes stand in front
 abbrev pub starts : List ℕ → List ℕ → Bool

@@ -8,12 +8,21 @@ use Rattle.std.specs.List.{list_all}
 use Rattle.std.specs.Prelude.{IsTrue, codes}
 use Rattle.trace_page.proofs.Readings.{Brings, Keeps, Plain, both, in_value, keeps_each, keeps_either, none, number, on, text_keeps}
 use Rattle.trace_page.proofs.TitleLaws.{texts_are_plain}
-use Rattle.trace_page.specs.Frame.{around, beyond, colours, end_text, event_open, event_words, head, head_key, head_style, height_of, hop_front, hop_text, height_open, key_marks, key_waits, layout, marks, more_closed, more_open, more_text, name_closed, name_text, name_words, names_closed, names_open, names_text, number_text, numbers_closed, numbers_open, numbers_text, page_closed, paper_open, patterns, procedure_of, procedure_words, script, sheet_closed, sheet_open, sheet_text, sheet_turned, signs, size_closed, size_open, size_text, strip_closed, strip_open, strip_text, stuck_between, stuck_closed, stuck_open, stuck_text, tail, tenth, tenths, wait_front, wait_line, waits, ways, width_of}
+use Rattle.trace_page.specs.Frame.{around, beyond, colours, end_text, event_open, event_words, head, head_key, head_style, height_of, hop_front, hop_text}
+use Rattle.trace_page.specs.Frame.{height_open, key_marks, key_waits, layout, marks, more_closed, more_open, more_text, name_closed, name_text, name_words}
+use Rattle.trace_page.specs.Frame.{names_closed, names_open, names_text, number_text, numbers_closed, numbers_open, numbers_text, page_closed, paper_open}
+use Rattle.trace_page.specs.Frame.{patterns, procedure_of, procedure_words, script, sheet_closed, sheet_open, sheet_text, sheet_turned, signs, size_closed}
+use Rattle.trace_page.specs.Frame.{size_open, size_text, strip_closed, strip_open, strip_text, stuck_between, stuck_closed, stuck_open, stuck_text}
+use Rattle.trace_page.specs.Frame.{tail, tenth, tenths, wait_front, wait_line, waits, ways, width_of}
 use Rattle.trace_page.specs.Frame as frame
 use Rattle.trace_page.specs.Nesting.{Outside, Quoted, after_byte, at, is_closed, is_nested, read_on}
 use Rattle.trace_page.specs.Page.{after_line, after_lines, group_if_shown, groups, page}
 use Rattle.trace_page.specs.Scene.{Seen, need_of, opening}
-use Rattle.trace_page.specs.Shapes.{arrow_text, band_text, bar_text, class_text, clock_label, clock_text, closing_text, due_class, due_text, element_closed, escaped_text, event_text, group_closed, group_open, group_text, held_text, held_words, label_closed, label_text, lane_waits, letter_text, line_text, move_text, named_text, path_text, posted_label, posted_text, rect_text, rule_text, said_text, shape_text, shapes_text, sign_of, sign_open, tag_text, tick_text, title_text, trap_text, use_open, use_text, value_text, wait_class, wait_text, waits_text, wanted_text, way_class, x_of, y_of}
+use Rattle.trace_page.specs.Shapes.{arrow_text, band_text, bar_text, class_text, clock_label, clock_text, closing_text, due_class, due_text, element_closed}
+use Rattle.trace_page.specs.Shapes.{escaped_text, event_text, group_closed, group_open, group_text, held_text, held_words, label_closed, label_text}
+use Rattle.trace_page.specs.Shapes.{lane_waits, letter_text, line_text, move_text, named_text, path_text, posted_label, posted_text, rect_text, rule_text}
+use Rattle.trace_page.specs.Shapes.{said_text, shape_text, shapes_text, sign_of, sign_open, tag_text, tick_text, title_text, trap_text, use_open, use_text}
+use Rattle.trace_page.specs.Shapes.{value_text, wait_class, wait_text, waits_text, wanted_text, way_class, x_of, y_of}
 use Rattle.trace_page.specs.Steps.{after_finish, is_due, is_shown}
 use Rattle.trace_page.specs.Titles.{is_plain}
 use Rattle.trace_page.specs.Waits.{awaited, each_from, is_stuck}
@@ -86,11 +95,13 @@ digits_go n = record { goes = λ names. in_value (number n) }
 
 move_goes : (x y : ℕ) → Goes (move_text x y)
 unfolding after_byte read_on move_text
-move_goes x y = further {front = codes "' d='M"} (record { goes = λ names. record { so = refl } }) (further (digits_go x) (further {front = codes " "} (record { goes = λ names. record { so = refl } }) (digits_go y)))
+move_goes x y = further {front = codes "' d='M"} (record { goes = λ names. record { so = refl } })
+    (further (digits_go x) (further {front = codes " "} (record { goes = λ names. record { so = refl } }) (digits_go y)))
 
 line_goes : (x y : ℕ) → Goes (line_text x y)
 unfolding after_byte read_on line_text
-line_goes x y = further {front = codes "L"} (record { goes = λ names. record { so = refl } }) (further (digits_go x) (further {front = codes " "} (record { goes = λ names. record { so = refl } }) (digits_go y)))
+line_goes x y = further {front = codes "L"} (record { goes = λ names. record { so = refl } })
+    (further (digits_go x) (further {front = codes " "} (record { goes = λ names. record { so = refl } }) (digits_go y)))
 
 closes : (name : List ℕ) (names : List (List ℕ)) → Brings (at (Quoted 39) (name ∷ names)) element_closed (at Outside names)
 unfolding after_byte read_on element_closed
@@ -111,7 +122,8 @@ unfolding rect_text
 rect_keeps plain x y width height = record {
   keeps = λ names.
       let inside : List (List ℕ) = codes "rect" ∷ names in
-      on ((rect_begins plain).begins names) (on ((x_goes x).goes inside) (on ((y_goes y).goes inside) (on ((width_goes width).goes inside) (on ((height_goes height).goes inside) (closes (codes "rect") names)))));
+      on ((rect_begins plain).begins names) (on ((x_goes x).goes inside)
+      (on ((y_goes y).goes inside) (on ((width_goes width).goes inside) (on ((height_goes height).goes inside) (closes (codes "rect") names)))));
 }
 
 path_keeps : {class : List ℕ} → Plain class → (x y to_x to_y : ℕ) → Keeps (path_text class x y to_x to_y)
@@ -123,7 +135,8 @@ path_keeps plain x y to_x to_y = record {
 }
 
 -- a label is open after its front
-label_opens : {class : List ℕ} → Plain class → (x y : ℕ) (names : List (List ℕ)) → Brings (at Outside names) (label_text class x y) (at Outside (codes "text" ∷ names))
+label_opens : {class : List ℕ} → Plain class → (x y : ℕ) (names : List (List ℕ))
+    → Brings (at Outside names) (label_text class x y) (at Outside (codes "text" ∷ names))
 unfolding after_byte read_on label_text
 label_opens plain x y names =
     let inside : List (List ℕ) = codes "text" ∷ names in
@@ -186,7 +199,10 @@ wait_keeps s lane to = rect_keeps (wait_is_plain (need_of lane.verb)) _ _ _ _
 
 tag_keeps : (x y mon : ℕ) → Keeps (tag_text x y mon)
 unfolding tag_text
-tag_keeps x y mon = record { keeps = λ names. on (label_opens (record { plain = refl }) x y names) (on ((words (codes "m") refl).keeps _) (on ((number_keeps mon).keeps _) (label_closes names))) }
+tag_keeps x y mon = record {
+  keeps = λ names.
+      on (label_opens (record { plain = refl }) x y names) (on ((words (codes "m") refl).keeps _) (on ((number_keeps mon).keeps _) (label_closes names)));
+}
 
 held_keeps : (s : Seen) (span : Span) (to : Moment) → Keeps (held_text s span to)
 unfolding held_text
@@ -226,7 +242,8 @@ posted_label_keeps s client seq nth at = label_keeps (record { plain = refl }) _
 
 event_keeps : (s : Seen) (client seq nth : ℕ) (told : Bool) (agent : ℕ) (at : Moment) → Keeps (event_text s client seq nth told agent at)
 unfolding event_text
-event_keeps s client seq nth told agent at = both (keeps_either told (posted_label_keeps s client seq nth at) none) (path_keeps (record { plain = refl }) _ _ _ _)
+event_keeps s client seq nth told agent at =
+    both (keeps_either told (posted_label_keeps s client seq nth at) none) (path_keeps (record { plain = refl }) _ _ _ _)
 
 clock_label_keeps : (s : Seen) (now nth : ℕ) (at : Moment) → Keeps (clock_label s now nth at)
 unfolding clock_label
@@ -319,7 +336,8 @@ title_keeps : (line : List ℕ) → Keeps (title_text line)
 unfolding after_byte read_on title_text
 title_keeps line = record {
   keeps = λ names.
-      on {via = at Outside (codes "title" ∷ names)} {xs = codes "<title>"} (record { so = refl }) (on {ys = codes "</title>"} ((line_keeps line).keeps _) (record { so = refl }));
+      on {via = at Outside (codes "title" ∷ names)} {xs = codes "<title>"} (record { so = refl })
+      (on {ys = codes "</title>"} ((line_keeps line).keeps _) (record { so = refl }));
 }
 
 group_opens : (names : List (List ℕ)) → Brings (at Outside names) group_open (at Outside (codes "g" ∷ names))
@@ -332,7 +350,9 @@ group_closes names = record { so = refl }
 
 group_keeps : (s : Seen) (line : List ℕ) → Keeps (group_text s line)
 unfolding group_text
-group_keeps s line = record { keeps = λ names. on (group_opens names) (on ((title_keeps line).keeps _) (on ((shapes_keep s line s.shapes).keeps _) (group_closes names))) }
+group_keeps s line = record {
+  keeps = λ names. on (group_opens names) (on ((title_keeps line).keeps _) (on ((shapes_keep s line s.shapes).keeps _) (group_closes names)));
+}
 
 shown_keeps : (s : Seen) (line : List ℕ) → Keeps (group_if_shown s line)
 unfolding group_if_shown
@@ -422,7 +442,8 @@ procedure_words_keep (b ∷ bs) = both (words (codes " ") refl) (line_keeps (b �
 
 name_words_keep : (s : Seen) (lane : Lane) → Keeps (name_words s lane)
 unfolding name_words
-name_words_keep s lane = both (words (codes "t") refl) (both (number_keeps lane.id) (both (event_words_keep lane.event) (procedure_words_keep (procedure_of lane.id s.names))))
+name_words_keep s lane =
+    both (words (codes "t") refl) (both (number_keeps lane.id) (both (event_words_keep lane.event) (procedure_words_keep (procedure_of lane.id s.names))))
 
 name_closes : (names : List (List ℕ)) → Brings (at Outside (codes "text" ∷ names)) name_closed (at Outside names)
 unfolding after_byte read_on name_closed
@@ -450,7 +471,9 @@ each_keeps f h n (suc count) = both (h n) (each_keeps f h (n + 1) count)
 
 call_number_keeps : (s : Seen) (n : ℕ) → Keeps (number_text s n)
 unfolding number_text
-call_number_keeps s n = record { keeps = λ names. on (label_opens (record { plain = refl }) _ _ names) (on ((number_keeps (tenth s n)).keeps _) (name_closes names)) }
+call_number_keeps s n = record {
+  keeps = λ names. on (label_opens (record { plain = refl }) _ _ names) (on ((number_keeps (tenth s n)).keeps _) (name_closes names));
+}
 
 numbers_open_brings : Brings (at Outside in_page) numbers_open (at Outside in_picture)
 unfolding after_byte read_on numbers_open
@@ -482,7 +505,8 @@ unfolding strip_text
 strip_keeps s = record {
   keeps = λ names.
       let inside : List (List ℕ) = codes "svg" ∷ names in
-      on (strip_opens names) (on ((digits_go (width_of s)).goes inside) (on (space_goes.goes inside) (on ((digits_go (height_of s)).goes inside) (strip_closes names))));
+      on (strip_opens names) (on ((digits_go (width_of s)).goes inside)
+      (on (space_goes.goes inside) (on ((digits_go (height_of s)).goes inside) (strip_closes names))));
 }
 
 -- the sheet
@@ -531,7 +555,8 @@ size_closes = record { so = refl }
 
 size_brings : (s : Seen) → Brings (at Outside in_body) (size_text s) (at Outside in_body)
 unfolding size_text
-size_brings s = on size_opens (on ((number_keeps _).keeps _) (on (height_open_keeps.keeps _) (on ((number_keeps _).keeps _) (on (paper_open_keeps.keeps _) (on ((number_keeps _).keeps _) size_closes)))))
+size_brings s = on size_opens (on ((number_keeps _).keeps _)
+    (on (height_open_keeps.keeps _) (on ((number_keeps _).keeps _) (on (paper_open_keeps.keeps _) (on ((number_keeps _).keeps _) size_closes)))))
 
 more_opens : (names : List (List ℕ)) → Brings (at Outside names) more_open (at Outside (codes "p" ∷ names))
 unfolding after_byte read_on more_open
@@ -561,7 +586,8 @@ wait_front_keeps = record { keeps = λ names. record { so = refl } }
 
 wait_line_keeps : (s : Seen) (lane : Lane) → Keeps (wait_line s lane)
 unfolding wait_line
-wait_line_keeps s lane = keeps_either (is_due lane) (both wait_front_keeps (both (number_keeps lane.id) (both (words (codes " ") refl) (lane_waits_keep s lane)))) none
+wait_line_keeps s lane =
+    keeps_either (is_due lane) (both wait_front_keeps (both (number_keeps lane.id) (both (words (codes " ") refl) (lane_waits_keep s lane)))) none
 
 stuck_opens : (names : List (List ℕ)) → Brings (at Outside names) stuck_open (at Outside (codes "p" ∷ codes "div" ∷ names))
 unfolding after_byte read_on stuck_open
@@ -598,14 +624,16 @@ around_brings s = on ((end_keeps s).keeps _) (on (names_bring s) (on (numbers_br
 
 beyond_brings : (s : Seen) → Brings (at Outside in_body) (beyond s) (at Outside in_body)
 unfolding beyond
-beyond_brings s = on ((strip_keeps s).keeps _) (on ((more_keeps s).keeps _) (on ((stuck_keeps s).keeps _) (on ((sheet_keeps s).keeps _) (script_keeps in_body))))
+beyond_brings s = on ((strip_keeps s).keeps _)
+    (on ((more_keeps s).keeps _) (on ((stuck_keeps s).keeps _) (on ((sheet_keeps s).keeps _) (script_keeps in_body))))
 
 tail_brings : (s : Seen) → Brings (at Outside in_picture) (tail s) (at Outside [])
 unfolding tail
 tail_brings s = on (around_brings s) (on (beyond_brings s) page_closes)
 
 page_brings : (base last : ℕ) (lines : List (List ℕ)) → Brings (at Outside []) (page base last lines) (at Outside [])
-page_brings base last lines = on head_brings (on ((groups_keep (opening base last) lines).keeps _) (tail_brings (after_finish (after_lines (opening base last) lines))))
+page_brings base last lines =
+    on head_brings (on ((groups_keep (opening base last) lines).keeps _) (tail_brings (after_finish (after_lines (opening base last) lines))))
 
 pub elements_are_closed : (base last : ℕ) (lines : List (List ℕ)) → IsTrue (is_nested (page base last lines))
 unfolding is_nested

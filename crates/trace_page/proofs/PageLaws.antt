@@ -1,5 +1,6 @@
 -- The lines of a text, one by one.
-use Rattle.std.proofs.Common.{Bool, List, None, Some, [], ap, append_assoc, arith, cond, drop, eqb, false, length, length-drop, refl, suc, sym, take, true, ℕ, ◌++◌, ◌+◌, ◌<◌, ◌∷◌, ◌≡◌, ◌≤◌, ◌∙◌}
+use Rattle.std.proofs.Common.{Bool, List, None, Some, [], ap, append_assoc, arith, cond, drop, eqb, false, length}
+use Rattle.std.proofs.Common.{length-drop, refl, suc, sym, take, true, ℕ, ◌++◌, ◌+◌, ◌<◌, ◌∷◌, ◌≡◌, ◌≤◌, ◌∙◌}
 use Rattle.std.specs.Prelude.{is_some}
 use Rattle.trace_lines.specs.Entries.{entry_of}
 use Rattle.trace_lines.specs.Words.{reach}
@@ -13,7 +14,8 @@ first_line (b ∷ bs) lt = by_head (eqb b 10) lt (λ h. first_line bs h)
   where
     by_head : (v : Bool) → cond v 0 (suc (reach 10 bs)) < suc (length bs)
         → (reach 10 bs < length bs → whole_lines bs ≡ take (reach 10 bs) bs ∷ whole_lines (drop (suc (reach 10 bs)) bs))
-        → cond v ([] ∷ whole_lines bs) (onto_first b (whole_lines bs)) ≡ take (cond v 0 (suc (reach 10 bs))) (b ∷ bs) ∷ whole_lines (drop (suc (cond v 0 (suc (reach 10 bs)))) (b ∷ bs))
+        → cond v ([] ∷ whole_lines bs) (onto_first b (whole_lines bs))
+        ≡ take (cond v 0 (suc (reach 10 bs))) (b ∷ bs) ∷ whole_lines (drop (suc (cond v 0 (suc (reach 10 bs)))) (b ∷ bs))
     by_head true h later = refl
     by_head false h later = ap (onto_first b) (later (omega (arith, h)))
 
@@ -22,7 +24,8 @@ pub no_line : (text : List ℕ) → reach 10 text ≡ length text → whole_line
 no_line [] e = refl
 no_line (b ∷ bs) e = by_head (eqb b 10) e (λ h. no_line bs h)
   where
-    by_head : (v : Bool) → cond v 0 (suc (reach 10 bs)) ≡ suc (length bs) → (reach 10 bs ≡ length bs → whole_lines bs ≡ []) → cond v ([] ∷ whole_lines bs) (onto_first b (whole_lines bs)) ≡ []
+    by_head : (v : Bool) → cond v 0 (suc (reach 10 bs)) ≡ suc (length bs) → (reach 10 bs ≡ length bs → whole_lines bs ≡ [])
+        → cond v ([] ∷ whole_lines bs) (onto_first b (whole_lines bs)) ≡ []
     by_head true h later = absurd (omega (arith, h))
     by_head false h later = ap (onto_first b) (later (omega (arith, h)))
 
@@ -52,21 +55,24 @@ not_whole (b ∷ []) e some = by_head (eqb b 10) e
     by_head false h = refl
 not_whole (b ∷ c ∷ bs) e some = by_head (eqb b 10) e (λ h. not_whole (c ∷ bs) h (omega arith))
   where
-    by_head : (v : Bool) → cond v 0 (suc (reach 10 (c ∷ bs))) ≡ suc (suc (length bs)) → (reach 10 (c ∷ bs) ≡ suc (length bs) → is_whole (c ∷ bs) ≡ false) → is_whole (c ∷ bs) ≡ false
+    by_head : (v : Bool) → cond v 0 (suc (reach 10 (c ∷ bs))) ≡ suc (suc (length bs))
+        → (reach 10 (c ∷ bs) ≡ suc (length bs) → is_whole (c ∷ bs) ≡ false) → is_whole (c ∷ bs) ≡ false
     by_head true h later = absurd (omega (arith, h))
     by_head false h later = later (omega (arith, h))
 
 -- ---- the loop over the lines
 
 -- bytes after the last newline are no line
-pub unended : (number n : ℕ) (rest text : List ℕ) → reach 10 rest ≡ length rest → 0 < length rest → bad_from number (is_whole rest) (whole_lines rest) ≡ first_bad text → number ≡ n → first_bad text ≡ Some n
+pub unended : (number n : ℕ) (rest text : List ℕ) → reach 10 rest ≡ length rest → 0 < length rest
+    → bad_from number (is_whole rest) (whole_lines rest) ≡ first_bad text → number ≡ n → first_bad text ≡ Some n
 unended number n rest text e some bad same =
     sym bad ∙ (rw (no_line rest e, not_whole rest e some) refl ∙ ap Some same)
 
 first_at : (rest : List ℕ) (k : ℕ) → k ≡ reach 10 rest → k < length rest → whole_lines rest ≡ take k rest ∷ whole_lines (drop (k + 1) rest)
 first_at rest k at lt =
     let next : k + 1 ≡ suc (reach 10 rest) = omega (arith, at) in
-    first_line rest (omega (arith, at, lt)) ∙ sym (ap (λ i. take i rest ∷ whole_lines (drop (k + 1) rest)) at ∙ ap (λ i. take (reach 10 rest) rest ∷ whole_lines (drop i rest)) next)
+    first_line rest (omega (arith, at, lt))
+    ∙ sym (ap (λ i. take i rest ∷ whole_lines (drop (k + 1) rest)) at ∙ ap (λ i. take (reach 10 rest) rest ∷ whole_lines (drop i rest)) next)
 
 whole_at : (rest : List ℕ) (k : ℕ) → k ≡ reach 10 rest → k < length rest → is_whole rest ≡ is_whole (drop (k + 1) rest)
 whole_at rest k at lt =
@@ -80,14 +86,18 @@ module _ (rest left : List ℕ) (k : ℕ) (at : k ≡ reach 10 rest) (lt : k < l
   pub told_on : (s next end : Seen) → next ≡ after_line (take k rest) s → after_lines s (whole_lines rest) ≡ end → after_lines next (whole_lines left) ≡ end
   told_on s next end e all = ap (λ x. after_lines x (whole_lines left)) e ∙ (sym (ap (after_lines s) first) ∙ all)
 
-  pub drawn_on : (s next : Seen) (out more end : List ℕ) → next ≡ after_line (take k rest) s → more ≡ out ++ group_if_shown (after_line (take k rest) s) (take k rest)
+  pub drawn_on : (s next : Seen) (out more end : List ℕ) → next ≡ after_line (take k rest) s
+      → more ≡ out ++ group_if_shown (after_line (take k rest) s) (take k rest)
       → out ++ groups s (whole_lines rest) ≡ end → more ++ groups next (whole_lines left) ≡ end
   drawn_on s next out more end e m all =
       let l : List ℕ = take k rest in
       let ls : List (List ℕ) = whole_lines left in
-      ap (λ x. more ++ groups x ls) e ∙ (ap (λ x. x ++ groups (after_line l s) ls) m ∙ (append_assoc out (group_if_shown (after_line l s) l) (groups (after_line l s) ls) ∙ (sym (ap (λ x. out ++ groups s x) first) ∙ all)))
+      ap (λ x. more ++ groups x ls) e
+      ∙ (ap (λ x. x ++ groups (after_line l s) ls) m
+      ∙ (append_assoc out (group_if_shown (after_line l s) l) (groups (after_line l s) ls) ∙ (sym (ap (λ x. out ++ groups s x) first) ∙ all)))
 
-  pub counted_on : (calls more all : ℕ) → more ≡ line_calls (take k rest) → calls + calls_of (whole_lines rest) ≡ all → calls + more + calls_of (whole_lines left) ≡ all
+  pub counted_on : (calls more all : ℕ) → more ≡ line_calls (take k rest) → calls + calls_of (whole_lines rest) ≡ all
+      → calls + more + calls_of (whole_lines left) ≡ all
   counted_on calls more all e h =
       let split : calls_of (whole_lines rest) ≡ line_calls (take k rest) + calls_of (whole_lines left) = ap calls_of first in
       omega (arith, e, h, split)
@@ -109,5 +119,6 @@ all_counted calls all rest e h =
     omega (arith, h, none)
 
 -- the first line is bad
-pub refused : (rest : List ℕ) (k : ℕ) → k ≡ reach 10 rest → k < length rest → (number n : ℕ) (text : List ℕ) → bad_from number (is_whole rest) (whole_lines rest) ≡ first_bad text → (n ≡ number) × (entry_of (take k rest) ≡ None) → first_bad text ≡ Some n
+pub refused : (rest : List ℕ) (k : ℕ) → k ≡ reach 10 rest → k < length rest → (number n : ℕ) (text : List ℕ)
+    → bad_from number (is_whole rest) (whole_lines rest) ≡ first_bad text → (n ≡ number) × (entry_of (take k rest) ≡ None) → first_bad text ≡ Some n
 refused rest k at lt number n text bad h = sym bad ∙ (rw (first_at rest k at lt, h.1) refl ∙ ap Some (sym h.0))

@@ -14,7 +14,9 @@ pub record Brings (from : Reader) (bytes : List ℕ) (to : Reader) : Type 0 wher
 -- and these bring it on
 pub on : {from via to : Reader} {xs ys : List ℕ} → Brings from xs via → Brings via ys to → Brings from (xs ++ ys) to
 unfolding read_on
-on {from} {via} {to} {xs} {ys} h k = record { so = fold-append (λ (r : Reader) (b : ℕ). after_byte r.place r.names b) from xs ys ∙ (ap (λ r. read_on r ys) h.so ∙ k.so) }
+on {from} {via} {to} {xs} {ys} h k = record {
+  so = fold-append (λ (r : Reader) (b : ℕ). after_byte r.place r.names b) from xs ys ∙ (ap (λ r. read_on r ys) h.so ∙ k.so);
+}
 
 pub nothing : {r : Reader} → Brings r [] r
 unfolding read_on
@@ -87,16 +89,26 @@ in_value {text} {names} h = record { so = stays (Quoted 39) names (value_read na
 
 plain_digit : (d : ℕ) → d < 10 → is_plain (digit_glyph false d) ≡ true
 plain_digit d h =
-    rw (lt-ltb d 10 h, ne_eqb (48 + d) 60 (λ e. omega (arith, h, e)), ne_eqb (48 + d) 62 (λ e. omega (arith, h, e)), ne_eqb (48 + d) 34 (λ e. omega (arith, e)), ne_eqb (48 + d) 39 (λ e. omega (arith, e))) refl
+    rw (
+      lt-ltb d 10 h,
+      ne_eqb (48 + d) 60 (λ e. omega (arith, h, e)),
+      ne_eqb (48 + d) 62 (λ e. omega (arith, h, e)),
+      ne_eqb (48 + d) 34 (λ e. omega (arith, e)),
+      ne_eqb (48 + d) 39 (λ e. omega (arith, e)),
+    )
+    refl
 
 plain_digits : (k n : ℕ) (behind : List ℕ) → list_all is_plain behind ≡ true → list_all is_plain (digits_onto k 10 false n behind) ≡ true
 plain_digits zero n behind h = h
-plain_digits (suc k) n behind h = by (eqb (n / 10) 0) (λ (x : list_all is_plain (digit_glyph false (n % 10) ∷ behind) ≡ true). plain_digits k (n / 10) (digit_glyph false (n % 10) ∷ behind) x)
+plain_digits (suc k) n behind h = by (eqb (n / 10) 0)
+    (λ (x : list_all is_plain (digit_glyph false (n % 10) ∷ behind) ≡ true). plain_digits k (n / 10) (digit_glyph false (n % 10) ∷ behind) x)
   where
     more : list_all is_plain (digit_glyph false (n % 10) ∷ behind) ≡ true
     more = rw (plain_digit (n % 10) (omega arith)) h
 
-    by : (b : Bool) → (list_all is_plain (digit_glyph false (n % 10) ∷ behind) ≡ true → list_all is_plain (digits_onto k 10 false (n / 10) (digit_glyph false (n % 10) ∷ behind)) ≡ true)
+    by : (b : Bool)
+        → (list_all is_plain (digit_glyph false (n % 10) ∷ behind) ≡ true
+        → list_all is_plain (digits_onto k 10 false (n / 10) (digit_glyph false (n % 10) ∷ behind)) ≡ true)
         → list_all is_plain (cond b (digit_glyph false (n % 10) ∷ behind) (digits_onto k 10 false (n / 10) (digit_glyph false (n % 10) ∷ behind))) ≡ true
     by true later = more
     by false later = later more

@@ -12,7 +12,9 @@ use Rattle.trace_lines.specs.declared.entry.Verb.TheVariants as verb
 use Rattle.trace_page.specs.Page.{after_entry_by, after_line, after_lines, after_note_by}
 use Rattle.trace_page.specs.Scene.{Seen, after_draw, after_put, lane_of, opening, place, with_lane}
 use Rattle.trace_page.specs.Shapes.{escaped_byte, escaped_text}
-use Rattle.trace_page.specs.Steps.{after_act, after_carry_out, after_create, after_draw_said, after_entry, after_exit, after_give_up, after_grant, after_meet, after_meet_thread, after_name, after_note, after_park, after_say, after_set, after_settle, is_past, is_shown, room, with_agent}
+use Rattle.trace_page.specs.Steps.{after_act, after_carry_out, after_create, after_draw_said, after_entry, after_exit, after_give_up}
+use Rattle.trace_page.specs.Steps.{after_grant, after_meet, after_meet_thread, after_name, after_note, after_park, after_say}
+use Rattle.trace_page.specs.Steps.{after_set, after_settle, is_past, is_shown, room, with_agent}
 use Rattle.trace_page.specs.Titles.{LinesAreTitles, TextsArePlain, is_plain, titles}
 use Rattle.trace_page.specs.declared.scene.Lane.{Lane}
 use Rattle.trace_page.specs.declared.scene.Shape.TheVariants as shape
@@ -249,7 +251,10 @@ plain_byte : (b : ℕ) → list_all is_plain (escaped_byte b) ≡ true
 plain_byte b = by (eqb b 38) (eqb b 60) (eqb b 62) (eqb b 34) (eqb b 39) refl refl refl refl
   where
     by : (amp less more quote mark : Bool) → eqb b 60 ≡ less → eqb b 62 ≡ more → eqb b 34 ≡ quote → eqb b 39 ≡ mark
-        → list_all is_plain (cond amp (38 ∷ 97 ∷ 109 ∷ 112 ∷ 59 ∷ []) (cond less (38 ∷ 108 ∷ 116 ∷ 59 ∷ []) (cond more (38 ∷ 103 ∷ 116 ∷ 59 ∷ []) (cond quote (38 ∷ 113 ∷ 117 ∷ 111 ∷ 116 ∷ 59 ∷ []) (cond mark (38 ∷ 35 ∷ 51 ∷ 57 ∷ 59 ∷ []) (b ∷ [])))))) ≡ true
+        → list_all is_plain (cond amp (38 ∷ 97 ∷ 109 ∷ 112 ∷ 59 ∷ [])
+        (cond less (38 ∷ 108 ∷ 116 ∷ 59 ∷ [])
+        (cond more (38 ∷ 103 ∷ 116 ∷ 59 ∷ []) (cond quote (38 ∷ 113 ∷ 117 ∷ 111 ∷ 116 ∷ 59 ∷ []) (cond mark (38 ∷ 35 ∷ 51 ∷ 57 ∷ 59 ∷ []) (b ∷ []))))))
+        ≡ true
     by true less more quote mark l m q k = refl
     by false true more quote mark l m q k = refl
     by false false true quote mark l m q k = refl

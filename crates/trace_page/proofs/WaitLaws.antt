@@ -9,11 +9,13 @@ one_less : (n : ℕ) → 0 < n → n ≡ suc (n - 1)
 one_less n some = omega (arith, some)
 
 module _ (links : List Link) (start : ℕ) where
-  one_step : (left at : ℕ) (link : Link) → link ≡ link_at links at → start < link.next → link.next < length links → comes_back links start (suc left) at ≡ comes_back links start left link.next
+  one_step : (left at : ℕ) (link : Link) → link ≡ link_at links at → start < link.next → link.next < length links
+      → comes_back links start (suc left) at ≡ comes_back links start left link.next
   one_step left at link is above within = rw (sym is) (rw (lt-ltb start link.next above, lt-ltb link.next (length links) within) refl)
 
   -- the way goes on from the next place
-  pub goes_on : (left at : ℕ) (link : Link) → link ≡ link_at links at → 0 < left → start < link.next → link.next < length links → (end : Bool) → comes_back links start left at ≡ end → comes_back links start (left - 1) link.next ≡ end
+  pub goes_on : (left at : ℕ) (link : Link) → link ≡ link_at links at → 0 < left → start < link.next → link.next < length links
+      → (end : Bool) → comes_back links start left at ≡ end → comes_back links start (left - 1) link.next ≡ end
   goes_on left at link is some above within end all =
       sym (one_step (left - 1) at link is above within) ∙ (sym (ap (λ k. comes_back links start k at) (one_less left some)) ∙ all)
 
@@ -28,5 +30,6 @@ module _ (links : List Link) (start : ℕ) where
   hop_more left at begins link to is names some on out more end put all =
       let hop : Hop = record { from = link.id; to = to.id; begins = begins } in
       let later : List Hop = hops_from links start (left - 1) link.next false in
-      let step : hops_from links start left at begins ≡ hop ∷ later = ap (λ k. hops_from links start k at begins) (one_less left some) ∙ one_hop (left - 1) at begins link to is names on in
+      let step : hops_from links start left at begins
+      ≡ hop ∷ later = ap (λ k. hops_from links start k at begins) (one_less left some) ∙ one_hop (left - 1) at begins link to is names on in
       ap (λ x. x ++ later) put ∙ (append_assoc out (hop ∷ []) later ∙ (sym (ap (λ x. out ++ x) step) ∙ all))

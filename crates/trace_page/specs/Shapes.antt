@@ -5,7 +5,8 @@ use Rattle.std.specs.List.{flat_map}
 use Rattle.std.specs.Prelude.{Bool, List, [], codes, false, if◌then◌else◌, min, true, ℕ, ◌%◌, ◌*◌, ◌++◌, ◌+◌, ◌-◌, ◌==◌, ◌∷◌}
 use Rattle.trace_lines.specs.declared.entry.Gain.{Gain}
 use Rattle.trace_lines.specs.declared.entry.Gain.TheVariants as gain
-use Rattle.trace_page.specs.Measures.{below_rows, call_width, due_gap, end_row, first_call, first_lane, foot, half_call, lane_height, middle, most_calls, most_lanes, outside_row, tick_spot}
+use Rattle.trace_page.specs.Measures.{below_rows, call_width, due_gap, end_row, first_call, first_lane, foot, half_call}
+use Rattle.trace_page.specs.Measures.{lane_height, middle, most_calls, most_lanes, outside_row, tick_spot}
 use Rattle.trace_page.specs.Scene.{Seen, need_of, place}
 use Rattle.trace_page.specs.Waits.{awaited, is_stuck}
 use Rattle.trace_page.specs.declared.scene.Kind.{Kind}

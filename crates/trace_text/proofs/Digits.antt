@@ -31,7 +31,8 @@ decimal_of_hundreds n least most =
     let tens : decimal (n / 10) ≡ decimal (n / 10 / 10) ++ (48 + n / 10 % 10) ∷ [] = decimal_step (n / 10) (omega (arith, least)) (omega (arith, most)) in
     two_behind (decimal (n / 100)) (decimal n) (48 + n % 100 / 10) (48 + n % 100 % 10)
     (ones ∙ ap (λ d. decimal (n / 10) ++ (48 + d) ∷ []) one
-    ∙ ap (λ ds. ds ++ (48 + n % 100 % 10) ∷ []) (tens ∙ ap (λ m. decimal m ++ (48 + n / 10 % 10) ∷ []) hundreds ∙ ap (λ d. decimal (n / 100) ++ (48 + d) ∷ []) ten))
+    ∙ ap (λ ds. ds ++ (48 + n % 100 % 10) ∷ [])
+    (tens ∙ ap (λ m. decimal m ++ (48 + n / 10 % 10) ∷ []) hundreds ∙ ap (λ d. decimal (n / 100) ++ (48 + d) ∷ []) ten))
 
 -- the last two digits put after the others
 pub put_behind : (from last : List ℕ) (n : ℕ) → 100 ≤ n → n < 1000000 → last ≡ (from ++ decimal (n / 100)) ++ pair_of (n % 100) → last ≡ from ++ decimal n

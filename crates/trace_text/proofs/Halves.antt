@@ -6,7 +6,8 @@ use Rattle.std.proofs.Math.Seq.{take-append-add}
 use Rattle.std.specs.List.{between}
 use borrow.Rule.Slice.PartMut.{post_of, put_mid}
 
-module _ (row text first last : List ℕ) (at half k l : ℕ) (within : at ≤ length row) (least : half ≤ length text) (most : length text ≤ half + half) (starts : first ≡ take half text) (ends : last ≡ between (length text - half) (length text) text) where
+module _ (row text first last : List ℕ) (at half k l : ℕ) (within : at ≤ length row) (least : half ≤ length text)
+    (most : length text ≤ half + half) (starts : first ≡ take half text) (ends : last ≡ between (length text - half) (length text) text) where
   closes : last ≡ drop (length text - half) text
   closes = ends ∙ between_to_end text (length text - half) (length text) (omega arith)
 

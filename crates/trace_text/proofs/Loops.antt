@@ -21,9 +21,11 @@ later_same : (procs : List (List ℕ)) (effects : List Effect) → step_lines pr
 later_same procs [] = refl
 later_same procs (e ∷ effects) = refl
 
-module _ (procs : List (List ℕ)) (took : Option Line) (out end : List ℕ) (effects : List Effect) (i : ℕ) (all : out ++ step_lines procs took (drop i effects) ≡ end) where
+module _ (procs : List (List ℕ)) (took : Option Line) (out end : List ℕ) (effects : List Effect) (i : ℕ)
+    (all : out ++ step_lines procs took (drop i effects) ≡ end) where
   -- another effect's line was put there
-  pub step_more : (next : List ℕ) (default : Effect) → i < length effects → next ≡ out ++ ended_line (line_text procs took (get_or effects i default)) → next ++ step_lines procs None (drop (i + 1) effects) ≡ end
+  pub step_more : (next : List ℕ) (default : Effect) → i < length effects
+      → next ≡ out ++ ended_line (line_text procs took (get_or effects i default)) → next ++ step_lines procs None (drop (i + 1) effects) ≡ end
   step_more next default lt put =
       let line = ended_line (line_text procs took (get_or effects i default)) in
       rw put

@@ -35,7 +35,8 @@ unfolding plan_whole
 its_calls_alone = calls-are its_planned 257 (opening_plan its_planned (stock_of many.script)) (none-left [] 0 256)
 
 its_text : trace (proc_names many.script) [] its_planned its_plan ≡ many.trace
-unfolding only_calls move call_move take_move script_next session_next store_next event_step event_step_by take_event step step_by deliver unless and_then in_order for_each digits
+unfolding only_calls move call_move take_move script_next session_next store_next event_step event_step_by take_event step step_by deliver
+    unless and_then in_order for_each digits
 its_text = refl
 
 pub its_trace : trace_of many.script many.turns ≡ many.trace
@@ -43,7 +44,8 @@ unfolding trace_of
 its_trace = ap (trace (proc_names many.script) [] its_planned) its_calls_alone ∙ its_text
 
 its_end : plan_over its_planned its_plan ≡ Some many.halt
-unfolding only_calls move call_move take_move script_next session_next store_next event_step event_step_by take_event step step_by deliver unless and_then in_order for_each digits
+unfolding only_calls move call_move take_move script_next session_next store_next event_step event_step_by take_event step step_by deliver
+    unless and_then in_order for_each digits
 its_end = refl
 
 pub its_halt : halt_of many.script many.turns ≡ Some many.halt
@@ -51,7 +53,8 @@ unfolding halt_of
 its_halt = ap (plan_over its_planned) its_calls_alone ∙ its_end
 
 its_number : its_plan.calls ≡ many.calls
-unfolding only_calls move call_move take_move script_next session_next store_next event_step event_step_by take_event step step_by deliver unless and_then in_order for_each digits
+unfolding only_calls move call_move take_move script_next session_next store_next event_step event_step_by take_event step step_by deliver
+    unless and_then in_order for_each digits
 its_number = refl
 
 pub its_calls : calls_of many.script many.turns ≡ many.calls
@@ -59,7 +62,8 @@ unfolding calls_of
 its_calls = ap (λ (p : Plan ThreadBody). p.calls) its_calls_alone ∙ its_number
 
 its_lines : its_plan.takes ≡ many.takes
-unfolding only_calls move call_move take_move script_next session_next store_next event_step event_step_by take_event step step_by deliver unless and_then in_order for_each digits
+unfolding only_calls move call_move take_move script_next session_next store_next event_step event_step_by take_event step step_by deliver
+    unless and_then in_order for_each digits
 its_lines = refl
 
 pub its_takes : takes_of many.script many.turns ≡ many.takes

@@ -12,7 +12,8 @@ use Rattle.lwp_types.specs.Step.{step, step_by}
 use Rattle.lwp_types.specs.declared.call.Line.{Line}
 use Rattle.pod_events.specs.Events.{is_takeable, take_event}
 use Rattle.pod_events.specs.Step.{event_step, event_step_by}
-use Rattle.pod_runner.specs.Eager.{Plan, Planned, after_advance, after_offer, after_offer_by, has_choice, one_call, opening_plan, plan_over, plan_whole, pod_of, to_the_end}
+use Rattle.pod_runner.specs.Eager.{Plan, Planned, after_advance, after_offer, after_offer_by, has_choice}
+use Rattle.pod_runner.specs.Eager.{one_call, opening_plan, plan_over, plan_whole, pod_of, to_the_end}
 use Rattle.pod_runner.specs.Over.{events}
 use Rattle.pod_runner.specs.Session.{call_move, move, take_move}
 use Rattle.pod_runner.specs.Trace.{trace}
@@ -48,10 +49,12 @@ nothing-offered planned e plan bare = by (is_takeable (pod_of plan) e) (first_le
 
 nothing-taken : (planned : Planned ThreadBody) (es : List ℕ) (plan : Plan ThreadBody) → IsBare plan → fold (λ now e. after_offer planned e now) plan es ≡ plan
 nothing-taken planned [] plan bare = refl
-nothing-taken planned (e ∷ es) plan bare = ap (λ p. fold (λ now e. after_offer planned e now) p es) (nothing-offered planned e plan bare) ∙ nothing-taken planned es plan bare
+nothing-taken planned (e ∷ es) plan bare = ap (λ p. fold (λ now e. after_offer planned e now) p es) (nothing-offered planned e plan bare)
+    ∙ nothing-taken planned es plan bare
 
 one-on : (planned : Planned ThreadBody) (plan : Plan ThreadBody) → IsBare plan → after_advance planned plan ≡ called_on planned plan
-one-on planned plan bare = ap (λ (p : Plan ThreadBody). elim (has_choice plan) [ true ↦ one_call planned p | false ↦ p ]) (nothing-taken planned events plan bare)
+one-on planned plan bare =
+    ap (λ (p : Plan ThreadBody). elim (has_choice plan) [ true ↦ one_call planned p | false ↦ p ]) (nothing-taken planned events plan bare)
 
 bare-on : (planned : Planned ThreadBody) (plan : Plan ThreadBody) → IsBare plan → IsBare (called_on planned plan)
 bare-on planned plan bare = by (has_choice plan)
@@ -64,10 +67,12 @@ pub calls-are : (planned : Planned ThreadBody) (n : ℕ) (plan : Plan ThreadBody
 unfolding to_the_end only_calls
 calls-are planned zero plan bare = refl
 calls-are planned (suc n) plan bare =
-    by (plan_over planned plan) (ap (to_the_end planned n) (one-on planned plan bare) ∙ calls-are planned n (called_on planned plan) (bare-on planned plan bare))
+    by (plan_over planned plan) (ap (to_the_end planned n) (one-on planned plan bare)
+    ∙ calls-are planned n (called_on planned plan) (bare-on planned plan bare))
   where
     by : (o : Option Halt) → to_the_end planned n (after_advance planned plan) ≡ only_calls planned n (called_on planned plan)
-        → ◌≡◌ {A = Plan ThreadBody} (elim o [ None ↦ to_the_end planned n (after_advance planned plan) | Some halt ↦ plan ]) (elim o [ None ↦ only_calls planned n (called_on planned plan) | Some halt ↦ plan ])
+        → ◌≡◌ {A = Plan ThreadBody} (elim o [ None ↦ to_the_end planned n (after_advance planned plan) | Some halt ↦ plan ])
+        (elim o [ None ↦ only_calls planned n (called_on planned plan) | Some halt ↦ plan ])
     by None more = more
     by (Some halt) more = refl
 
@@ -93,7 +98,8 @@ unfolding plan_whole
 its_calls_alone = calls-are its_planned 1024 (opening_plan its_planned (stock_of many.script)) (none-left [] 0 256)
 
 its_text : trace (proc_names many.script) [] its_planned its_plan ≡ many.trace
-unfolding only_calls move call_move take_move script_next session_next store_next event_step event_step_by take_event step step_by deliver unless and_then in_order for_each digits
+unfolding only_calls move call_move take_move script_next session_next store_next event_step event_step_by take_event step step_by deliver
+    unless and_then in_order for_each digits
 its_text = refl
 
 pub its_trace : trace_of many.script many.turns ≡ many.trace
@@ -101,7 +107,8 @@ unfolding trace_of
 its_trace = ap (trace (proc_names many.script) [] its_planned) its_calls_alone ∙ its_text
 
 its_end : plan_over its_planned its_plan ≡ Some many.halt
-unfolding only_calls move call_move take_move script_next session_next store_next event_step event_step_by take_event step step_by deliver unless and_then in_order for_each digits
+unfolding only_calls move call_move take_move script_next session_next store_next event_step event_step_by take_event step step_by deliver
+    unless and_then in_order for_each digits
 its_end = refl
 
 pub its_halt : halt_of many.script many.turns ≡ Some many.halt
@@ -109,7 +116,8 @@ unfolding halt_of
 its_halt = ap (plan_over its_planned) its_calls_alone ∙ its_end
 
 its_number : its_plan.calls ≡ many.calls
-unfolding only_calls move call_move take_move script_next session_next store_next event_step event_step_by take_event step step_by deliver unless and_then in_order for_each digits
+unfolding only_calls move call_move take_move script_next session_next store_next event_step event_step_by take_event step step_by deliver
+    unless and_then in_order for_each digits
 its_number = refl
 
 pub its_calls : calls_of many.script many.turns ≡ many.calls
@@ -117,7 +125,8 @@ unfolding calls_of
 its_calls = ap (λ (p : Plan ThreadBody). p.calls) its_calls_alone ∙ its_number
 
 its_lines : its_plan.takes ≡ many.takes
-unfolding only_calls move call_move take_move script_next session_next store_next event_step event_step_by take_event step step_by deliver unless and_then in_order for_each digits
+unfolding only_calls move call_move take_move script_next session_next store_next event_step event_step_by take_event step step_by deliver
+    unless and_then in_order for_each digits
 its_lines = refl
 
 pub its_takes : takes_of many.script many.turns ≡ many.takes

@@ -325,7 +325,8 @@ a_status_by_an_exit = record {
       (procedure 0 (stmt.OnExit (exit_stmt.SetExit 99) ∷ stmt.OnExit (exit_stmt.SetExit 4) ∷ [])
       ∷ []);
   turns = 100000;
-  trace = codes "t0: onexit setexit 99\nt0 = 0\nt0: onexit setexit 4\nt0 = 1\nt0: return\nexit x1 setexit 4 = 0\nexit x0 setexit 99 = 0\nt0 dies\npod ends 99\n";
+  trace =
+      codes "t0: onexit setexit 99\nt0 = 0\nt0: onexit setexit 4\nt0 = 1\nt0: return\nexit x1 setexit 4 = 0\nexit x0 setexit 99 = 0\nt0 dies\npod ends 99\n";
   halt = Ended 99;
   calls = 3;
   takes = [];

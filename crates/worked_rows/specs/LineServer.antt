@@ -104,7 +104,8 @@ quits c = joined (before c requests
 
 -- the first thread creates the others and waits for the first session; the store waits for letters
 abbrev pub begins : List ℕ
-begins = codes "t0: create db 2 v\nt0 = t1\nt0: create s0 1 -\nt0 = t2\nt0: create s1 1 -\nt0 = t3\nt0: create s2 1 -\nt0 = t4\nt0: join t2\nt1: recv any wait\n"
+begins =
+    codes "t0: create db 2 v\nt0 = t1\nt0: create s0 1 -\nt0 = t2\nt0: create s1 1 -\nt0 = t3\nt0: create s2 1 -\nt0 = t4\nt0: join t2\nt1: recv any wait\n"
 
 -- it returns, and with it the last thread that isn't a server is gone
 abbrev pub ends : List ℕ

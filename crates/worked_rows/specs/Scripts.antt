@@ -123,7 +123,8 @@ a_refused_handle_has_no_place = record {
       ∷ stmt.Skip test.Caught ∷ stmt.Raise 5 ∷ stmt.Say 0 ∷ [])
       ∷ []));
   turns = 100000;
-  trace = codes "t0: handle 0 - 0\nt0 ! LE_INVALIDARG\nt0: handle 5 - 0\nt0 = 0\nt0: raise 5\nt0 caught 5\nt0: say end\nt0 = 0\nt0: return\nt0 dies\npod ends 0\n";
+  trace =
+      codes "t0: handle 0 - 0\nt0 ! LE_INVALIDARG\nt0: handle 5 - 0\nt0 = 0\nt0: raise 5\nt0 caught 5\nt0: say end\nt0 = 0\nt0: return\nt0 dies\npod ends 0\n";
   halt = Ended 0;
   calls = 5;
   takes = [];

@@ -182,7 +182,8 @@ create_is_refused_in_order = record {
       ∷ procedure 2 []
       ∷ []));
   turns = 100000;
-  trace = codes "t0: create none 0 -\nt0 ! LE_INVALIDARG\nt0: create w 2 -\nt0 ! LE_ILLPRIO\nt0: create w 1 -\nt0 ! LE_NOROOM\nt0: return\nt0 dies\npod ends 0\n";
+  trace =
+      codes "t0: create none 0 -\nt0 ! LE_INVALIDARG\nt0: create w 2 -\nt0 ! LE_ILLPRIO\nt0: create w 1 -\nt0 ! LE_NOROOM\nt0: return\nt0 dies\npod ends 0\n";
   halt = Ended 0;
   calls = 4;
   takes = [];

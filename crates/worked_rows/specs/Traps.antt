@@ -40,7 +40,8 @@ the_trap_sum = record {
       (procedure 0 (stmt.Handle (pattern.Num 5) func.Sum 2 ∷ stmt.Trap 5 ∷ stmt.Trap 5 ∷ [])
       ∷ []));
   turns = 100000;
-  trace = codes "t0: handle 5 sum 2\nt0 = 0\nt0: trap 5\nt0 = 0\nevent 5 client 0 seq 0 x\nt0 trap 5\nt0: trap 5\nt0 ! LE_INUSE\nt0: return\nt0 dies\npod ends 0\n";
+  trace =
+      codes "t0: handle 5 sum 2\nt0 = 0\nt0: trap 5\nt0 = 0\nevent 5 client 0 seq 0 x\nt0 trap 5\nt0: trap 5\nt0 ! LE_INUSE\nt0: return\nt0 dies\npod ends 0\n";
   halt = Ended 0;
   calls = 4;
   takes = took 2 5 (line 0 0 (codes "x")) ∷ [];

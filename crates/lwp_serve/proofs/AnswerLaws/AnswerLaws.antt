@@ -62,7 +62,8 @@ abbrev pub Goes : Played Script → Played Script → Shelves → Shelves → Ty
 Goes old now stock left = Going body_next bodies_of proc_names silence old now stock left
 
 -- so far, a run has gone towards its end, and what its client was told is written
-pub record Answering (event : Option ℕ) (old now : Played Script) (stock left : Shelves) (known : Option ℕ) (agents : List ℕ) (w v : Option (List ℕ)) (f g : ℕ) : Type 0 where
+pub record Answering (event : Option ℕ) (old now : Played Script) (stock left : Shelves) (known : Option ℕ) (agents : List ℕ)
+    (w v : Option (List ℕ)) (f g : ℕ) : Type 0 where
   pub going : Goes old now stock left
   pub is_event : known ≡ event
   pub has_agents : agents ≡ (known_after_steps event (steps_of now)).agents
@@ -79,7 +80,8 @@ never-fails now new some left fails.NoMemory h = refl
 never-fails now new some left fails.WriteFault h = absurd (no-rise h.ran.told.1)
 
 -- each round but the last brings the end nearer
-pub falls-so : (now new : Played Script) (some left : Shelves) (x : Option Halt) → Round now new some left (Ok x) → plan_over (planned_by now) (plan_at now some) ≡ None
+pub falls-so : (now new : Played Script) (some left : Shelves) (x : Option Halt) → Round now new some left (Ok x)
+    → plan_over (planned_by now) (plan_at now some) ≡ None
     → (new.turns - new.calls) + left_in_all left + 1 ≤ (now.turns - now.calls) + left_in_all some
 falls-so now new some left x p is = going-falls body_next bodies_of proc_names silence now new some left x p is
 
@@ -93,8 +95,10 @@ module _ (event : Option ℕ) (old now new : Played Script) (stock some left : S
     calls-are : new.calls ≢ now.calls → (after_advance (planned_by now) (plan_at now some)).calls ≢ now.calls
     calls-are h is = h (ap (λ (plan : Plan ThreadBody). plan.calls) comes ∙ is)
 
-    pub called : new.calls ≢ now.calls → known_after_steps event (steps_of new) ≡ known_after_call event (known_after_steps event (steps_of now)) (last_call (steps_of new))
-    called h = subst (λ (plan : Plan ThreadBody). known_after_steps event plan.session.steps ≡ known_after_call event (known_after_steps event (steps_of now)) (last_call plan.session.steps))
+    pub called : new.calls ≢ now.calls
+        → known_after_steps event (steps_of new) ≡ known_after_call event (known_after_steps event (steps_of now)) (last_call (steps_of new))
+    called h = subst (λ (plan : Plan ThreadBody). known_after_steps event plan.session.steps
+        ≡ known_after_call event (known_after_steps event (steps_of now)) (last_call plan.session.steps))
         (sym comes) (advanced-called event (planned_by now) (plan_at now some) (calls-are h))
 
     before : new.calls ≢ now.calls → known_after_steps event (but_last (steps_of new)) ≡ known_after_steps event (steps_of now)
@@ -119,28 +123,33 @@ module _ (event : Option ℕ) (old now new : Played Script) (stock some left : S
     }
 
     -- a call was told
-    pub answering-told : new.calls ≢ now.calls → (later : Option ℕ) (told : List ℕ) (after : List ℕ) (u : Option (List ℕ)) (h : ℕ) → later ≡ known → told ≡ texts_told agents (last_call (steps_of new)) → after ≡ agents_after known agents (last_call (steps_of new))
+    pub answering-told : new.calls ≢ now.calls → (later : Option ℕ) (told : List ℕ) (after : List ℕ) (u : Option (List ℕ)) (h : ℕ)
+        → later ≡ known → told ≡ texts_told agents (last_call (steps_of new)) → after ≡ agents_after known agents (last_call (steps_of new))
         → u ≡ after_append v told → h ≡ g → Answering event old new stock left later after w u f h
     answering-told differs later told after u h kept is-told is-after wrote quiet = record {
       going = goes-on;
       is_event = kept ∙ so.is_event;
-      has_agents = is-after ∙ ap (λ e. agents_after e agents (last_call (steps_of new))) so.is_event ∙ ap (λ those. agents_after event those (last_call (steps_of new))) so.has_agents
+      has_agents = is-after ∙ ap (λ e. agents_after e agents (last_call (steps_of new))) so.is_event
+          ∙ ap (λ those. agents_after event those (last_call (steps_of new))) so.has_agents
           ∙ ap (λ (k : Known). k.agents) (sym (called differs));
       written = wrote ∙ ap (λ x. after_append x told) so.written ∙ appended-append w (known_after_steps event (steps_of now)).replies told
-          ∙ ap (λ x. after_append w ((known_after_steps event (steps_of now)).replies ++ x)) (is-told ∙ ap (λ those. texts_told those (last_call (steps_of new))) so.has_agents)
+          ∙ ap (λ x. after_append w ((known_after_steps event (steps_of now)).replies ++ x))
+          (is-told ∙ ap (λ those. texts_told those (last_call (steps_of new))) so.has_agents)
           ∙ ap (λ (k : Known). after_append w k.replies) (sym (called differs));
       same = quiet ∙ so.same;
     }
 
     -- a call was told in part
-    pub answering-cut : new.calls ≢ now.calls → (told : List ℕ) (u : Option (List ℕ)) → told ≡ texts_told agents (last_call (steps_of new)) → AppendsPart v u told
+    pub answering-cut : new.calls ≢ now.calls → (told : List ℕ) (u : Option (List ℕ)) → told ≡ texts_told agents (last_call (steps_of new))
+        → AppendsPart v u told
         → AppendsCut w u (replies_in event (but_last (steps_of new))) (replies_in event (steps_of new))
     unfolding replies_in
     answering-cut differs told u is-told part =
         let least = ap (λ (k : Known). k.replies) (before differs) in
         let longer : (known_after_steps event (steps_of new)).replies ≡ (known_after_steps event (steps_of now)).replies ++ told
         = ap (λ (k : Known). k.replies) (called differs)
-        ∙ ap (λ x. (known_after_steps event (steps_of now)).replies ++ x) (sym (is-told ∙ ap (λ those. texts_told those (last_call (steps_of new))) so.has_agents)) in
+        ∙ ap (λ x. (known_after_steps event (steps_of now)).replies ++ x)
+        (sym (is-told ∙ ap (λ those. texts_told those (last_call (steps_of new))) so.has_agents)) in
         subst (λ bytes. AppendsCut w u bytes (known_after_steps event (steps_of new)).replies) (sym least)
         (cut_on v u (known_after_steps event (steps_of now)).replies told (known_after_steps event (steps_of new)).replies longer part w so.written)
 
@@ -151,13 +160,15 @@ no-steps : (event : Option ℕ) (setting : Setting ThreadBody) → known_after_s
 unfolding play
 no-steps event setting = refl
 
-module _ (client : ℕ) (script : Script) (o : Played Script) (stock : Shelves) (opening : o ≡ opening_run script o.turns) (stocked : stock ≡ stock_of script) where
+module _ (client : ℕ) (script : Script) (o : Played Script) (stock : Shelves) (opening : o ≡ opening_run script o.turns)
+    (stocked : stock ≡ stock_of script) where
   -- where it goes is the script's own session
   end-is : eager.after_finish (planned_by o) (plan_at o stock) ≡ plan_of script o.turns
   end-is = new-whole body_next bodies_of proc_names o stock (is-new script o.turns o opening) ∙ whole-is script o.turns o stock opening stocked
 
   pub first-of : (now : Played Script) (some : Shelves) → Goes o now stock some → IsFirstPart (plan_at now some) (plan_of script o.turns)
-  first-of now some going = subst (λ (whole : Plan ThreadBody). IsFirstPart (plan_at now some) whole) (going.ends ∙ end-is) (finished-grows (planned_by o) (plan_at now some))
+  first-of now some going =
+      subst (λ (whole : Plan ThreadBody). IsFirstPart (plan_at now some) whole) (going.ends ∙ end-is) (finished-grows (planned_by o) (plan_at now some))
 
   came-by : (r : Played Script) (left : Shelves) → GoesOn o r → IsFirstPart (plan_at r left) (eager.after_finish (planned_by o) (plan_at o stock))
       → IsDefined (run.setting_of body_next bodies_of r) r.takes r.calls → Came script o.turns r left
@@ -165,12 +176,14 @@ module _ (client : ℕ) (script : Script) (o : Played Script) (stock : Shelves) 
       (λ new. subst (λ (whole : Plan ThreadBody). IsFirstPart (plan_at r left) whole) (new-whole body_next bodies_of proc_names o stock new) first) made
 
   -- a round failed, and with it the run
-  pub came-failing : (now new : Played Script) (some left : Shelves) (e : RunErr) → Goes o now stock some → Round {T = Option Halt} now new some left (Err e) → Came script o.turns new left
+  pub came-failing : (now new : Played Script) (some left : Shelves) (e : RunErr) → Goes o now stock some
+      → Round {T = Option Halt} now new some left (Err e) → Came script o.turns new left
   came-failing now new some left e going p = came-by new left (goes-then body_next bodies_of proc_names o now new going.same p.ran.same)
       (going-part body_next bodies_of proc_names silence silence o now new stock some left e going p) p.ran.made
 
   -- a round was made
-  pub came-going : (now new : Played Script) (some left : Shelves) (x : Option Halt) → Goes o now stock some → Round now new some left (Ok x) → Came script o.turns new left
+  pub came-going : (now new : Played Script) (some left : Shelves) (x : Option Halt) → Goes o now stock some
+      → Round now new some left (Ok x) → Came script o.turns new left
   came-going now new some left x going p =
       let on = going-on body_next bodies_of proc_names None None None 0 0 0 o now new stock some left x going p in
       came-by new left on.same
@@ -178,16 +191,19 @@ module _ (client : ℕ) (script : Script) (o : Played Script) (stock : Shelves) 
 
   -- what is written is the first part of all that the client is told
   prefix-by : (now : Played Script) (some : Shelves) (w v : Option (List ℕ)) → IsFirstPart (plan_at now some) (plan_of script o.turns)
-      → AppendsPrefix w v (replies_in (event_of script client) (steps_of now)) → AppendsPrefix w v (replies_in (event_of script client) (plan_of script o.turns).session.steps)
+      → AppendsPrefix w v (replies_in (event_of script client) (steps_of now))
+      → AppendsPrefix w v (replies_in (event_of script client) (plan_of script o.turns).session.steps)
   prefix-by now some w v first p =
       let found = replies-grow (event_of script client) (steps_of now) first.rest (plan_of script o.turns).session.steps first.steps in
-      prefix-more w v (replies_in (event_of script client) (steps_of now)) found.0 (replies_in (event_of script client) (plan_of script o.turns).session.steps) found.1 p
+      prefix-more w v (replies_in (event_of script client) (steps_of now)) found.0
+      (replies_in (event_of script client) (plan_of script o.turns).session.steps) found.1 p
 
   module _ (posted : IsPosted script) (now : Played Script) (some : Shelves) (known : Option ℕ) (agents : List ℕ) (w v : Option (List ℕ)) (f g : ℕ)
       (so : Answering (event_of script client) o now stock some known agents w v f g) where
     prefix-now : AppendsPrefix w v (replies_in (event_of script client) (plan_of script o.turns).session.steps)
     unfolding replies_in
-    prefix-now = prefix-by now some w v (first-of now some so.going) (prefix-all w v (known_after_steps (event_of script client) (steps_of now)).replies so.written)
+    prefix-now = prefix-by now some w v (first-of now some so.going)
+        (prefix-all w v (known_after_steps (event_of script client) (steps_of now)).replies so.written)
 
     module _ (new : Played Script) (left : Shelves) where
       -- the run was out of memory
@@ -199,14 +215,18 @@ module _ (client : ℕ) (script : Script) (o : Played Script) (stock : Shelves) 
 
       -- a write failed
       pub cut-by : (x : Option Halt) → (p : Round now new some left (Ok x)) → plan_over (planned_by now) (plan_at now some) ≡ None → new.calls ≢ now.calls
-          → (told : List ℕ) (u : Option (List ℕ)) → told ≡ texts_told agents (last_call (steps_of new)) → AppendsPart v u told → IsCutOff client o.turns script w u new.takes new.calls
+          → (told : List ℕ) (u : Option (List ℕ)) → told ≡ texts_told agents (last_call (steps_of new)) → AppendsPart v u told
+          → IsCutOff client o.turns script w u new.takes new.calls
       cut-by x p none differs told u is-told part =
           let h = came-going now new some left x so.going p in
           let cut = answering-cut (event_of script client) o now new stock some left known agents w v f g so x p none differs told u is-told part in
           let same = session-is script o.turns new h.plays_it in
           record {
             planned = part-all script o.turns new left None None h posted refl;
-            cut = subst (λ (s : Sessions.Session ThreadBody). AppendsCut w u (replies_in (event_of script client) (but_last s.steps)) (replies_in (event_of script client) s.steps)) same cut;
+            cut = subst
+                (λ (s : Sessions.Session ThreadBody).
+                AppendsCut w u (replies_in (event_of script client) (but_last s.steps)) (replies_in (event_of script client) s.steps))
+                same cut;
             first = prefix-by new left w u h.first (cut.kept, cut.told);
           }
 
@@ -217,14 +237,21 @@ module _ (client : ℕ) (script : Script) (o : Played Script) (stock : Shelves) 
       whole-by halt x p is =
           let still : plan_at new left ≡ plan_at now some = p.comes ∙ round-ends (event_of script client) (planned_by now) (plan_at now some) halt is in
           let over-new : plan_over (planned_by now) (plan_at new left) ≡ Some halt = ap (plan_over (planned_by now)) still ∙ is in
-          let ends : EndsAt body_next bodies_of new left halt = ap (λ t. over t (run.session_of body_next bodies_of new).live.pod new.calls left) p.ran.same.turns ∙ over-new in
-          let eagerly : IsNew o → plan_at new left ≡ plan_whole (planned_by o) stock = λ fresh. going-finishes body_next bodies_of proc_names silence silence o now new stock some left halt x so.going p is
+          let ends : EndsAt body_next bodies_of new left halt =
+          ap (λ t. over t (run.session_of body_next bodies_of new).live.pod new.calls left) p.ran.same.turns
+          ∙ over-new in
+          let eagerly : IsNew o
+          → plan_at new left
+          ≡ plan_whole (planned_by o) stock =
+          λ fresh. going-finishes body_next bodies_of proc_names silence silence o now new stock some left halt x so.going p is
           ∙ new-whole body_next bodies_of proc_names o stock fresh in
           let done = finished script o.turns o new stock left halt (came-going now new some left x so.going p) opening stocked eagerly ends in
           let last = end_text o.turns (left_counts_from 0 script.clients left) halt in
           record {
             planned = whole-of script o.turns new left halt None None None last done posted refl refl refl;
-            written = so.written ∙ ap (λ (plan : Plan ThreadBody). after_append w (known_after_steps (event_of script client) plan.session.steps).replies) (sym still ∙ sym done.whole);
+            written = so.written
+                ∙ ap (λ (plan : Plan ThreadBody). after_append w (known_after_steps (event_of script client) plan.session.steps).replies)
+                (sym still ∙ sym done.whole);
           }
 
   -- before the first round
@@ -232,7 +259,8 @@ module _ (client : ℕ) (script : Script) (o : Played Script) (stock : Shelves) 
       → Answering (event_of script client) o o stock stock known agents w w f f
   answering-opens known agents w f sound is none =
       let fresh : (known_after_steps (event_of script client) (steps_of o)) ≡ nothing_known
-      = ap (λ (r : Played Script). known_after_steps (event_of script client) (steps_of r)) opening ∙ no-steps (event_of script client) (run.setting_of body_next bodies_of (opening_run script o.turns)) in
+      = ap (λ (r : Played Script). known_after_steps (event_of script client) (steps_of r)) opening
+      ∙ no-steps (event_of script client) (run.setting_of body_next bodies_of (opening_run script o.turns)) in
       record {
         going = record { same = goes-same body_next bodies_of proc_names o; sound = sound; told = ((λ base before. before), refl); ends = refl };
         is_event = is;
@@ -242,7 +270,8 @@ module _ (client : ℕ) (script : Script) (o : Played Script) (stock : Shelves) 
       }
 
 -- it ends so only where a script was read
-pub answers-ran : (client turns : ℕ) (script : Script) (sink : Stream) (session : Session) (e : SessionEnd) → AnswersSay client turns script sink session e → IsRanEnd e
+pub answers-ran : (client turns : ℕ) (script : Script) (sink : Stream) (session : Session) (e : SessionEnd)
+    → AnswersSay client turns script sink session e → IsRanEnd e
 answers-ran client turns script sink session (end.Ended status) s = tt
 answers-ran client turns script sink session end.Stuck s = tt
 answers-ran client turns script sink session end.Spent s = tt

@@ -52,7 +52,8 @@ module _ (event : Option ℕ) where
         let effects = (take_move planned.setting.bodies took plan.session.live).effects in
         known-push plan.session.steps (record { take = Some took; effects = effects }) ∙ take-step (known_of plan) took effects
 
-    by_armed : (e : ℕ) (plan : Plan B) (b : Bool) → known_of (elim b as (λ _. Plan B) [ true ↦ after_offer_by planned e plan (first_left plan.left e) | false ↦ plan ]) ≡ known_of plan
+    by_armed : (e : ℕ) (plan : Plan B) (b : Bool)
+        → known_of (elim b as (λ _. Plan B) [ true ↦ after_offer_by planned e plan (first_left plan.left e) | false ↦ plan ]) ≡ known_of plan
     by_armed e plan true = by_line e plan (first_left plan.left e)
     by_armed e plan false = refl
 
@@ -69,7 +70,8 @@ module _ (event : Option ℕ) where
     line-calls e plan None = refl
     line-calls e plan (Some line) = refl
 
-    armed-calls : (e : ℕ) (plan : Plan B) (b : Bool) → (elim b as (λ _. Plan B) [ true ↦ after_offer_by planned e plan (first_left plan.left e) | false ↦ plan ]).calls ≡ plan.calls
+    armed-calls : (e : ℕ) (plan : Plan B) (b : Bool)
+        → (elim b as (λ _. Plan B) [ true ↦ after_offer_by planned e plan (first_left plan.left e) | false ↦ plan ]).calls ≡ plan.calls
     armed-calls e plan true = line-calls e plan (first_left plan.left e)
     armed-calls e plan false = refl
 
@@ -95,17 +97,22 @@ module _ (event : Option ℕ) where
         → known_of (after_advance planned plan) ≡ known_after_call event (known_of plan) (last_call (after_advance planned plan).session.steps)
     advanced-called plan h = by (has_choice plan) h
       where
-        by : (b : Bool) → (advanced_by plan b).calls ≢ plan.calls → known_of (advanced_by plan b) ≡ known_after_call event (known_of plan) (last_call (advanced_by plan b).session.steps)
-        by true h = call-known (boundary planned plan) ∙ ap (λ known. known_after_call event known (last_call (one_call planned (boundary planned plan)).session.steps)) (boundary-known plan)
+        by : (b : Bool) → (advanced_by plan b).calls ≢ plan.calls
+            → known_of (advanced_by plan b) ≡ known_after_call event (known_of plan) (last_call (advanced_by plan b).session.steps)
+        by true h = call-known (boundary planned plan)
+            ∙ ap (λ known. known_after_call event known (last_call (one_call planned (boundary planned plan)).session.steps)) (boundary-known plan)
         by false h = absurd (h (boundary-calls plan))
 
     -- before it, nothing more was known
-    pub advanced-before : (plan : Plan B) → (after_advance planned plan).calls ≢ plan.calls → known_after_steps event (but_last (after_advance planned plan).session.steps) ≡ known_of plan
+    pub advanced-before : (plan : Plan B) → (after_advance planned plan).calls ≢ plan.calls
+        → known_after_steps event (but_last (after_advance planned plan).session.steps) ≡ known_of plan
     advanced-before plan h = by (has_choice plan) h
       where
         by : (b : Bool) → (advanced_by plan b).calls ≢ plan.calls → known_after_steps event (but_last (advanced_by plan b).session.steps) ≡ known_of plan
         by true h = let before = (boundary planned plan).session in
-            ap (known_after_steps event) (but_last-extended (call_step planned.setting before) before None (move planned.setting.next planned.setting.bodies before.live) refl) ∙ boundary-known plan
+            ap (known_after_steps event) (but_last-extended (call_step planned.setting before) before None
+            (move planned.setting.next planned.setting.bodies before.live) refl)
+            ∙ boundary-known plan
         by false h = absurd (h (boundary-calls plan))
 
     -- a round without a call tells nothing

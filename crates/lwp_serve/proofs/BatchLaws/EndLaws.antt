@@ -33,21 +33,27 @@ says-none turns source sink end.Same quiet h = absurd h
 says-none turns source sink (end.Differs line) quiet h = absurd h
 
 -- out of memory after the input was read
-pub says-late : (turns : ℕ) (source sink : Stream) → IsQuiet sink → IsFaultless source → IsReadUp 33554433 source.old source.new → BatchSays turns source sink end.NoMemory
+pub says-late : (turns : ℕ) (source sink : Stream) → IsQuiet sink → IsFaultless source → IsReadUp 33554433 source.old source.new
+    → BatchSays turns source sink end.NoMemory
 says-late turns source sink quiet same up = (same, within-of source.old source.new up, quiet)
 
 -- all of the report was written
-pub says-whole : (turns : ℕ) (source sink : Stream) (text : List ℕ) (parts : List Part) (report : List ℕ) → IsFaultless source → IsReadUp 33554433 source.old source.new
-    → IsInput source.old text parts → report ≡ report_of turns text parts → IsFaultless sink → sink.new ≡ after_append sink.old report → BatchSays turns source sink end.Reported
+pub says-whole : (turns : ℕ) (source sink : Stream) (text : List ℕ) (parts : List Part) (report : List ℕ) → IsFaultless source
+    → IsReadUp 33554433 source.old source.new
+    → IsInput source.old text parts → report ≡ report_of turns text parts → IsFaultless sink → sink.new ≡ after_append sink.old report
+    → BatchSays turns source sink end.Reported
 says-whole turns source sink text parts report same up input is faultless written =
     (same, up, faultless, (report, reports-of turns source.old text parts report input is, written))
 
 -- some of it was not
-pub says-cut : (turns : ℕ) (source sink : Stream) (text : List ℕ) (parts : List Part) (report : List ℕ) → IsFaultless source → IsReadUp 33554433 source.old source.new
-    → IsInput source.old text parts → report ≡ report_of turns text parts → IsFaulty sink → AppendsPart sink.old sink.new report → BatchSays turns source sink end.WriteFault
+pub says-cut : (turns : ℕ) (source sink : Stream) (text : List ℕ) (parts : List Part) (report : List ℕ) → IsFaultless source
+    → IsReadUp 33554433 source.old source.new
+    → IsInput source.old text parts → report ≡ report_of turns text parts → IsFaulty sink → AppendsPart sink.old sink.new report
+    → BatchSays turns source sink end.WriteFault
 says-cut turns source sink text parts report same up input is faulty written =
     (same, up, faulty, (report, reports-of turns source.old text parts report input is, written))
 
 -- a session that ends so
-pub batch-of : (turns : ℕ) (source sink : Stream) (e : SessionEnd) (session : Session) → session ≡ outcome_of e [] 0 → BatchSays turns source sink e → IsBatch turns source sink session
+pub batch-of : (turns : ℕ) (source sink : Stream) (e : SessionEnd) (session : Session) → session ≡ outcome_of e [] 0
+    → BatchSays turns source sink e → IsBatch turns source sink session
 batch-of turns source sink e session is says = subst (λ (x : Session). IsBatch turns source sink x) (sym is) (record { outcome = refl; says = says })

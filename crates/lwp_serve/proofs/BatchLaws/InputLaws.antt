@@ -25,11 +25,14 @@ bad-of (Some told) text part front bad = sym (same-parts told) ∙ ap parts_of (
 pub input-of : (left : Option (List ℕ)) (text : List ℕ) (parts : List Part) → HasFront 33554433 left text → parts_of text ≡ Ok parts → IsInput left text parts
 input-of None text parts front good = good
 input-of (Some told) text parts front good = elim (cases_lt 33554432 (length told)) [
-  | inl long ↦ (let bad : parts_of text ≡ Err 0 = ap parts_of front ∙ same-parts told ∙ parts-long told long in let no : Ok parts ≡ Err 0 = sym good ∙ bad in absurd (cc no))
+  | inl long
+      ↦ (let bad : parts_of text ≡ Err 0 = ap parts_of front ∙ same-parts told ∙ parts-long told long in
+      let no : Ok parts ≡ Err 0 = sym good ∙ bad in absurd (cc no))
   | inr short ↦ (sym (front ∙ take_all 33554433 told (omega (arith, short))), good)
 ]
 
-pub reports-of : (turns : ℕ) (left : Option (List ℕ)) (text : List ℕ) (parts : List Part) (report : List ℕ) → IsInput left text parts → report ≡ report_of turns text parts → Reports turns left report
+pub reports-of : (turns : ℕ) (left : Option (List ℕ)) (text : List ℕ) (parts : List Part) (report : List ℕ) → IsInput left text parts
+    → report ≡ report_of turns text parts → Reports turns left report
 reports-of turns None text parts report input is = tt
 reports-of turns (Some told) text parts report input is =
     (parts, ap parts_of input.0 ∙ input.1, is ∙ ap (λ bytes. report_of turns bytes parts) (sym input.0))

@@ -20,7 +20,8 @@ use Rattle.std.proofs.lemmas.List.{length-map}
 use Rattle.trace_text.specs.declared.ends.Halt.{Halt}
 use Rattle.streams.specs.Streams.{Stream}
 
-run-of : (turns : ℕ) (script : Script) (sink : Stream) (session : Session) (e : SessionEnd) → is_over e ≡ true → RunSays turns script sink session e → IsRun turns script sink session
+run-of : (turns : ℕ) (script : Script) (sink : Stream) (session : Session) (e : SessionEnd) → is_over e ≡ true
+    → RunSays turns script sink session e → IsRun turns script sink session
 run-of turns script sink session (end.Ended status) o s = s
 run-of turns script sink session end.Stuck o s = s
 run-of turns script sink session end.Spent o s = s
@@ -42,7 +43,8 @@ pub record Ended (turns : ℕ) (script : Script) (bytes : List ℕ) (session : S
   pub few : length session.taken ≤ length script.posts
   pub trace : bytes ≡ trace_of script turns
 
-ended-by : (turns : ℕ) (script : Script) (bytes : List ℕ) (session : Session) (halt : Halt) (takes : List Took) → session.status ≡ status_of session.end → session.end ≡ end_of halt → Tells session takes
+ended-by : (turns : ℕ) (script : Script) (bytes : List ℕ) (session : Session) (halt : Halt) (takes : List Took)
+    → session.status ≡ status_of session.end → session.end ≡ end_of halt → Tells session takes
     → IsWhole turns script (Some []) (Some bytes) takes session.turns halt → Ended turns script bytes session
 ended-by turns script bytes session halt takes status ended tells w = record {
   status = status ∙ ap status_of ended ∙ sym (ap status_by w.halted);
@@ -52,14 +54,17 @@ ended-by turns script bytes session halt takes status ended tells w = record {
   trace = cc w.trace;
 }
 
-pub ended-of : (turns : ℕ) (script : Script) (before after : Counting) (session : Session) → before ≡ uncounted → is_over session.end ≡ true → IsPlayed turns script (counted before after) session
+pub ended-of : (turns : ℕ) (script : Script) (before after : Counting) (session : Session) → before ≡ uncounted → is_over session.end ≡ true
+    → IsPlayed turns script (counted before after) session
     → Ended turns script after.bytes session
 ended-of turns script before after session fresh o played =
-    let w = run-of turns script (counted uncounted after) session session.end o (subst (λ (x : Counting). RunSays turns script (counted x after) session session.end) fresh played.says) in
+    let w = run-of turns script (counted uncounted after) session session.end o
+    (subst (λ (x : Counting). RunSays turns script (counted x after) session session.end) fresh played.says) in
     ended-by turns script after.bytes session w.1.0 w.1.1 played.status w.1.2 w.1.3 w.1.4
 
 -- what is told of it is what there is to tell of the script
-pub told-is : (turns : ℕ) (script : Script) (bytes : List ℕ) (session : Session) (told : Counts) (n : ℕ) → told ≡ counts_at_end script session n → n ≡ length bytes → Ended turns script bytes session
+pub told-is : (turns : ℕ) (script : Script) (bytes : List ℕ) (session : Session) (told : Counts) (n : ℕ)
+    → told ≡ counts_at_end script session n → n ≡ length bytes → Ended turns script bytes session
     → told ≡ counts_of turns script
 told-is turns script bytes session told n is trace h =
     let taken : length session.taken ≡ length (takes_of script turns) = h.taken in

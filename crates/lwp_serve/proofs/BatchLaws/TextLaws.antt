@@ -8,10 +8,12 @@ use Rattle.script_text.specs.declared.reason.Reason.{Reason}
 use Rattle.script_text.specs.declared.script.Script.{Script}
 use Rattle.std.proofs.Common.{Err, List, Ok, Result, ap, subst, sym, ℕ, ◌∙◌, ◌≡◌}
 
-pub bad-so : (bytes : List ℕ) (r : Result Script ReadErr) (line : ℕ) (why : Reason) → r ≡ Err (err.Bad line why) → Gives (verdict bytes) r → verdict bytes ≡ Err (line, why)
+pub bad-so : (bytes : List ℕ) (r : Result Script ReadErr) (line : ℕ) (why : Reason) → r ≡ Err (err.Bad line why) → Gives (verdict bytes) r
+    → verdict bytes ≡ Err (line, why)
 bad-so bytes r line why is g = subst (λ (x : Result Script ReadErr). Gives (verdict bytes) x) is g
 
-pub said-counts : (turns : ℕ) (bytes : List ℕ) (script : Script) (counts : Counts) → verdict bytes ≡ Ok script → counts ≡ counts_of turns script → part_text turns bytes ≡ counts_text counts
+pub said-counts : (turns : ℕ) (bytes : List ℕ) (script : Script) (counts : Counts) → verdict bytes ≡ Ok script
+    → counts ≡ counts_of turns script → part_text turns bytes ≡ counts_text counts
 unfolding part_text
 said-counts turns bytes script counts v c = ap (read_part_text turns) v ∙ ap counts_text (sym c)
 

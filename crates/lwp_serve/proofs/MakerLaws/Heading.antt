@@ -1,5 +1,6 @@
 -- The lines before the posts keep every rule, for each number of clients that there may be.
-use Rattle.std.proofs.Common.{◌≡◌, ℕ, zero, suc, ◌+◌, ◌<◌, ◌≤◌, Bool, true, false, ◌&&◌, eqb, leb, List, [], ◌∷◌, ◌++◌, length, fold, refl, sym, ap, ◌∙◌, arith, inl, inr, append_assoc}
+use Rattle.std.proofs.Common.{◌≡◌, ℕ, zero, suc, ◌+◌, ◌<◌, ◌≤◌, Bool, true, false, ◌&&◌, eqb, leb, List, []}
+use Rattle.std.proofs.Common.{◌∷◌, ◌++◌, length, fold, refl, sym, ap, ◌∙◌, arith, inl, inr, append_assoc}
 use Rattle.std.specs.Prelude.{IsTrue, codes, is_some, slice_index_or}
 use Rattle.std.specs.Fmt.{decimal, digits}
 use Rattle.std.specs.List.{AllByRecursion, list_all}
@@ -72,7 +73,8 @@ unfolding digits
 letters_name = ((((((((((((((((tt, refl), refl), refl), refl), refl), refl), refl), refl), refl), refl), refl), refl), refl), refl), refl), refl)
 
 are_names : (c : ℕ) → c < 16 → (is_name (115 ∷ decimal c) ≡ true) × (is_name (97 ∷ decimal c) ≡ true)
-are_names c h = both (is_name (115 ∷ decimal c)) (is_name (97 ∷ decimal c)) (below (λ c. (is_name (115 ∷ decimal c) && is_name (97 ∷ decimal c)) ≡ true) 16 letters_name c h)
+are_names c h = both (is_name (115 ∷ decimal c)) (is_name (97 ∷ decimal c))
+    (below (λ c. (is_name (115 ∷ decimal c) && is_name (97 ∷ decimal c)) ≡ true) 16 letters_name c h)
 
 is_client_line : (l : ClientLine) (c : ℕ) → c < 16 → IsLine (client_phrase l c)
 unfolding row_of
@@ -88,9 +90,18 @@ are_client_lines l n h = all_gathered IsLine (λ c. client_phrase l c ∷ []) n 
 pub are_lines : (t : ℕ) → t ≤ 16 → AllByRecursion IsLine (head t)
 unfolding row_of
 are_lines t h =
-    let bodies : AllByRecursion IsLine (body t) = (((refl, (refl, (omega arith, (tt, tt)))), refl), all_append IsLine (client_phrases line.Create t) (client_phrases line.Join t) (are_client_lines line.Create t h) (are_client_lines line.Join t h)) in
+    let bodies : AllByRecursion IsLine (body t) = (
+      ((refl, (refl, (omega arith, (tt, tt)))), refl),
+      all_append IsLine (client_phrases line.Create t) (client_phrases line.Join t) (are_client_lines line.Create t h) (are_client_lines line.Join t h),
+    ) in
     let natives : AllByRecursion IsLine (store ∷ client_phrases line.Native t) = (((refl, (inl (refl, refl), tt)), refl), are_client_lines line.Native t h) in
-    let fronts : AllByRecursion IsLine (front t) = (((omega arith, tt), refl), (((omega arith, tt), refl), all_append IsLine (client_phrases line.Client t) (store ∷ client_phrases line.Native t) (are_client_lines line.Client t h) natives)) in
+    let fronts : AllByRecursion IsLine (front t) = (
+      ((omega arith, tt), refl),
+      (
+        ((omega arith, tt), refl),
+        all_append IsLine (client_phrases line.Client t) (store ∷ client_phrases line.Native t) (are_client_lines line.Client t h) natives,
+      ),
+    ) in
     all_append IsLine (front t) (main ∷ body t) fronts (((refl, tt), refl), bodies)
 
 -- ---- The text spells them.
@@ -131,11 +142,19 @@ clients_spelt l n = spelt_each (client_line l) (λ c. client_phrase l c ∷ []) 
 
 procedure_spelt : (t : ℕ) → procedure t ≡ spelling (main ∷ body t)
 unfolding row_of
-procedure_spelt t = rw (two_written, clients_spelt line.Create t, clients_spelt line.Join t, spelling_append (client_phrases line.Create t) (client_phrases line.Join t)) refl
+procedure_spelt t =
+    rw (two_written, clients_spelt line.Create t, clients_spelt line.Join t, spelling_append (client_phrases line.Create t) (client_phrases line.Join t)) refl
 
 declarations_spelt : (t : ℕ) → declarations t ≡ spelling (front t)
 unfolding row_of
-declarations_spelt t = rw (one_written, two_written, clients_spelt line.Client t, clients_spelt line.Native t, spelling_append (client_phrases line.Client t) (store ∷ client_phrases line.Native t)) refl
+declarations_spelt t = rw (
+  one_written,
+  two_written,
+  clients_spelt line.Client t,
+  clients_spelt line.Native t,
+  spelling_append (client_phrases line.Client t) (store ∷ client_phrases line.Native t),
+)
+    refl
 
 -- the lines before the posts
 abbrev pub heading : ℕ → List ℕ

@@ -1,5 +1,6 @@
 -- The posts keep every rule: each client has posted fewer lines than it may.
-use Rattle.std.proofs.Common.{◌≡◌, ℕ, zero, suc, ◌*◌, ◌^◌, ◌/◌, ◌<◌, ◌≤◌, true, ◌&&◌, leb, ltb, List, [], ◌∷◌, ◌++◌, length, fold, refl, sym, ap, subst, arith, rules, inl, inr, length-append}
+use Rattle.std.proofs.Common.{◌≡◌, ℕ, zero, suc, ◌*◌, ◌^◌, ◌/◌, ◌<◌, ◌≤◌, true, ◌&&◌, leb, ltb, List, [], ◌∷◌, ◌++◌}
+use Rattle.std.proofs.Common.{length, fold, refl, sym, ap, subst, arith, rules, inl, inr, length-append}
 use Rattle.std.specs.Prelude.{codes, slice_index_or}
 use Rattle.std.specs.Fmt.{decimal}
 use Rattle.std.specs.List.{AllByRecursion}
@@ -88,7 +89,8 @@ post_is_line c text h w =
     let is : is_text text ≡ true = rw (fits, w.printable) refl in
     ((omega arith, (is, tt)), refl)
 
-post_spelt : (c : ℕ) (text : List ℕ) → with_space text ≡ 32 ∷ text → codes "post " ++ (decimal c ++ (codes " " ++ (text ++ codes "\n"))) ≡ spelling (post c text ∷ [])
+post_spelt : (c : ℕ) (text : List ℕ) → with_space text ≡ 32 ∷ text
+    → codes "post " ++ (decimal c ++ (codes " " ++ (text ++ codes "\n"))) ≡ spelling (post c text ∷ [])
 unfolding row_of
 post_spelt c text h = rw h (ap (λ (l : List ℕ). codes "post " ++ l) (line_end (decimal c) (32 ∷ text)))
 
@@ -112,10 +114,12 @@ abbrev pub rounds_say : ℕ → ℕ → ℕ → List Phrase
 rounds_say seed threads n = gathered (λ i. round_says threads (past seed (i * threads)) i) n
 
 round_spelt : (threads x i : ℕ) → i < 10000 → round threads x i ≡ spelling (round_says threads x i)
-round_spelt threads x i h = spelt_each (λ c. post_line (past x c) i c) (λ c. drawn_post (past x c) i c ∷ []) threads (λ c lt. post_spelt c (drawn_command (past x c) i) (drawn_written (past x c) i h).seen)
+round_spelt threads x i h = spelt_each (λ c. post_line (past x c) i c) (λ c. drawn_post (past x c) i c ∷ []) threads
+    (λ c lt. post_spelt c (drawn_command (past x c) i) (drawn_written (past x c) i h).seen)
 
 pub rounds_spelt : (seed threads n : ℕ) → n ≤ 10000 → rounds seed threads n ≡ spelling (rounds_say seed threads n)
-rounds_spelt seed threads n h = spelt_each (λ i. round threads (past seed (i * threads)) i) (λ i. round_says threads (past seed (i * threads)) i) n (λ i lt. round_spelt threads (past seed (i * threads)) i (omega arith))
+rounds_spelt seed threads n h = spelt_each (λ i. round threads (past seed (i * threads)) i)
+    (λ i. round_says threads (past seed (i * threads)) i) n (λ i lt. round_spelt threads (past seed (i * threads)) i (omega arith))
 
 pub rounds_are_lines : (seed threads n : ℕ) → threads ≤ 16 → n ≤ 10000 → AllByRecursion IsLine (rounds_say seed threads n)
 rounds_are_lines seed threads n few h = all_gathered IsLine (λ i. round_says threads (past seed (i * threads)) i) n (λ i lt.
@@ -156,16 +160,19 @@ pub record Posted (threads c n : ℕ) (known : Declared) (s : Place) (ps : List 
   pub stand : stands s ps ≡ true
   pub ready : IsReady threads c n known (fold moved s ps)
 
-most_behind : (threads c n d : ℕ) (known : Declared) (s : Place) → c < threads → d < threads → IsReady threads c n known s → slice_index_or (after_raise c s.posted) d 20000 ≤ suc n
+most_behind : (threads c n d : ℕ) (known : Declared) (s : Place) → c < threads → d < threads → IsReady threads c n known s
+    → slice_index_or (after_raise c s.posted) d 20000 ≤ suc n
 most_behind threads c n d known s inside lt r = elim (cases_lt d c) [
   | inl less ↦ omega (arith, raised_behind c d 20000 s.posted less, r.most d lt)
   | inr more ↦ omega (arith, raised_more c d 20000 s.posted, r.low d more lt)
 ]
 
-one_post : (threads c n : ℕ) (known : Declared) (s : Place) (text : List ℕ) → c < threads → n < 20000 → IsReady threads c n known s → Posted threads (suc c) n known s (post c text ∷ [])
+one_post : (threads c n : ℕ) (known : Declared) (s : Place) (text : List ℕ) → c < threads → n < 20000 → IsReady threads c n known s
+    → Posted threads (suc c) n known s (post c text ∷ [])
 unfolding row_of
 one_post threads c n known s text inside few r =
-    let fewer : ltb (slice_index_or s.posted c 20000) 20000 ≡ true = lt-ltb (slice_index_or s.posted c 20000) 20000 (omega (arith, r.low c (omega arith) inside)) in
+    let fewer : ltb (slice_index_or s.posted c 20000) 20000
+    ≡ true = lt-ltb (slice_index_or s.posted c 20000) 20000 (omega (arith, r.low c (omega arith) inside)) in
     record {
       stand = rw (r.posts_follow, fewer) refl;
       ready = record {
@@ -176,7 +183,8 @@ one_post threads c n known s text inside few r =
       };
     }
 
-posts_append : (threads c d n m : ℕ) (known : Declared) (s : Place) (ps qs : List Phrase) → Posted threads c n known s ps → Posted threads d m known (fold moved s ps) qs → Posted threads d m known s (ps ++ qs)
+posts_append : (threads c d n m : ℕ) (known : Declared) (s : Place) (ps qs : List Phrase) → Posted threads c n known s ps
+    → Posted threads d m known (fold moved s ps) qs → Posted threads d m known s (ps ++ qs)
 posts_append threads c d n m known s ps qs h k = record {
   stand = stands_append s ps qs h.stand k.stand;
   ready = subst (IsReady threads d m known) (sym (fold-append moved s ps qs)) k.ready;
@@ -185,7 +193,8 @@ posts_append threads c d n m known s ps qs h k = record {
 nothing_posted : (threads c n : ℕ) (known : Declared) (s : Place) → IsReady threads c n known s → Posted threads c n known s []
 nothing_posted threads c n known s r = record { stand = refl; ready = r }
 
-one_round : (threads k n : ℕ) (known : Declared) (s : Place) (text : ℕ → List ℕ) → k ≤ threads → n < 20000 → IsReady threads 0 n known s → Posted threads k n known s (gathered (λ c. post c (text c) ∷ []) k)
+one_round : (threads k n : ℕ) (known : Declared) (s : Place) (text : ℕ → List ℕ) → k ≤ threads → n < 20000 → IsReady threads 0 n known s
+    → Posted threads k n known s (gathered (λ c. post c (text c) ∷ []) k)
 one_round threads zero n known s text le few r = nothing_posted threads 0 n known s r
 one_round threads (suc k) n known s text le few r =
     let before = one_round threads k n known s text (omega arith) few r in
@@ -201,20 +210,24 @@ next_round threads n known s r = record {
   knows = r.knows;
 }
 
-whole_round : (threads n : ℕ) (known : Declared) (s : Place) (text : ℕ → List ℕ) → n < 20000 → IsReady threads 0 n known s → Posted threads 0 (suc n) known s (gathered (λ c. post c (text c) ∷ []) threads)
+whole_round : (threads n : ℕ) (known : Declared) (s : Place) (text : ℕ → List ℕ) → n < 20000 → IsReady threads 0 n known s
+    → Posted threads 0 (suc n) known s (gathered (λ c. post c (text c) ∷ []) threads)
 whole_round threads n known s text few r =
     let p = one_round threads threads n known s text (omega arith) few r in
     record { stand = p.stand; ready = next_round threads n known (fold moved s (gathered (λ c. post c (text c) ∷ []) threads)) p.ready }
 
-rounds_stand : (seed threads n : ℕ) (known : Declared) (s : Place) → n ≤ 20000 → IsReady threads 0 0 known s → Posted threads 0 n known s (rounds_say seed threads n)
+rounds_stand : (seed threads n : ℕ) (known : Declared) (s : Place) → n ≤ 20000 → IsReady threads 0 0 known s
+    → Posted threads 0 n known s (rounds_say seed threads n)
 rounds_stand seed threads zero known s few r = nothing_posted threads 0 0 known s r
 rounds_stand seed threads (suc n) known s few r =
     let before = rounds_stand seed threads n known s (omega arith) r in
     posts_append threads 0 0 n (suc n) known s (rounds_say seed threads n) (round_says threads (past seed (n * threads)) n) before
-    (whole_round threads n known (fold moved s (rounds_say seed threads n)) (λ c. drawn_command (past (past seed (n * threads)) c) n) (omega arith) before.ready)
+    (whole_round threads n known (fold moved s (rounds_say seed threads n)) (λ c. drawn_command (past (past seed (n * threads)) c) n)
+    (omega arith) before.ready)
 
 -- the posts of all rounds, and then one of each client
-pub all_posts : (seed threads n : ℕ) (known : Declared) (s : Place) (text : ℕ → List ℕ) → n < 20000 → IsReady threads 0 0 known s → Posted threads 0 (suc n) known s (rounds_say seed threads n ++ gathered (λ c. post c (text c) ∷ []) threads)
+pub all_posts : (seed threads n : ℕ) (known : Declared) (s : Place) (text : ℕ → List ℕ) → n < 20000 → IsReady threads 0 0 known s
+    → Posted threads 0 (suc n) known s (rounds_say seed threads n ++ gathered (λ c. post c (text c) ∷ []) threads)
 all_posts seed threads n known s text few r =
     let before = rounds_stand seed threads n known s (omega arith) r in
     posts_append threads 0 0 n (suc n) known s (rounds_say seed threads n) (gathered (λ c. post c (text c) ∷ []) threads) before

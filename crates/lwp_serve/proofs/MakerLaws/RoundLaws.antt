@@ -18,7 +18,8 @@ past_round seed threads n s t e f =
     f ∙ ap (λ y. past y threads) e ∙ past_past seed (n * threads) threads ∙ ap (past seed) (sym (ap (λ m. m * threads) (add-one n) ∙ suc-mul n threads))
 
 -- one more post of a round
-pub round_post : (x i n m s : ℕ) (old before new : List ℕ) → s ≡ past x n → m ≡ n → before ≡ old ++ round n x i → new ≡ before ++ post_line s i m → new ≡ old ++ round (n + 1) x i
+pub round_post : (x i n m s : ℕ) (old before new : List ℕ) → s ≡ past x n → m ≡ n → before ≡ old ++ round n x i
+    → new ≡ before ++ post_line s i m → new ≡ old ++ round (n + 1) x i
 round_post x i n m s old before new e same b f =
     f
     ∙ ap (λ (l : List ℕ). l ++ post_line s i m) b
@@ -28,7 +29,8 @@ round_post x i n m s old before new e same b f =
     ∙ ap (λ y. old ++ round y x i) (sym (add-one n))
 
 -- one more round
-pub rounds_round : (seed threads n m s : ℕ) (old before new : List ℕ) → s ≡ past seed (n * threads) → m ≡ n → before ≡ old ++ rounds seed threads n → new ≡ before ++ round threads s m → new ≡ old ++ rounds seed threads (n + 1)
+pub rounds_round : (seed threads n m s : ℕ) (old before new : List ℕ) → s ≡ past seed (n * threads) → m ≡ n
+    → before ≡ old ++ rounds seed threads n → new ≡ before ++ round threads s m → new ≡ old ++ rounds seed threads (n + 1)
 rounds_round seed threads n m s old before new e same b f =
     f
     ∙ ap (λ (l : List ℕ). l ++ round threads s m) b

@@ -14,7 +14,8 @@ use Rattle.script_lines.specs.declared.table.Role.TheVariants as role
 use Rattle.script_lines.specs.Phrase.{Phrase}
 use Rattle.script_lines.specs.Table.{role_of}
 use Rattle.script_text.specs.Grammar.{stage_after, stage_of, declares, declared_of, nothing, posted_of, may_stand_at, AllStand}
-use Rattle.script_text.specs.Meaning.{after_raise, with_statement, statement_of, after_name, places_of, after_add_at, after_add, after_enter, empty_draft, draft_of}
+use Rattle.script_text.specs.Meaning.{after_raise, with_statement, statement_of, after_name, places_of}
+use Rattle.script_text.specs.Meaning.{after_add_at, after_add, after_enter, empty_draft, draft_of}
 use Rattle.lwp_serve.proofs.MakerLaws.Gathered.{both}
 
 -- what the lines before one come to, as far as a line's rules look at it
@@ -72,18 +73,23 @@ counted_at role.Again at d p = refl
 
 place_push : (ps : List Phrase) (p : Phrase) → place_of (ps ++ p ∷ []) ≡ moved (place_of ps) p
 place_push ps p =
-    let s : stage_of (ps ++ p ∷ []) ≡ stage_after (stage_of ps) (role_of p.op) = fold-append (λ (s : Stage) (q : Phrase). stage_after s (role_of q.op)) stages.Start ps (p ∷ []) in
-    let k : declared_of (ps ++ p ∷ []) ≡ declares (role_of p.op) (declared_of ps) p = fold-append (λ (d : Declared) (q : Phrase). declares (role_of q.op) d q) nothing ps (p ∷ []) in
+    let s : stage_of (ps ++ p ∷ [])
+    ≡ stage_after (stage_of ps) (role_of p.op) = fold-append (λ (s : Stage) (q : Phrase). stage_after s (role_of q.op)) stages.Start ps (p ∷ []) in
+    let k : declared_of (ps ++ p ∷ [])
+    ≡ declares (role_of p.op) (declared_of ps) p = fold-append (λ (d : Declared) (q : Phrase). declares (role_of q.op) d q) nothing ps (p ∷ []) in
     let d : draft_of (ps ++ p ∷ []) ≡ after_add (draft_of ps) p = fold-append after_add empty_draft ps (p ∷ []) in
     let n : posted_of (ps ++ p ∷ []) ≡ counted (role_of p.op) p.client (posted_of ps) =
-    ap (λ (x : Draft). x.posted) d ∙ counted_at (role_of p.op) (places_of (after_name (draft_of ps).script.names p) (draft_of ps).script.texts p) (after_enter (draft_of ps) p) p in
+    ap (λ (x : Draft). x.posted) d
+    ∙ counted_at (role_of p.op) (places_of (after_name (draft_of ps).script.names p) (draft_of ps).script.texts p) (after_enter (draft_of ps) p) p in
     rw (s, k, n) refl
 
 all_stand_behind : (before ps : List Phrase) (s : Place) → place_of before ≡ s → stands s ps ≡ true → AllStand before ps
 all_stand_behind before [] s e h = tt
 all_stand_behind before (p ∷ ps) s e h =
-    let t = both (may_stand_at s.stage s.known s.posted p) (stands (moved s p) ps) h in
-    (subst (λ (x : Place). may_stand_at x.stage x.known x.posted p ≡ true) (sym e) t.0, all_stand_behind (before ++ p ∷ []) ps (moved s p) (place_push before p ∙ ap (λ (x : Place). moved x p) e) t.1)
+    let t = both (may_stand_at s.stage s.known s.posted p) (stands (moved s p) ps) h in (
+      subst (λ (x : Place). may_stand_at x.stage x.known x.posted p ≡ true) (sym e) t.0,
+      all_stand_behind (before ++ p ∷ []) ps (moved s p) (place_push before p ∙ ap (λ (x : Place). moved x p) e) t.1,
+    )
 
 -- each line of a script may stand
 pub all_stand : (ps : List Phrase) → stands start ps ≡ true → AllStand [] ps
@@ -118,4 +124,5 @@ some_at role.Again at d p h = grown_some (statement_of p.op at p) d.current h
 
 pub some_behind : (d : Draft) (ps : List Phrase) → is_some d.current ≡ true → is_some (fold after_add d ps).current ≡ true
 some_behind d [] h = h
-some_behind d (p ∷ ps) h = some_behind (after_add d p) ps (some_at (role_of p.op) (places_of (after_name d.script.names p) d.script.texts p) (after_enter d p) p h)
+some_behind d (p ∷ ps) h =
+    some_behind (after_add d p) ps (some_at (role_of p.op) (places_of (after_name d.script.names p) d.script.texts p) (after_enter d p) p h)

@@ -3,14 +3,16 @@ use Rattle.event_gate.proofs.HistoryLaws.{clients_keep_history, gates_keep_histo
 use Rattle.event_gate.proofs.Lines.{cond_other, cond_same, of-append, same_or}
 use Rattle.event_gate.specs.History.{IsClientHistory, IsGateHistory, lines_of}
 use Rattle.event_gate.specs.Port.{IsNumbered, of}
-use Rattle.event_gate.specs.Shelves.{Shelf, Shelves, after_next, after_take_from, bare, event_of, first_left, full, full_shelves, left_in_all, left_of_client, lines_for, shelf_of}
+use Rattle.event_gate.specs.Shelves.{Shelf, Shelves, after_next, after_take_from, bare, event_of, first_left}
+use Rattle.event_gate.specs.Shelves.{full, full_shelves, left_in_all, left_of_client, lines_for, shelf_of}
 use Rattle.script_session.specs.History.{counts_from, lines_left, pair_of, pairs_of}
 use Rattle.lwp_serve.specs.Plan.Planned.{plan_of, planned_of}
 use Rattle.script_body.specs.Posted.{IsPosted}
 use Rattle.script_body.specs.declared.thread_body.ThreadBody.{ThreadBody}
 use Rattle.lwp_types.specs.ListLaws.{All-push}
 use Rattle.lwp_types.specs.declared.call.Line.{Line}
-use Rattle.pod_runner.specs.Eager.{Plan, Planned, after_advance, boundary, has_choice, after_offer, after_offer_by, one_call, opening_plan, plan_over, plan_whole, pod_of, after_take, took_of, to_the_end}
+use Rattle.pod_runner.specs.Eager.{Plan, Planned, after_advance, boundary, has_choice, after_offer, after_offer_by, one_call}
+use Rattle.pod_runner.specs.Eager.{opening_plan, plan_over, plan_whole, pod_of, after_take, took_of, to_the_end}
 use Rattle.pod_runner.specs.Over.{events}
 use Rattle.pod_runner.specs.Trace.{left_counts_from}
 use Rattle.pod_runner.specs.declared.session.Took.{Took}
@@ -19,7 +21,8 @@ use Rattle.script_text.specs.Script.{lines_posted}
 use Rattle.trace_text.specs.declared.ends.Halt.{Halt}
 use Rattle.script_text.specs.declared.script.Script.{Script}
 use Rattle.std.specs.List.{AllByRecursion, count_by, range_with_len}
-use Rattle.std.proofs.Common.{Bool, List, None, Option, Some, [], ap, append_assoc, arith, cond, eqb, false, fold, get_or-set_other, get_or-set_same, length, length-append, refl, slice_get, subst, suc, sym, take, true, zero, ℕ, ⊎_elim, ◌++◌, ◌+◌, ◌<◌, ◌∙◌, ◌∷◌, ◌≡◌, ◌≢◌, ◌≤◌}
+use Rattle.std.proofs.Common.{Bool, List, None, Option, Some, [], ap, append_assoc, arith, cond, eqb, false, fold, get_or-set_other, get_or-set_same, length}
+use Rattle.std.proofs.Common.{length-append, refl, slice_get, subst, suc, sym, take, true, zero, ℕ, ⊎_elim, ◌++◌, ◌+◌, ◌<◌, ◌∙◌, ◌∷◌, ◌≡◌, ◌≢◌, ◌≤◌}
 use Rattle.std.proofs.lemmas.Bool.{eqb-true}
 use Rattle.std.proofs.lemmas.List.{append-nil, length-set, map-append}
 use Rattle.std.proofs.lemmas.List.Elements.{All-from_recursion, recursion_from_All}
@@ -46,7 +49,8 @@ abbrev IsAtEvent : List ℕ → Took → Type 0
 IsAtEvent clients t = event_of clients t.line.client ≡ t.event
 
 -- the takes of a client are among those at its event
-mine : (clients : List ℕ) (c : ℕ) (takes : List Took) → AllByRecursion (IsAtEvent clients) takes → of c (lines_of (pairs_of takes)) ≡ of c (at (event_of clients c) takes)
+mine : (clients : List ℕ) (c : ℕ) (takes : List Took) → AllByRecursion (IsAtEvent clients) takes
+    → of c (lines_of (pairs_of takes)) ≡ of c (at (event_of clients c) takes)
 mine clients c [] all = refl
 mine clients c (t ∷ ts) all =
     let e = event_of clients c in
@@ -56,7 +60,8 @@ mine clients c (t ∷ ts) all =
     cond_same t.line.client c (t.line ∷ of c (lines_of (pairs_of ts))) (of c (lines_of (pairs_of ts))) same ∙ ap (λ ls. t.line ∷ ls) more
     ∙ sym (cond_same t.line.client c (t.line ∷ of c (at e ts)) (of c (at e ts)) same)
     ∙ ap (of c) (sym (cond_same t.event e (t.line ∷ at e ts) (at e ts) (sym all.0 ∙ ap (event_of clients) same))))
-    (λ (other : t.line.client ≢ c). cond_other t.line.client c (t.line ∷ of c (lines_of (pairs_of ts))) (of c (lines_of (pairs_of ts))) other ∙ more ∙ sym (by (eqb t.event e) (at e ts) other))
+    (λ (other : t.line.client ≢ c). cond_other t.line.client c (t.line ∷ of c (lines_of (pairs_of ts))) (of c (lines_of (pairs_of ts))) other
+    ∙ more ∙ sym (by (eqb t.event e) (at e ts) other))
     (same_or t.line.client c)
   where
     by : (b : Bool) (ls : List Line) → t.line.client ≢ c → of c (cond b (t.line ∷ ls) ls) ≡ of c ls
@@ -71,7 +76,8 @@ for_event : (clients : List ℕ) (e : ℕ) (posts : List Line) → AllByRecursio
 for_event clients e [] = tt
 for_event clients e (l ∷ ls) = by (eqb (event_of clients l.client) e) refl (for_event clients e ls)
   where
-    by : (b : Bool) → eqb (event_of clients l.client) e ≡ b → AllByRecursion (IsFor clients e) (lines_for clients ls e) → AllByRecursion (IsFor clients e) (cond b (l ∷ lines_for clients ls e) (lines_for clients ls e))
+    by : (b : Bool) → eqb (event_of clients l.client) e ≡ b → AllByRecursion (IsFor clients e) (lines_for clients ls e)
+        → AllByRecursion (IsFor clients e) (cond b (l ∷ lines_for clients ls e) (lines_for clients ls e))
     by true is rest = (eqb-true (event_of clients l.client) e is, rest)
     by false is rest = rest
 
@@ -108,7 +114,8 @@ module _ (clients : List ℕ) (posts : List Line) (planned : Planned ThreadBody)
     at_events = tt;
   }
 
-  keeps_taken : (e : ℕ) (line : Line) (plan : Plan ThreadBody) → e < 256 → first_left plan.left e ≡ Some line → Keeps clients posts plan → Keeps clients posts (after_take planned e line plan)
+  keeps_taken : (e : ℕ) (line : Line) (plan : Plan ThreadBody) → e < 256 → first_left plan.left e ≡ Some line → Keeps clients posts plan
+      → Keeps clients posts (after_take planned e line plan)
   keeps_taken e line plan low first h =
       let s = shelf_of plan.left e in
       let whole : AllByRecursion (IsFor clients e) (s.taken ++ s.left) = rw (h.gate e low) (for_event clients e posts) in
@@ -138,7 +145,8 @@ module _ (clients : List ℕ) (posts : List Line) (planned : Planned ThreadBody)
       by true None is = h
       by true (Some line) is = keeps_taken e line plan low is h
 
-  keeps_all : (es : List ℕ) (plan : Plan ThreadBody) → AllByRecursion (λ e. e < 256) es → Keeps clients posts plan → Keeps clients posts (fold (λ now e. after_offer planned e now) plan es)
+  keeps_all : (es : List ℕ) (plan : Plan ThreadBody) → AllByRecursion (λ e. e < 256) es → Keeps clients posts plan
+      → Keeps clients posts (fold (λ now e. after_offer planned e now) plan es)
   keeps_all [] plan low h = h
   keeps_all (e ∷ es) plan low h = keeps_all es (after_offer planned e plan) low.1 (keeps_offered e plan low.0 h)
 
@@ -159,7 +167,8 @@ module _ (clients : List ℕ) (posts : List Line) (planned : Planned ThreadBody)
   keeps_advanced : (plan : Plan ThreadBody) → Keeps clients posts plan → Keeps clients posts (after_advance planned plan)
   keeps_advanced plan h = by (has_choice plan) (keeps_boundary plan h)
     where
-      by : (b : Bool) → Keeps clients posts (boundary planned plan) → Keeps clients posts (elim b [ true ↦ one_call planned (boundary planned plan) | false ↦ boundary planned plan ])
+      by : (b : Bool) → Keeps clients posts (boundary planned plan)
+          → Keeps clients posts (elim b [ true ↦ one_call planned (boundary planned plan) | false ↦ boundary planned plan ])
       by true more = keeps_call (boundary planned plan) more
       by false more = more
 
@@ -168,7 +177,8 @@ module _ (clients : List ℕ) (posts : List Line) (planned : Planned ThreadBody)
   keeps_to zero plan h = h
   keeps_to (suc n) plan h = by (plan_over planned plan) (keeps_to n (after_advance planned plan) (keeps_advanced plan h))
     where
-      by : (o : Option Halt) → Keeps clients posts (to_the_end planned n (after_advance planned plan)) → Keeps clients posts (elim o [ None ↦ to_the_end planned n (after_advance planned plan) | Some halt ↦ plan ])
+      by : (o : Option Halt) → Keeps clients posts (to_the_end planned n (after_advance planned plan))
+          → Keeps clients posts (elim o [ None ↦ to_the_end planned n (after_advance planned plan) | Some halt ↦ plan ])
       by None more = more
       by (Some halt) more = h
 
@@ -200,13 +210,16 @@ none_right (x ∷ xs) ys h = absurd (cc h)
 -- where no event has lines of a client, none are left
 none_left : (c : ℕ) (shelves : Shelves) → ((d : ℕ) → d < length shelves → of c (shelf_of shelves d).left ≡ []) → of c (lines_left shelves) ≡ []
 none_left c [] h = refl
-none_left c (s ∷ ss) h = of-append c s.left (lines_left ss) ∙ ap (λ ls. ls ++ of c (lines_left ss)) (h 0 (omega arith)) ∙ none_left c ss (λ d low. h (suc d) (omega (arith, low)))
+none_left c (s ∷ ss) h = of-append c s.left (lines_left ss) ∙ ap (λ ls. ls ++ of c (lines_left ss)) (h 0 (omega arith))
+    ∙ none_left c ss (λ d low. h (suc d) (omega (arith, low)))
 
 -- where one event alone may have lines of a client, all that are left are there
-one_left : (c e : ℕ) (shelves : Shelves) → ((d : ℕ) → d < length shelves → e ≢ d → of c (shelf_of shelves d).left ≡ []) → of c (lines_left shelves) ≡ of c (shelf_of shelves e).left
+one_left : (c e : ℕ) (shelves : Shelves) → ((d : ℕ) → d < length shelves → e ≢ d → of c (shelf_of shelves d).left ≡ [])
+    → of c (lines_left shelves) ≡ of c (shelf_of shelves e).left
 one_left c e [] h = refl
 one_left c zero (s ∷ ss) h =
-    of-append c s.left (lines_left ss) ∙ ap (λ ls. of c s.left ++ ls) (none_left c ss (λ d low. h (suc d) (omega (arith, low)) (λ is. absurd (omega (arith, is))))) ∙ append-nil (of c s.left)
+    of-append c s.left (lines_left ss)
+    ∙ ap (λ ls. of c s.left ++ ls) (none_left c ss (λ d low. h (suc d) (omega (arith, low)) (λ is. absurd (omega (arith, is))))) ∙ append-nil (of c s.left)
 one_left c (suc e) (s ∷ ss) h =
     of-append c s.left (lines_left ss) ∙ ap (λ ls. ls ++ of c (lines_left ss)) (h 0 (omega arith) (λ is. absurd (omega (arith, is))))
     ∙ one_left c e ss (λ d low other. h (suc d) (omega (arith, low)) (λ is. other (omega (arith, is))))
@@ -230,7 +243,8 @@ count_left c (s ∷ ss) = omega (
 
 pub counts_left : (c : ℕ) (clients : List ℕ) (shelves : Shelves) → left_counts_from c clients shelves ≡ counts_from c clients (lines_left shelves)
 counts_left c [] shelves = refl
-counts_left c (e ∷ es) shelves = ap (λ n. n ∷ left_counts_from (c + 1) es shelves) (count_left c shelves) ∙ ap (λ ns. length (of c (lines_left shelves)) ∷ ns) (counts_left (c + 1) es shelves)
+counts_left c (e ∷ es) shelves = ap (λ n. n ∷ left_counts_from (c + 1) es shelves) (count_left c shelves)
+    ∙ ap (λ ns. length (of c (lines_left shelves)) ∷ ns) (counts_left (c + 1) es shelves)
 
 numbered_left : (n : ℕ) (xs ys : List Line) → IsNumbered n (xs ++ ys) → IsNumbered n xs
 numbered_left n [] ys h = tt
@@ -243,11 +257,13 @@ low_event (e ∷ es) (suc c) all = low_event es c all.1
 
 -- ---- the history
 
-events_of_pairs : (clients : List ℕ) (takes : List Took) → AllByRecursion (IsAtEvent clients) takes → AllByRecursion (λ t. event_of clients t.1.client ≡ t.0) (pairs_of takes)
+events_of_pairs : (clients : List ℕ) (takes : List Took) → AllByRecursion (IsAtEvent clients) takes
+    → AllByRecursion (λ t. event_of clients t.1.client ≡ t.0) (pairs_of takes)
 events_of_pairs clients [] all = tt
 events_of_pairs clients (t ∷ ts) all = (all.0, events_of_pairs clients ts all.1)
 
-kept_history : (script : Script) (plan : Plan ThreadBody) → IsPosted script → Keeps script.clients (lines_posted script) plan → IsClientHistory script.clients (lines_posted script) (pairs_of plan.takes) (lines_left plan.left)
+kept_history : (script : Script) (plan : Plan ThreadBody) → IsPosted script → Keeps script.clients (lines_posted script) plan
+    → IsClientHistory script.clients (lines_posted script) (pairs_of plan.takes) (lines_left plan.left)
 kept_history script plan posted h = record {
   events_are = All-from_recursion (λ t. event_of clients t.1.client ≡ t.0) (pairs_of plan.takes) (events_of_pairs clients plan.takes h.at_events);
   lines_are = whole;
@@ -266,7 +282,8 @@ kept_history script plan posted h = record {
     apart : (c d : ℕ) → d < length plan.left → event_of clients c ≢ d → of c (shelf_of plan.left d).left ≡ []
     apart c d there other =
         let s = shelf_of plan.left d in
-        none_right (of c s.taken) (of c s.left) (sym (of-append c s.taken s.left) ∙ ap (of c) (h.gate d (omega (arith, there, h.size))) ∙ of_another clients c d posts other)
+        none_right (of c s.taken) (of c s.left)
+        (sym (of-append c s.taken s.left) ∙ ap (of c) (h.gate d (omega (arith, there, h.size))) ∙ of_another clients c d posts other)
 
     whole : (c : ℕ) → of c (lines_of (pairs_of plan.takes)) ++ of c (lines_left plan.left) ≡ of c posts
     whole c =
@@ -275,15 +292,19 @@ kept_history script plan posted h = record {
         ∙ ap (λ ls. of c (shelf_of plan.left e).taken ++ ls) (one_left c e plan.left (apart c))
         ∙ clients_keep_history clients posts plan.left c (low c) h.gate
 
-pub whole_history : (script : Script) (turns : ℕ) → IsPosted script → IsClientHistory script.clients (lines_posted script) (pairs_of (plan_of script turns).takes) (lines_left (plan_of script turns).left)
-whole_history script turns posted = kept_history script (plan_of script turns) posted (keeps_whole script.clients (lines_posted script) (planned_of script turns))
+pub whole_history : (script : Script) (turns : ℕ) → IsPosted script
+    → IsClientHistory script.clients (lines_posted script) (pairs_of (plan_of script turns).takes) (lines_left (plan_of script turns).left)
+whole_history script turns posted =
+    kept_history script (plan_of script turns) posted (keeps_whole script.clients (lines_posted script) (planned_of script turns))
 
 -- what was taken first of what is taken in the end is a history too, in which what is taken later is left
-pub part_history : (clients : List ℕ) (posts : List Line) (takes later : List Took) (left : List Line) → IsClientHistory clients posts (pairs_of (takes ++ later)) left
+pub part_history : (clients : List ℕ) (posts : List Line) (takes later : List Took) (left : List Line)
+    → IsClientHistory clients posts (pairs_of (takes ++ later)) left
     → IsClientHistory clients posts (pairs_of takes) (lines_of (pairs_of later) ++ left)
 part_history clients posts takes later left h = record {
   events_are = All-from_recursion (λ t. event_of clients t.1.client ≡ t.0) (pairs_of takes)
-      (all_left (λ t. event_of clients t.1.client ≡ t.0) (pairs_of takes) (pairs_of later) (rw (← cut) (recursion_from_All (λ t. event_of clients t.1.client ≡ t.0) (pairs_of (takes ++ later)) h.events_are)));
+      (all_left (λ t. event_of clients t.1.client ≡ t.0) (pairs_of takes) (pairs_of later)
+      (rw (← cut) (recursion_from_All (λ t. event_of clients t.1.client ≡ t.0) (pairs_of (takes ++ later)) h.events_are)));
   lines_are = λ c.
       ap (λ ls. of c (lines_of (pairs_of takes)) ++ ls) (of-append c (lines_of (pairs_of later)) left)
       ∙ sym (append_assoc (of c (lines_of (pairs_of takes))) (of c (lines_of (pairs_of later))) (of c left))
@@ -296,4 +317,5 @@ part_history clients posts takes later left h = record {
     cut = map-append pair_of takes later
 
     parts : (c : ℕ) → of c (lines_of (pairs_of (takes ++ later))) ≡ of c (lines_of (pairs_of takes)) ++ of c (lines_of (pairs_of later))
-    parts c = ap (λ ts. of c (lines_of ts)) cut ∙ ap (of c) (map-append (λ (t : ℕ × Line). t.1) (pairs_of takes) (pairs_of later)) ∙ of-append c (lines_of (pairs_of takes)) (lines_of (pairs_of later))
+    parts c = ap (λ ts. of c (lines_of ts)) cut ∙ ap (of c) (map-append (λ (t : ℕ × Line). t.1) (pairs_of takes) (pairs_of later))
+        ∙ of-append c (lines_of (pairs_of takes)) (lines_of (pairs_of later))

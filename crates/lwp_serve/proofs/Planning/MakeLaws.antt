@@ -5,7 +5,8 @@ use Rattle.event_gate.specs.Port.{of}
 use Rattle.script_session.specs.History.{pair_of, pairs_of, taken_of}
 use Rattle.streams.specs.Counting.{Counting}
 use Rattle.script_session.proofs.SaidLaws.{says-all}
-use Rattle.lwp_serve.specs.Plan.Make.{IsMake, IsOver, IsSummedUp, MakeSays, TellsAll, TellsPart, is_over, make_turns, status_by, summary_by, summary_of, summary_at_end}
+use Rattle.lwp_serve.specs.Plan.Make.{IsMake, IsOver, IsSummedUp, MakeSays, TellsAll, TellsPart, is_over}
+use Rattle.lwp_serve.specs.Plan.Make.{make_turns, status_by, summary_by, summary_of, summary_at_end}
 use Rattle.script_session.specs.Outcome.{end_of, status_of}
 use Rattle.lwp_serve.specs.Plan.Plan.{IsPart, IsRun, IsWhole, RunSays}
 use Rattle.script_session.specs.SoFar.{IsHistory}
@@ -26,7 +27,8 @@ use Rattle.script_text.specs.Grammar.{Spells}
 use Rattle.script_text.specs.Script.{line_of, lines_posted}
 use Rattle.trace_text.specs.declared.ends.Halt.{Halt}
 use Rattle.script_text.specs.declared.script.Script.{Script}
-use Rattle.std.proofs.Common.{List, Some, [], ap, append-nil, arith, cond, eqb, false, inl, inr, length, length-append, map, refl, subst, suc, sym, true, ℕ, ⊎_elim, ◌+◌, ◌<◌, ◌∙◌, ◌∷◌, ◌≡◌, ◌≢◌, ◌≤◌, ◌⊎◌}
+use Rattle.std.proofs.Common.{List, Some, [], ap, append-nil, arith, cond, eqb, false, inl, inr, length, length-append}
+use Rattle.std.proofs.Common.{map, refl, subst, suc, sym, true, ℕ, ⊎_elim, ◌+◌, ◌<◌, ◌∙◌, ◌∷◌, ◌≡◌, ◌≢◌, ◌≤◌, ◌⊎◌}
 use Rattle.std.proofs.lemmas.List.{length-map}
 
 -- ---- no more lines are taken than are posted
@@ -124,7 +126,8 @@ ran-by script bytes session halt takes ended tells w = record {
   few = omega (arith, few_taken script takes w.left w.history, ap length tells, length-map takes taken_of);
 }
 
-run-of : (script : Script) (sink : Stream) (session : Session) (e : SessionEnd) → is_over e ≡ true → RunSays make_turns script sink session e → IsRun make_turns script sink session
+run-of : (script : Script) (sink : Stream) (session : Session) (e : SessionEnd) → is_over e ≡ true
+    → RunSays make_turns script sink session e → IsRun make_turns script sink session
 run-of script sink session (end.Ended status) o s = s
 run-of script sink session end.Stuck o s = s
 run-of script sink session end.Spent o s = s
@@ -146,14 +149,17 @@ counted before after = record { old = Some before.bytes; new = Some after.bytes;
 abbrev pub uncounted : Counting
 uncounted = record { bytes = []; faults = 0 }
 
-pub ran-of : (script : Script) (before after : Counting) (session : Session) → before ≡ uncounted → is_over session.end ≡ true → RunSays make_turns script (counted before after) session session.end → Ran script after.bytes session
+pub ran-of : (script : Script) (before after : Counting) (session : Session) → before ≡ uncounted → is_over session.end ≡ true
+    → RunSays make_turns script (counted before after) session session.end → Ran script after.bytes session
 ran-of script before after session fresh o s =
-    let w = run-of script (counted uncounted after) session session.end o (subst (λ (x : Counting). RunSays make_turns script (counted x after) session session.end) fresh s) in
+    let w = run-of script (counted uncounted after) session session.end o
+    (subst (λ (x : Counting). RunSays make_turns script (counted x after) session session.end) fresh s) in
     ran-by script after.bytes session w.1.0 w.1.1 w.1.2 w.1.3 w.1.4
 
 -- ---- a session as far as it came
 
-part-by : (script : Script) (sink : Stream) (session : Session) (takes : List Took) → Tells session takes → IsPart make_turns script sink.old sink.new takes session.turns → TellsPart script session
+part-by : (script : Script) (sink : Stream) (session : Session) (takes : List Took) → Tells session takes
+    → IsPart make_turns script sink.old sink.new takes session.turns → TellsPart script session
 part-by script sink session takes tells p =
     record { takes = takes; taken = tells; calls = p.made; later = p.later; first = p.taken; due = p.due; left = p.left; history = p.history }
 
@@ -161,7 +167,8 @@ part-by script sink session takes tells p =
 abbrev CameSo : Script → Session → Type 0
 CameSo script session = ((session.taken ≡ []) × (session.turns ≡ 0)) ⊎ TellsPart script session
 
-came-so : (script : Script) (sink : Stream) (session : Session) (e : SessionEnd) → is_over e ≡ false → RunSays make_turns script sink session e → CameSo script session
+came-so : (script : Script) (sink : Stream) (session : Session) (e : SessionEnd) → is_over e ≡ false
+    → RunSays make_turns script sink session e → CameSo script session
 came-so script sink session (end.Ended status) o s = absurd (cc o)
 came-so script sink session end.Stuck o s = absurd (cc o)
 came-so script sink session end.Spent o s = absurd (cc o)
@@ -194,7 +201,8 @@ says-stopped summary script inner sink session quiet o s = elim (came-so script 
   )
 ]
 
-pub says-late : (summary : List ℕ) (script : Script) (bytes : List ℕ) (sink : Stream) (session : Session) → IsQuiet sink → Ran script bytes session → MakeSays summary script sink (ending session end.NoMemory) end.NoMemory
+pub says-late : (summary : List ℕ) (script : Script) (bytes : List ℕ) (sink : Stream) (session : Session) → IsQuiet sink
+    → Ran script bytes session → MakeSays summary script sink (ending session end.NoMemory) end.NoMemory
 says-late summary script bytes sink session quiet r = inr (
   quiet,
   record {
@@ -212,12 +220,14 @@ says-late summary script bytes sink session quiet r = inr (
 tells-all : (script : Script) (session : Session) (e : SessionEnd) → TellsAll script session → TellsAll script (ending session e)
 tells-all script session e h = record { calls = h.calls; taken = h.taken; due = h.due; left = h.left; history = h.history }
 
-pub says-cut : (summary told : List ℕ) (script : Script) (bytes : List ℕ) (sink : Stream) (session : Session) → told ≡ summary → AppendsPart sink.old sink.new told → IsFaulty sink
+pub says-cut : (summary told : List ℕ) (script : Script) (bytes : List ℕ) (sink : Stream) (session : Session) → told ≡ summary
+    → AppendsPart sink.old sink.new told → IsFaulty sink
     → Ran script bytes session → MakeSays summary script sink (ending session end.WriteFault) end.WriteFault
 says-cut summary told script bytes sink session is cut faulty r =
     record { written = subst (λ (b : List ℕ). AppendsPart sink.old sink.new b) is cut; faulty = faulty; all = tells-all script session end.WriteFault r.all }
 
-pub says-whole : (summary told : List ℕ) (script : Script) (bytes : List ℕ) (sink : Stream) (session : Session) → told ≡ summary → sink.new ≡ after_append sink.old told → IsFaultless sink
+pub says-whole : (summary told : List ℕ) (script : Script) (bytes : List ℕ) (sink : Stream) (session : Session) → told ≡ summary
+    → sink.new ≡ after_append sink.old told → IsFaultless sink
     → is_over session.end ≡ true → Ran script bytes session → MakeSays summary script sink session session.end
 says-whole summary told script bytes sink session is written faultless o r =
     by session.end o (record { written = written ∙ ap (after_append sink.old) is; faultless = faultless; over = r.over; all = r.all })
@@ -238,13 +248,16 @@ says-whole summary told script bytes sink session is written faultless o r =
 
 -- ---- the summary
 
-pub told-is : (seed threads lines : ℕ) (script : Script) (bytes : List ℕ) (session : Session) (told : Summary) (n m : ℕ) → told ≡ summary_at_end script n session m
-    → n ≡ length (made_script seed threads lines) → m ≡ length bytes → session.status ≡ status_of session.end → Ran script bytes session → summary_text told ≡ summary_of seed threads lines script
+pub told-is : (seed threads lines : ℕ) (script : Script) (bytes : List ℕ) (session : Session) (told : Summary) (n m : ℕ)
+    → told ≡ summary_at_end script n session m
+    → n ≡ length (made_script seed threads lines) → m ≡ length bytes → session.status ≡ status_of session.end → Ran script bytes session
+    → summary_text told ≡ summary_of seed threads lines script
 told-is seed threads lines script bytes session told n m is text trace status r =
     let taken : length session.taken ≡ length (takes_of script make_turns) = ap length r.all.taken ∙ length-map (takes_of script make_turns) taken_of in
     let posted : length (lines_posted script) ≡ length script.posts = length-map script.posts (line_of script.texts) in
     let ended : session.status ≡ status_by (halt_of script make_turns) = status ∙ ap status_of r.over.ended ∙ sym (ap status_by r.over.halted) in
-    let same : summary_at_end script n session m ≡ summary_by (made_script seed threads lines) script = rw (text, trace, r.all.calls, taken, ← posted, ended, r.trace) refl in
+    let same : summary_at_end script n session m
+    ≡ summary_by (made_script seed threads lines) script = rw (text, trace, r.all.calls, taken, ← posted, ended, r.trace) refl in
     ap summary_text (is ∙ same)
 
 -- ---- the script that is made
@@ -252,8 +265,10 @@ told-is seed threads lines script bytes session told n m is text trace status r 
 pub spelt-by : (text made : List ℕ) → text ≡ made → (script : Script) × Spells made script → (script : Script) × Spells text script
 spelt-by text made is h = subst (λ (b : List ℕ). (script : Script) × Spells b script) (sym is) h
 
-pub make-of : (seed threads lines : ℕ) (text : List ℕ) (script : Script) (sink : Stream) (session : Session) → text ≡ made_script seed threads lines → Spells text script
-    → session.status ≡ status_of session.end → MakeSays (summary_of seed threads lines script) script sink session session.end → IsMake seed threads lines sink session
+pub make-of : (seed threads lines : ℕ) (text : List ℕ) (script : Script) (sink : Stream) (session : Session)
+    → text ≡ made_script seed threads lines → Spells text script
+    → session.status ≡ status_of session.end → MakeSays (summary_of seed threads lines script) script sink session session.end
+    → IsMake seed threads lines sink session
 make-of seed threads lines text script sink session is spells status says = record {
   status = status;
   says = says-all (Some (made_script seed threads lines)) script (λ (x : Script). MakeSays (summary_of seed threads lines x) x sink session session.end)

@@ -35,7 +35,8 @@ use Rattle.trace_text.specs.declared.ends.Halt.{Halt}
 use Rattle.trace_text.specs.declared.ends.Halt.TheVariants as halts
 use Rattle.script_text.specs.declared.script.Script.{Script}
 use Rattle.std.specs.Prelude.{if◌then◌else◌, nat_le}
-use Rattle.std.proofs.Common.{Bool, false, inl, subst, true, List, None, Option, Some, [], ap, append_assoc, arith, length, length-append, refl, suc, sym, take, inr, zero, ℕ, ◌++◌, ◌+◌, ◌∙◌, ◌∷◌, ◌≡◌}
+use Rattle.std.proofs.Common.{Bool, false, inl, subst, true, List, None, Option, Some, [], ap, append_assoc, arith, length}
+use Rattle.std.proofs.Common.{length-append, refl, suc, sym, take, inr, zero, ℕ, ◌++◌, ◌+◌, ◌∙◌, ◌∷◌, ◌≡◌}
 use Rattle.std.proofs.Math.Seq.{take-append-add, take-length}
 use Rattle.std.proofs.lemmas.List.Concat.{flat_map-append}
 
@@ -52,7 +53,8 @@ prefix-more old new a rest whole h p = let found = first-of p.0 a rest in
 pub prefix-all : (old new : Option (List ℕ)) (a : List ℕ) → new ≡ after_append old a → AppendsPrefix old new a
 prefix-all old new a h = (length a, h ∙ ap (after_append old) (sym (take-length a)))
 
-prefix-then : (old mid new : Option (List ℕ)) (a b whole : List ℕ) → whole ≡ a ++ b → mid ≡ after_append old a → AppendsPrefix mid new b → AppendsPrefix old new whole
+prefix-then : (old mid new : Option (List ℕ)) (a b whole : List ℕ) → whole ≡ a ++ b → mid ≡ after_append old a → AppendsPrefix mid new b
+    → AppendsPrefix old new whole
 prefix-then old mid new a b whole h g p = (
   length a + p.0,
   p.1 ∙ ap (λ w. after_append w (take p.0 b)) g ∙ appended-append old a (take p.0 b)
@@ -60,7 +62,8 @@ prefix-then old mid new a b whole h g p = (
 )
 
 -- the session planned for it is the script's
-pub whole-is : (script : Script) (turns : ℕ) (o : Played Script) (s : Shelves) → o ≡ opening_run script turns → s ≡ stock_of script → plan_whole (run.planned_of body_next bodies_of o) s ≡ plan_of script turns
+pub whole-is : (script : Script) (turns : ℕ) (o : Played Script) (s : Shelves) → o ≡ opening_run script turns → s ≡ stock_of script
+    → plan_whole (run.planned_of body_next bodies_of o) s ≡ plan_of script turns
 whole-is script turns o s h t = ap (λ x. plan_whole (run.planned_of body_next bodies_of x) s) h ∙ ap (plan_whole (planned_of script turns)) t
 
 -- a run of this script over its lines, of which these are left, as far as it came
@@ -74,7 +77,8 @@ pub came : (script : Script) (turns : ℕ) (o r : Played Script) (s stock : Shel
     → IsDefined (run.setting_of body_next bodies_of r) r.takes r.calls → Came script turns r stock
 came script turns o r s stock h t g begun due = record {
   plays_it = plays script turns o r h g;
-  first = subst (λ (w : Plan ThreadBody). IsFirstPart (run.plan_now body_next bodies_of r stock) w) (whole-is script turns o s h t) (begun (is-new script turns o h));
+  first = subst (λ (w : Plan ThreadBody). IsFirstPart (run.plan_now body_next bodies_of r stock) w) (whole-is script turns o s h t)
+      (begun (is-new script turns o h));
   due = due;
 }
 
@@ -82,7 +86,8 @@ due-of : (script : Script) (turns : ℕ) (r : Played Script) (stock : Shelves) �
 due-of script turns r stock h = subst (λ (s : Setting ThreadBody). IsDefined s r.takes r.calls) (setting-is script turns r h.plays_it) h.due
 
 -- its lines are the first of the script's trace
-rest-of : (script : Script) (turns : ℕ) (r : Played Script) (stock : Shelves) → Came script turns r stock → (rest : List ℕ) × (trace_of script turns ≡ run.trace_of body_next bodies_of proc_names r ++ rest)
+rest-of : (script : Script) (turns : ℕ) (r : Played Script) (stock : Shelves) → Came script turns r stock
+    → (rest : List ℕ) × (trace_of script turns ≡ run.trace_of body_next bodies_of proc_names r ++ rest)
 unfolding trace_of
 rest-of script turns r stock h =
     let procs = proc_names script in
@@ -106,17 +111,21 @@ part-by script turns r stock old new h posted p = record {
   due = due-of script turns r stock h;
   left = lines_of (pairs_of h.first.later) ++ lines_left (plan_of script turns).left;
   history = part_history script.clients (lines_posted script) r.takes h.first.later (lines_left (plan_of script turns).left)
-      (subst (λ (takes : List Took). IsClientHistory script.clients (lines_posted script) (pairs_of takes) (lines_left (plan_of script turns).left)) h.first.takes (whole_history script turns posted));
+      (subst
+      (λ (takes : List Took). IsClientHistory script.clients (lines_posted script) (pairs_of takes) (lines_left (plan_of script turns).left))
+      h.first.takes (whole_history script turns posted));
 }
 
 pub part-of : (script : Script) (turns : ℕ) (r : Played Script) (stock : Shelves) (old new : Option (List ℕ)) → Came script turns r stock → IsPosted script
     → AppendsPrefix old new (run.trace_of body_next bodies_of proc_names r) → IsPart turns script old new r.takes r.calls
 part-of script turns r stock old new h posted p = let found = rest-of script turns r stock h in
-    part-by script turns r stock old new h posted (prefix-more old new (run.trace_of body_next bodies_of proc_names r) found.0 (trace_of script turns) found.1 p)
+    part-by script turns r stock old new h posted
+    (prefix-more old new (run.trace_of body_next bodies_of proc_names r) found.0 (trace_of script turns) found.1 p)
 
 pub part-all : (script : Script) (turns : ℕ) (r : Played Script) (stock : Shelves) (old new : Option (List ℕ)) → Came script turns r stock → IsPosted script
     → new ≡ after_append old (run.trace_of body_next bodies_of proc_names r) → IsPart turns script old new r.takes r.calls
-part-all script turns r stock old new h posted p = part-of script turns r stock old new h posted (prefix-all old new (run.trace_of body_next bodies_of proc_names r) p)
+part-all script turns r stock old new h posted p =
+    part-of script turns r stock old new h posted (prefix-all old new (run.trace_of body_next bodies_of proc_names r) p)
 
 -- the run was out of memory
 pub stopped-of : (script : Script) (turns : ℕ) (r : Played Script) (stock : Shelves) (old new : Option (List ℕ)) → Came script turns r stock
@@ -125,8 +134,10 @@ stopped-of script turns r stock old new h p = p ∙ ap (after_append old) (lines
 
 -- a write of lines failed
 pub broken-of : (script : Script) (turns : ℕ) (r : Played Script) (stock : Shelves) (old new : Option (List ℕ)) → Came script turns r stock
-    → AppendsCut old new (run.trace_before body_next bodies_of proc_names r) (run.trace_of body_next bodies_of proc_names r) → IsBroken turns script old new r.takes r.calls
-broken-of script turns r stock old new h p = inl (subst (λ (bytes : List ℕ). AppendsCut old new (lines_before script r.takes r.calls) bytes) (lines-is script turns r h.plays_it)
+    → AppendsCut old new (run.trace_before body_next bodies_of proc_names r) (run.trace_of body_next bodies_of proc_names r)
+    → IsBroken turns script old new r.takes r.calls
+broken-of script turns r stock old new h p =
+    inl (subst (λ (bytes : List ℕ). AppendsCut old new (lines_before script r.takes r.calls) bytes) (lines-is script turns r h.plays_it)
     (subst (λ (least : List ℕ). AppendsCut old new least (run.trace_of body_next bodies_of proc_names r)) (before-is script turns r h.plays_it) p))
 
 not-spent : (b : Bool) → (if b then Some halts.Spent else None) ≡ Some halts.Stuck → ⊥
@@ -149,29 +160,38 @@ pub record Finished (script : Script) (turns : ℕ) (r : Played Script) (stock :
   pub whole : plan_of script turns ≡ run.plan_now body_next bodies_of r stock
   pub ends : EndsAt body_next bodies_of r stock halt
 
-pub finished : (script : Script) (turns : ℕ) (o r : Played Script) (s stock : Shelves) (halt : Halt) → Came script turns r stock → o ≡ opening_run script turns → s ≡ stock_of script
-    → (IsNew o → run.plan_now body_next bodies_of r stock ≡ plan_whole (run.planned_of body_next bodies_of o) s) → EndsAt body_next bodies_of r stock halt → Finished script turns r stock halt
+pub finished : (script : Script) (turns : ℕ) (o r : Played Script) (s stock : Shelves) (halt : Halt) → Came script turns r stock
+    → o ≡ opening_run script turns → s ≡ stock_of script
+    → (IsNew o → run.plan_now body_next bodies_of r stock ≡ plan_whole (run.planned_of body_next bodies_of o) s)
+    → EndsAt body_next bodies_of r stock halt → Finished script turns r stock halt
 finished script turns o r s stock halt h opening stocked eager ends =
     record { came_so = h; whole = sym (eager (is-new script turns o opening) ∙ whole-is script turns o s opening stocked); ends = ends }
 
-over-is : (script : Script) (turns : ℕ) (r : Played Script) (stock : Shelves) (halt : Halt) → Finished script turns r stock halt → plan_over (planned_of script turns) (run.plan_now body_next bodies_of r stock) ≡ Some halt
-over-is script turns r stock halt h = ap (λ t. over t (run.session_of body_next bodies_of r).live.pod r.calls stock) (sym h.came_so.plays_it.turns_same) ∙ h.ends
+over-is : (script : Script) (turns : ℕ) (r : Played Script) (stock : Shelves) (halt : Halt) → Finished script turns r stock halt
+    → plan_over (planned_of script turns) (run.plan_now body_next bodies_of r stock) ≡ Some halt
+over-is script turns r stock halt h = ap (λ t. over t (run.session_of body_next bodies_of r).live.pod r.calls stock) (sym h.came_so.plays_it.turns_same)
+    ∙ h.ends
 
 end-trace : (script : Script) (turns : ℕ) (r : Played Script) (stock : Shelves) (halt : Halt) → Finished script turns r stock halt
     → trace_of script turns ≡ run.trace_of body_next bodies_of proc_names r ++ end_text turns (left_counts_from 0 script.clients stock) halt
 unfolding trace_of
 end-trace script turns r stock halt h =
     ap (trace (proc_names script) script.clients (planned_of script turns)) h.whole
-    ∙ ap (λ o. lines (proc_names script) (run.session_of body_next bodies_of r).steps ++ tail_by turns script.clients stock o) (over-is script turns r stock halt h)
-    ∙ ap (λ p. lines (proc_names p) (run.session_of body_next bodies_of r).steps ++ end_text turns (left_counts_from 0 script.clients stock) halt) (sym h.came_so.plays_it.program)
+    ∙ ap (λ o. lines (proc_names script) (run.session_of body_next bodies_of r).steps ++ tail_by turns script.clients stock o)
+    (over-is script turns r stock halt h)
+    ∙ ap (λ p. lines (proc_names p) (run.session_of body_next bodies_of r).steps ++ end_text turns (left_counts_from 0 script.clients stock) halt) (sym
+    h.came_so.plays_it.program)
 
-pub whole-of : (script : Script) (turns : ℕ) (r : Played Script) (stock : Shelves) (halt : Halt) (old mid new : Option (List ℕ)) (last : List ℕ) → Finished script turns r stock halt → IsPosted script
-    → mid ≡ after_append old (run.trace_of body_next bodies_of proc_names r) → last ≡ end_text turns (left_counts_from 0 script.clients stock) halt → new ≡ after_append mid last
+pub whole-of : (script : Script) (turns : ℕ) (r : Played Script) (stock : Shelves) (halt : Halt) (old mid new : Option (List ℕ)) (last : List ℕ)
+    → Finished script turns r stock halt → IsPosted script
+    → mid ≡ after_append old (run.trace_of body_next bodies_of proc_names r)
+    → last ≡ end_text turns (left_counts_from 0 script.clients stock) halt → new ≡ after_append mid last
     → IsWhole turns script old new r.takes r.calls halt
 unfolding halt_of calls_of takes_of
 whole-of script turns r stock halt old mid new last h posted g e n =
     let all = run.trace_of body_next bodies_of proc_names r in
-    let halted : plan_over (planned_of script turns) (plan_of script turns) ≡ Some halt = ap (plan_over (planned_of script turns)) h.whole ∙ over-is script turns r stock halt h in
+    let halted : plan_over (planned_of script turns) (plan_of script turns)
+    ≡ Some halt = ap (plan_over (planned_of script turns)) h.whole ∙ over-is script turns r stock halt h in
     record {
       trace = n ∙ ap (λ w. after_append w last) g ∙ appended-append old all last
           ∙ ap (after_append old) (ap (λ xs. all ++ xs) e ∙ sym (end-trace script turns r stock halt h));
@@ -180,7 +200,8 @@ whole-of script turns r stock halt old mid new last h posted g e n =
       taken = sym (ap (λ (p : Plan ThreadBody). p.takes) h.whole);
       due = due-of script turns r stock h.came_so;
       left = lines_left stock;
-      history = subst (λ (p : Plan ThreadBody). IsClientHistory script.clients (lines_posted script) (pairs_of p.takes) (lines_left p.left)) h.whole (whole_history script turns posted);
+      history = subst (λ (p : Plan ThreadBody). IsClientHistory script.clients (lines_posted script) (pairs_of p.takes) (lines_left p.left))
+          h.whole (whole_history script turns posted);
       printed = end-trace script turns r stock halt h
           ∙ ap (λ ls. ls ++ end_text turns (left_counts_from 0 script.clients stock) halt) (lines-is script turns r h.came_so.plays_it)
           ∙ ap (λ ns. lines_after script r.takes r.calls ++ end_text turns ns halt) (counts_left 0 script.clients stock);
@@ -188,15 +209,19 @@ whole-of script turns r stock halt old mid new last h posted g e n =
     }
 
 -- the last write failed
-pub part-last : (script : Script) (turns : ℕ) (r : Played Script) (stock : Shelves) (halt : Halt) (old mid new : Option (List ℕ)) (last : List ℕ) → Finished script turns r stock halt → IsPosted script
-    → mid ≡ after_append old (run.trace_of body_next bodies_of proc_names r) → last ≡ end_text turns (left_counts_from 0 script.clients stock) halt → AppendsPart mid new last
+pub part-last : (script : Script) (turns : ℕ) (r : Played Script) (stock : Shelves) (halt : Halt) (old mid new : Option (List ℕ)) (last : List ℕ)
+    → Finished script turns r stock halt → IsPosted script
+    → mid ≡ after_append old (run.trace_of body_next bodies_of proc_names r)
+    → last ≡ end_text turns (left_counts_from 0 script.clients stock) halt → AppendsPart mid new last
     → IsPart turns script old new r.takes r.calls
 part-last script turns r stock halt old mid new last h posted g e p = let all = run.trace_of body_next bodies_of proc_names r in
     part-by script turns r stock old new h.came_so posted
     (prefix-then old mid new all last (trace_of script turns) (end-trace script turns r stock halt h ∙ ap (λ xs. all ++ xs) (sym e)) g (p.kept, p.told))
 
-pub broken-last : (script : Script) (turns : ℕ) (r : Played Script) (stock : Shelves) (halt : Halt) (old mid new : Option (List ℕ)) (last : List ℕ) → Finished script turns r stock halt
-    → mid ≡ after_append old (run.trace_of body_next bodies_of proc_names r) → last ≡ end_text turns (left_counts_from 0 script.clients stock) halt → AppendsPart mid new last
+pub broken-last : (script : Script) (turns : ℕ) (r : Played Script) (stock : Shelves) (halt : Halt) (old mid new : Option (List ℕ)) (last : List ℕ)
+    → Finished script turns r stock halt
+    → mid ≡ after_append old (run.trace_of body_next bodies_of proc_names r)
+    → last ≡ end_text turns (left_counts_from 0 script.clients stock) halt → AppendsPart mid new last
     → IsBroken turns script old new r.takes r.calls
 unfolding calls_of takes_of
 broken-last script turns r stock halt old mid new last h g e p =

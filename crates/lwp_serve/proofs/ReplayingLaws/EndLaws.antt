@@ -21,9 +21,11 @@ use Rattle.streams.specs.Writing.{AppendsPart}
 -- a session that ends so
 replay-of : (turns : ℕ) (source sink : Stream) (e : SessionEnd) (takes : List Took) (calls : ℕ) (session : Session) → session ≡ outcome_of e takes calls
     → ReplaySays turns source sink (outcome_of e takes calls) e → IsReplay turns source sink session
-replay-of turns source sink e takes calls session is says = subst (λ (x : Session). IsReplay turns source sink x) (sym is) (record { status = refl; says = says })
+replay-of turns source sink e takes calls session is says =
+    subst (λ (x : Session). IsReplay turns source sink x) (sym is) (record { status = refl; says = says })
 
-found-of : (turns : ℕ) (source : Stream) (text : List ℕ) (part : Part) (ends e : SessionEnd) (said : List ℕ) (takes : List Took) (calls : ℕ) → IsFaultless source → IsReadUp 268435457 source.old source.new
+found-of : (turns : ℕ) (source : Stream) (text : List ℕ) (part : Part) (ends e : SessionEnd) (said : List ℕ) (takes : List Took) (calls : ℕ)
+    → IsFaultless source → IsReadUp 268435457 source.old source.new
     → IsInput source.old text part → IsToldOf turns text part e said takes calls → IsFound turns source (outcome_of ends takes calls) e said
 found-of turns source text part ends e said takes calls same up input h = record {
   faultless = same;
@@ -39,20 +41,31 @@ found-of turns source text part ends e said takes calls same up input h = record
   told = h.told.told;
 }
 
-written-by : (turns : ℕ) (source sink : Stream) (session : Session) (v : Verdict) → IsWritten turns source sink session (end_of v) → ReplaySays turns source sink session (end_of v)
+written-by : (turns : ℕ) (source sink : Stream) (session : Session) (v : Verdict) → IsWritten turns source sink session (end_of v)
+    → ReplaySays turns source sink session (end_of v)
 written-by turns source sink session (verdict.Same lines) h = h
 written-by turns source sink session (verdict.Differs line want got ended) h = h
 
 -- all of it was written
-pub says-whole : (turns : ℕ) (source sink : Stream) (text : List ℕ) (part : Part) (e : SessionEnd) (said : List ℕ) (takes : List Took) (calls : ℕ) (session : Session) → session ≡ outcome_of e takes calls
-    → IsFaultless source → IsReadUp 268435457 source.old source.new → IsInput source.old text part → IsToldOf turns text part e said takes calls → IsFaultless sink → sink.new ≡ after_append sink.old said → IsReplay turns source sink session
+pub says-whole : (turns : ℕ) (source sink : Stream) (text : List ℕ) (part : Part) (e : SessionEnd) (said : List ℕ) (takes : List Took)
+    (calls : ℕ) (session : Session)
+    → session ≡ outcome_of e takes calls
+    → IsFaultless source → IsReadUp 268435457 source.old source.new → IsInput source.old text part
+    → IsToldOf turns text part e said takes calls → IsFaultless sink → sink.new ≡ after_append sink.old said → IsReplay turns source sink session
 says-whole turns source sink text part e said takes calls session is same up input h faultless written =
-    let all : IsWritten turns source sink (outcome_of e takes calls) e = (faultless, (said, found-of turns source text part e e said takes calls same up input h, written)) in
-    let so = written-by turns source sink (outcome_of e takes calls) h.told.verdict (subst (λ (x : SessionEnd). IsWritten turns source sink (outcome_of e takes calls) x) h.told.ended all) in
-    replay-of turns source sink e takes calls session is (subst (λ (x : SessionEnd). ReplaySays turns source sink (outcome_of e takes calls) x) (sym h.told.ended) so)
+    let all : IsWritten turns source sink (outcome_of e takes calls) e =
+    (faultless, (said, found-of turns source text part e e said takes calls same up input h, written)) in
+    let so = written-by turns source sink (outcome_of e takes calls) h.told.verdict
+    (subst (λ (x : SessionEnd). IsWritten turns source sink (outcome_of e takes calls) x) h.told.ended all) in
+    replay-of turns source sink e takes calls session is
+    (subst (λ (x : SessionEnd). ReplaySays turns source sink (outcome_of e takes calls) x) (sym h.told.ended) so)
 
 -- some of it was not
-pub says-cut : (turns : ℕ) (source sink : Stream) (text : List ℕ) (part : Part) (e : SessionEnd) (said : List ℕ) (takes : List Took) (calls : ℕ) (session : Session) → session ≡ outcome_of end.WriteFault takes calls
-    → IsFaultless source → IsReadUp 268435457 source.old source.new → IsInput source.old text part → IsToldOf turns text part e said takes calls → IsFaulty sink → AppendsPart sink.old sink.new said → IsReplay turns source sink session
+pub says-cut : (turns : ℕ) (source sink : Stream) (text : List ℕ) (part : Part) (e : SessionEnd) (said : List ℕ) (takes : List Took)
+    (calls : ℕ) (session : Session)
+    → session ≡ outcome_of end.WriteFault takes calls
+    → IsFaultless source → IsReadUp 268435457 source.old source.new → IsInput source.old text part
+    → IsToldOf turns text part e said takes calls → IsFaulty sink → AppendsPart sink.old sink.new said → IsReplay turns source sink session
 says-cut turns source sink text part e said takes calls session is same up input h faulty cut =
-    replay-of turns source sink end.WriteFault takes calls session is (faulty, (e, said, found-of turns source text part end.WriteFault e said takes calls same up input h, cut))
+    replay-of turns source sink end.WriteFault takes calls session is
+    (faulty, (e, said, found-of turns source text part end.WriteFault e said takes calls same up input h, cut))

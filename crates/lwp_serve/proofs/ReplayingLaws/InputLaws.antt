@@ -28,12 +28,15 @@ none-of (Some told) text front bad = sym (same-script told) ∙ ap script_in (sy
 pub input-of : (left : Option (List ℕ)) (text : List ℕ) (part : Part) → HasFront 268435457 left text → script_in text ≡ Some part → IsInput left text part
 input-of None text part front good = good
 input-of (Some told) text part front good = elim (cases_lt 268435456 (length told)) [
-  | inl long ↦ (let bad : script_in text ≡ None = ap script_in front ∙ same-script told ∙ script-long told long in let no : ◌≡◌ {A = Option Part} (Some part) None = sym good ∙ bad in absurd (cc no))
+  | inl long
+      ↦ (let bad : script_in text ≡ None = ap script_in front ∙ same-script told ∙ script-long told long in
+      let no : ◌≡◌ {A = Option Part} (Some part) None = sym good ∙ bad in absurd (cc no))
   | inr short ↦ (sym (front ∙ take_all 268435457 told (omega (arith, short))), good)
 ]
 
 -- the script and the recorded bytes of what was read are those of all that there was
-pub holds-of : (left : Option (List ℕ)) (text : List ℕ) (part : Part) (script : Script) → IsInput left text part → verdict (content text part) ≡ Ok script → Holds left script (recorded_in text part)
+pub holds-of : (left : Option (List ℕ)) (text : List ℕ) (part : Part) (script : Script) → IsInput left text part
+    → verdict (content text part) ≡ Ok script → Holds left script (recorded_in text part)
 holds-of None text part script input spelt = tt
 holds-of (Some told) text part script input spelt =
     (part, ap script_in input.0 ∙ input.1, ap (λ bytes. verdict (content bytes part)) input.0 ∙ spelt, ap (λ bytes. recorded_in bytes part) (sym input.0))

@@ -11,7 +11,12 @@ use Rattle.std.proofs.lemmas.List.{length-replicate}
 
 pub some-bodies : (script : Script) → IsWithinLimits script → 1 ≤ length (bodies_of script)
 some-bodies script within =
-    omega (arith, within.some_procs, length-append (proc_bodies script 0 script.procs) (map (λ n. native_body n.kind) script.natives), length-proc_bodies script 0 script.procs)
+    omega (
+      arith,
+      within.some_procs,
+      length-append (proc_bodies script 0 script.procs) (map (λ n. native_body n.kind) script.natives),
+      length-proc_bodies script 0 script.procs,
+    )
 
 like-null : (threads mons conds : ℕ) → names_like (null_names threads mons conds) ≡ null_names threads mons conds
 like-null threads mons conds =

@@ -1,6 +1,7 @@
 -- Marks as bits.
 use Rattle.pod_sched.specs.Buckets.Marks.{Marks}
-use Rattle.std.proofs.Common.{List, arith, get_or, get_or-set_other, get_or-set_same, inl, inr, length, refl, set, suc, ℕ, ◌-◌, ◌/◌, ◌%◌, ◌<◌, ◌^◌, ◌≡◌, ◌≢◌, ◌≤◌}
+use Rattle.std.proofs.Common.{List, arith, get_or, get_or-set_other, get_or-set_same, inl, inr, length}
+use Rattle.std.proofs.Common.{refl, set, suc, ℕ, ◌-◌, ◌/◌, ◌%◌, ◌<◌, ◌^◌, ◌≡◌, ◌≢◌, ◌≤◌}
 use Rattle.std.proofs.Math.Nat.{div-eq_of_lt-le, pow-suc}
 use Rattle.std.proofs.lemmas.Bool.{cases_eq}
 use Rattle.std.proofs.lemmas.Nat.{leading_top}
@@ -9,7 +10,8 @@ use Rattle.std.specs.Int.{bit_at}
 use lib.Count.{count_leading_zeros}
 
 -- one word of four is written
-pub Marks-written : (words : List ℕ) (n word mark : ℕ) → n < 256 → length words ≡ 4 → bit_at word (n % 64) ≡ mark → ((i : ℕ) → i < 64 → i ≢ n % 64 → bit_at word i ≡ bit_at (get_or words (n / 64) 0) i) → Marks words (set words (n / 64) word) n mark
+pub Marks-written : (words : List ℕ) (n word mark : ℕ) → n < 256 → length words ≡ 4 → bit_at word (n % 64) ≡ mark
+    → ((i : ℕ) → i < 64 → i ≢ n % 64 → bit_at word i ≡ bit_at (get_or words (n / 64) 0) i) → Marks words (set words (n / 64) word) n mark
 Marks-written words n word mark below long here others = record {
   here = rw (get_or-set_same words (n / 64) word 0 (omega arith)) here;
   others = λ m m_below differs. elim (cases_eq (m / 64) (n / 64)) [

@@ -4,9 +4,12 @@ use Rattle.pod_sched.specs.Buckets.Marks.{Marks, mark_at}
 use Rattle.pod_sched.specs.Buckets.Order.{Order, after_put_last, after_reassign, is_of_prio, prio_in}
 use Rattle.lists.proofs.ChainPushes.{items_pushed_other, items_pushed_same, length-pushed}
 use Rattle.lists.specs.ChainLists.{Lists, after_move_before, after_move_to_back, after_remove, before, items, with_limit, without}
-use Rattle.std.proofs.Common.{Bool, List, None, Option, Some, [], ap, append-nil, arith, cond, eqb, false, get_or, get_or-set_other, get_or-set_same, inl, inr, is_some, length, length-set, map, not, refl, replicate, set, set-set, slice_get, sym, true, ℕ, ◌++◌, ◌%◌, ◌*◌, ◌+◌, ◌-◌, ◌/◌, ◌<◌, ◌∙◌, ◌∷◌, ◌≡◌, ◌≢◌, ◌≤◌}
+use Rattle.std.proofs.Common.{Bool, List, None, Option, Some, [], ap, append-nil, arith, cond, eqb, false, get_or, get_or-set_other}
+use Rattle.std.proofs.Common.{get_or-set_same, inl, inr, is_some, length, length-set, map, not, refl, replicate, set, set-set}
+use Rattle.std.proofs.Common.{slice_get, sym, true, ℕ, ◌++◌, ◌%◌, ◌*◌, ◌+◌, ◌-◌, ◌/◌, ◌<◌, ◌∙◌, ◌∷◌, ◌≡◌, ◌≢◌, ◌≤◌}
 use Rattle.std.proofs.lemmas.Bool.{cases_eq, cases_lt, eq-eqb, eqb-false, eqb-true, ne_eqb}
-use Rattle.std.proofs.lemmas.List.{get_or-append_right, get_or-map, get_or-replicate, get_or_append_left, get_or_past, length-append, length-map, length-replicate, set-get_or}
+use Rattle.std.proofs.lemmas.List.{get_or-append_right, get_or-map, get_or-replicate, get_or_append_left, get_or_past}
+use Rattle.std.proofs.lemmas.List.{length-append, length-map, length-replicate, set-get_or}
 use Rattle.std.specs.Int.{bit_at}
 use Rattle.std.specs.List.{AllByRecursion, filter, find}
 
@@ -22,7 +25,8 @@ module _ (q : ℕ → Bool) where
   filter_without k [] = refl
   filter_without k (x ∷ xs) = by_tests (eqb x k) refl (q x) refl (filter_without k xs)
     where
-      by_tests : (s : Bool) → eqb x k ≡ s → (t : Bool) → q x ≡ t → filter q (without k xs) ≡ without k (filter q xs) → filter q (cond (not s) (x ∷ without k xs) (without k xs)) ≡ without k (cond t (x ∷ filter q xs) (filter q xs))
+      by_tests : (s : Bool) → eqb x k ≡ s → (t : Bool) → q x ≡ t → filter q (without k xs) ≡ without k (filter q xs)
+          → filter q (cond (not s) (x ∷ without k xs) (without k xs)) ≡ without k (cond t (x ∷ filter q xs) (filter q xs))
       by_tests true e true f rest = rw e rest
       by_tests true e false f rest = rest
       by_tests false e true f rest = rw (e, f) (ap (λ ys. x ∷ ys) rest)
@@ -32,7 +36,8 @@ module _ (q : ℕ → Bool) where
   without_other k [] out = refl
   without_other k (x ∷ xs) out = by_test (q x) refl (without_other k xs out)
     where
-      by_test : (t : Bool) → q x ≡ t → without k (filter q xs) ≡ filter q xs → without k (cond t (x ∷ filter q xs) (filter q xs)) ≡ cond t (x ∷ filter q xs) (filter q xs)
+      by_test : (t : Bool) → q x ≡ t → without k (filter q xs) ≡ filter q xs
+          → without k (cond t (x ∷ filter q xs) (filter q xs)) ≡ cond t (x ∷ filter q xs) (filter q xs)
       by_test true f rest =
           let differs : eqb x k ≡ false = ne_eqb x k (λ same. let both : true ≡ false = sym f ∙ ap q same ∙ out in absurd (cc)) in
           rw differs (ap (λ ys. x ∷ ys) rest)
@@ -42,7 +47,8 @@ module _ (q : ℕ → Bool) where
   before_other k o [] out = refl
   before_other k o (x ∷ xs) out = by_test (q x) refl (before_other k o xs out)
     where
-      by_test : (t : Bool) → q x ≡ t → before k o (filter q xs) ≡ filter q xs → before k o (cond t (x ∷ filter q xs) (filter q xs)) ≡ cond t (x ∷ filter q xs) (filter q xs)
+      by_test : (t : Bool) → q x ≡ t → before k o (filter q xs) ≡ filter q xs
+          → before k o (cond t (x ∷ filter q xs) (filter q xs)) ≡ cond t (x ∷ filter q xs) (filter q xs)
       by_test true f rest =
           let differs : eqb x o ≡ false = ne_eqb x o (λ same. let both : true ≡ false = sym f ∙ ap q same ∙ out in absurd (cc)) in
           rw differs (ap (λ ys. x ∷ ys) rest)
@@ -52,7 +58,8 @@ module _ (q : ℕ → Bool) where
   filter_before k o [] alike = refl
   filter_before k o (x ∷ xs) alike = by_tests (eqb x o) refl (q x) refl (filter_before k o xs alike)
     where
-      by_tests : (s : Bool) → eqb x o ≡ s → (t : Bool) → q x ≡ t → filter q (before k o xs) ≡ before k o (filter q xs) → filter q (cond s (k ∷ x ∷ before k o xs) (x ∷ before k o xs)) ≡ before k o (cond t (x ∷ filter q xs) (filter q xs))
+      by_tests : (s : Bool) → eqb x o ≡ s → (t : Bool) → q x ≡ t → filter q (before k o xs) ≡ before k o (filter q xs)
+          → filter q (cond s (k ∷ x ∷ before k o xs) (x ∷ before k o xs)) ≡ before k o (cond t (x ∷ filter q xs) (filter q xs))
       by_tests true e true f rest =
           let of_k : q k ≡ true = alike ∙ ap q (sym (eqb-true x o e)) ∙ f in
           rw (of_k, f, e) (ap (λ ys. k ∷ x ∷ ys) rest)
@@ -66,7 +73,8 @@ module _ (q : ℕ → Bool) where
   filter_push [] k = refl
   filter_push (x ∷ xs) k = by_test (q x) (filter_push xs k)
     where
-      by_test : (t : Bool) → filter q (xs ++ k ∷ []) ≡ filter q xs ++ cond (q k) (k ∷ []) [] → cond t (x ∷ filter q (xs ++ k ∷ [])) (filter q (xs ++ k ∷ [])) ≡ cond t (x ∷ filter q xs) (filter q xs) ++ cond (q k) (k ∷ []) []
+      by_test : (t : Bool) → filter q (xs ++ k ∷ []) ≡ filter q xs ++ cond (q k) (k ∷ []) []
+          → cond t (x ∷ filter q (xs ++ k ∷ [])) (filter q (xs ++ k ∷ [])) ≡ cond t (x ∷ filter q xs) (filter q xs) ++ cond (q k) (k ∷ []) []
       by_test true rest = ap (λ ys. x ∷ ys) rest
       by_test false rest = rest
 
@@ -90,7 +98,8 @@ pub without_twice : (k : ℕ) (xs : List ℕ) → without k (without k xs) ≡ w
 without_twice k [] = refl
 without_twice k (x ∷ xs) = by_test (eqb x k) refl (without_twice k xs)
   where
-    by_test : (t : Bool) → eqb x k ≡ t → without k (without k xs) ≡ without k xs → without k (cond (not t) (x ∷ without k xs) (without k xs)) ≡ cond (not t) (x ∷ without k xs) (without k xs)
+    by_test : (t : Bool) → eqb x k ≡ t → without k (without k xs) ≡ without k xs
+        → without k (cond (not t) (x ∷ without k xs) (without k xs)) ≡ cond (not t) (x ∷ without k xs) (without k xs)
     by_test true e rest = rest
     by_test false e rest = rw e (ap (λ ys. x ∷ ys) rest)
 
@@ -105,7 +114,8 @@ module _ (P : ℕ → Type 0) where
   All-without k [] all = tt
   All-without k (x ∷ xs) all = by_test (eqb x k) refl (All-without k xs all.1)
     where
-      by_test : (t : Bool) → eqb x k ≡ t → AllByRecursion (λ x. P x × (x ≢ k)) (without k xs) → AllByRecursion (λ x. P x × (x ≢ k)) (cond (not t) (x ∷ without k xs) (without k xs))
+      by_test : (t : Bool) → eqb x k ≡ t → AllByRecursion (λ x. P x × (x ≢ k)) (without k xs)
+          → AllByRecursion (λ x. P x × (x ≢ k)) (cond (not t) (x ∷ without k xs) (without k xs))
       by_test true e rest = rest
       by_test false e rest = ((all.0, eqb-false x k e), rest)
 
@@ -135,11 +145,13 @@ module _ (order ready : Lists) (prios marks : List ℕ) (levels : ℕ) (kept : I
   prio k = prio_in prios levels k
 
   -- a list that loses no key and gains none, and its mark
-  still_marked : (ready' : Lists) (marks' : List ℕ) (p n mark : ℕ) → length ready'.lists ≡ levels → Marks marks marks' n mark → p < 256 → p ≢ n → (p < levels → items ready' p ≡ items ready p) → mark_at marks' p ≡ one_if_filled (items ready' p)
-  still_marked ready' marks' p n mark lists marked p_in differs same = marked.others p p_in differs ∙ kept.marked p p_in ∙ ap one_if_filled (elim (cases_lt p levels) [
-    | inl inside ↦ sym (same inside)
-    | inr past ↦ get_or_past ready.lists p [] (omega (arith, kept.ready_lists)) ∙ sym (get_or_past ready'.lists p [] (omega (arith, lists)))
-  ])
+  still_marked : (ready' : Lists) (marks' : List ℕ) (p n mark : ℕ) → length ready'.lists ≡ levels → Marks marks marks' n mark → p < 256
+      → p ≢ n → (p < levels → items ready' p ≡ items ready p) → mark_at marks' p ≡ one_if_filled (items ready' p)
+  still_marked ready' marks' p n mark lists marked p_in differs same = marked.others p p_in differs ∙ kept.marked p p_in
+      ∙ ap one_if_filled (elim (cases_lt p levels) [
+        | inl inside ↦ sym (same inside)
+        | inr past ↦ get_or_past ready.lists p [] (omega (arith, kept.ready_lists)) ∙ sym (get_or_past ready'.lists p [] (omega (arith, lists)))
+      ])
 
   module _ (k : ℕ) (is_key : levels ≤ k) where
     other_prio : (p : ℕ) → p ≢ prio_in prios levels k → is_of_prio prios levels p k ≡ false
@@ -157,7 +169,8 @@ module _ (order ready : Lists) (prios marks : List ℕ) (levels : ℕ) (kept : I
     keys_taken : AllByRecursion (λ x. (levels ≤ x) × (x ≢ k)) (without k (items order 0))
     keys_taken = All-without (λ x. levels ≤ x) k (items order 0) kept.are_keys
 
-    module _ (marks' : List ℕ) (words : length marks' ≡ 4) (marked : Marks marks marks' (prio_in prios levels k) (one_if_filled (items (after_remove ready k) (prio_in prios levels k)))) where
+    module _ (marks' : List ℕ) (words : length marks' ≡ 4)
+        (marked : Marks marks marks' (prio_in prios levels k) (one_if_filled (items (after_remove ready k) (prio_in prios levels k)))) where
       pub IsKept-taken : IsKept (after_remove order k) (after_remove ready k) prios marks' levels
       IsKept-taken = record {
         some = kept.some;
@@ -173,14 +186,16 @@ module _ (order ready : Lists) (prios marks : List ℕ) (levels : ℕ) (kept : I
         marked = λ p p_in. elim (cases_eq p (prio_in prios levels k)) [
           | inl same ↦ rw same marked.here
           | inr differs ↦ still_marked (after_remove ready k) marks' p _ _ (length-map ready.lists (without k) ∙ kept.ready_lists) marked p_in differs
-              (λ inside. ready_taken p inside ∙ ap (without k) (kept.sorted p inside) ∙ without_other (is_of_prio prios levels p) k (items order 0) (other_prio p differs) ∙ sym (kept.sorted p inside))
+              (λ inside. ready_taken p inside ∙ ap (without k) (kept.sorted p inside)
+              ∙ without_other (is_of_prio prios levels p) k (items order 0) (other_prio p differs) ∙ sym (kept.sorted p inside))
         ];
       }
 
     module _ (o : ℕ) (alike : prio_in prios levels k ≡ prio_in prios levels o) where
       order_before : items (after_move_before order k o) 0 ≡ before k o (without k (items order 0))
       order_before =
-          items_map (before k o) (map (without k) order.lists) 0 (omega (arith, kept.some, kept.order_lists, length-map order.lists (without k))) ∙ ap (before k o) order_taken
+          items_map (before k o) (map (without k) order.lists) 0 (omega (arith, kept.some, kept.order_lists, length-map order.lists (without k)))
+          ∙ ap (before k o) order_taken
 
       ready_before : (p : ℕ) → p < levels → items (after_move_before ready k o) p ≡ before k o (items (after_remove ready k) p)
       ready_before p p_in = items_map (before k o) (map (without k) ready.lists) p (omega (arith, kept.ready_lists, length-map ready.lists (without k)))
@@ -188,7 +203,8 @@ module _ (order ready : Lists) (prios marks : List ℕ) (levels : ℕ) (kept : I
       lists_before : (s : Lists) → length (after_move_before s k o).lists ≡ length s.lists
       lists_before s = length-map (map (without k) s.lists) (before k o) ∙ length-map s.lists (without k)
 
-      module _ (marks' : List ℕ) (words : length marks' ≡ 4) (marked : Marks marks marks' (prio_in prios levels k) (one_if_filled (items (after_move_before ready k o) (prio_in prios levels k)))) where
+      module _ (marks' : List ℕ) (words : length marks' ≡ 4)
+          (marked : Marks marks marks' (prio_in prios levels k) (one_if_filled (items (after_move_before ready k o) (prio_in prios levels k)))) where
         pub IsKept-before : IsKept (after_move_before order k o) (after_move_before ready k o) prios marks' levels
         IsKept-before = record {
           some = kept.some;
@@ -199,7 +215,8 @@ module _ (order ready : Lists) (prios marks : List ℕ) (levels : ℕ) (kept : I
           ready_room = kept.ready_room;
           words = words;
           low = kept.low;
-          are_keys = rw order_before (All-before (λ x. levels ≤ x) k o (without k (items order 0)) is_key (All-weaker (λ x. (levels ≤ x) × (x ≢ k)) (λ x. levels ≤ x) (λ x both. both.0) (without k (items order 0)) keys_taken));
+          are_keys = rw order_before (All-before (λ x. levels ≤ x) k o (without k (items order 0)) is_key
+              (All-weaker (λ x. (levels ≤ x) × (x ≢ k)) (λ x. levels ≤ x) (λ x both. both.0) (without k (items order 0)) keys_taken));
           sorted = λ p p_in.
               ready_before p p_in ∙ ap (before k o) (sorted_taken p p_in)
               ∙ sym (filter_before (is_of_prio prios levels p) k o (without k (items order 0)) (ap (λ n. eqb n p) alike))
@@ -221,7 +238,8 @@ module _ (order ready : Lists) (prios marks : List ℕ) (levels : ℕ) (kept : I
       agree p x x_key differs = ap (λ n. eqb n p) (get_or-set_other prios (k - levels) (x - levels) new 0 (λ same. differs (omega (arith, same))))
 
       same_filter : (p : ℕ) → filter (is_of_prio (set prios (k - levels) new) levels p) (items order 0) ≡ filter (is_of_prio prios levels p) (items order 0)
-      same_filter p = filter_agree _ _ (items order 0) (All-weaker (λ x. (levels ≤ x) × (x ≢ k)) _ (λ x both. agree p x both.0 both.1) (items order 0) (rw gone at keys_taken))
+      same_filter p = filter_agree _ _ (items order 0)
+          (All-weaker (λ x. (levels ≤ x) × (x ≢ k)) _ (λ x both. agree p x both.0 both.1) (items order 0) (rw gone at keys_taken))
 
       pub IsKept-reassigned : IsKept order ready (set prios (k - levels) new) marks levels
       IsKept-reassigned = record {
@@ -291,16 +309,20 @@ module _ (order ready : Lists) (prios marks : List ℕ) (levels : ℕ) (kept : I
           ready_room = kept.ready_room;
           words = words;
           low = kept.low;
-          are_keys = rw order_again (All-push (λ x. levels ≤ x) (without k (items order 0)) k is_key (All-weaker (λ x. (levels ≤ x) × (x ≢ k)) (λ x. levels ≤ x) (λ x both. both.0) (without k (items order 0)) keys_taken));
+          are_keys = rw order_again (All-push (λ x. levels ≤ x) (without k (items order 0)) k is_key
+              (All-weaker (λ x. (levels ≤ x) × (x ≢ k)) (λ x. levels ≤ x) (λ x both. both.0) (without k (items order 0)) keys_taken));
           sorted = λ p p_in. sorted_again p p_in ∙ ap (filter (is_of_prio prios levels p)) (sym order_again);
           marked = λ p p_in. elim (cases_eq p own) [
             | inl is ↦ rw is (marked.here ∙ sym (ap one_if_filled ready_again_same ∙ filled_push (without k (items ready own)) k))
-            | inr differs ↦ still_marked (after_move_to_back ready own k) marks' p _ _ (lists_again ready own ∙ kept.ready_lists) marked p_in differs (λ inside. ready_again_other p inside differs)
+            | inr differs
+                ↦ still_marked (after_move_to_back ready own k) marks' p _ _ (lists_again ready own ∙ kept.ready_lists) marked p_in differs
+                (λ inside. ready_again_other p inside differs)
           ];
         }
 
       -- what a contract sees after that
-      pub view_again : ◌≡◌ {A = Order} (record { levels = levels; order = items (after_move_to_back order 0 k) 0; prios = prios }) (after_put_last (record { levels = levels; order = items order 0; prios = prios }) k own)
+      pub view_again : ◌≡◌ {A = Order} (record { levels = levels; order = items (after_move_to_back order 0 k) 0; prios = prios })
+          (after_put_last (record { levels = levels; order = items order 0; prios = prios }) k own)
       view_again = rw (order_again, sym same, set-get_or prios (k - levels) 0) refl
 
 -- a key that was reassigned is put last as if it had been put so at once
@@ -317,14 +339,17 @@ module _ (order ready : Lists) (prios marks : List ℕ) (levels : ℕ) (kept : I
   first_past p past = find_none (is_of_prio prios levels p) (λ x. ne_eqb _ p (λ same. absurd (omega (arith, same, kept.low (x - levels))))) (items order 0)
 
   -- a word of the marks says which priorities have anybody
-  pub word_says : (at i : ℕ) → at < 4 → i < 64 → bit_at (get_or marks at 0) i ≡ cond (is_some (find (is_of_prio prios levels (64 * at + i)) (items order 0))) 1 0
+  pub word_says : (at i : ℕ) → at < 4 → i < 64
+      → bit_at (get_or marks at 0) i ≡ cond (is_some (find (is_of_prio prios levels (64 * at + i)) (items order 0))) 1 0
   word_says at i at_in i_in =
       let word : (64 * at + i) / 64 ≡ at = omega arith in
       let bit : (64 * at + i) % 64 ≡ i = omega arith in
       let here : bit_at (get_or marks at 0) i ≡ mark_at marks (64 * at + i) = rw (word, bit) refl in
       here ∙ kept.marked (64 * at + i) (omega arith) ∙ elim (cases_lt (64 * at + i) levels) [
         | inl inside ↦ ap (λ (o : Option ℕ). cond (is_some o) 1 0) (first_sorted (64 * at + i) inside)
-        | inr past ↦ ap one_if_filled (get_or_past ready.lists (64 * at + i) [] (omega (arith, kept.ready_lists))) ∙ sym (ap (λ (o : Option ℕ). cond (is_some o) 1 0) (first_past (64 * at + i) past))
+        | inr past
+            ↦ ap one_if_filled (get_or_past ready.lists (64 * at + i) [] (omega (arith, kept.ready_lists)))
+            ∙ sym (ap (λ (o : Option ℕ). cond (is_some o) 1 0) (first_past (64 * at + i) past))
       ]
 
   -- more keys

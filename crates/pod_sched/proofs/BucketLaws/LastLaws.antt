@@ -1,7 +1,8 @@
 -- The last list that has anybody, word by word; and what its first is.
 use Rattle.pod_sched.specs.Buckets.Last.{AreWithin, GivesLast, IsLast, NoFirst}
 use Rattle.lwp_types.specs.Choice.{best_by, better_by}
-use Rattle.std.proofs.Common.{Bool, IsTrue, List, MatchOption, None, Option, Some, [], arith, cond, eqb, false, inl, inr, is_some, leb, refl, sym, true, ℕ, ◌*◌, ◌+◌, ◌-◌, ◌<◌, ◌∙◌, ◌∷◌, ◌≡◌, ◌≢◌, ◌≤◌}
+use Rattle.std.proofs.Common.{Bool, IsTrue, List, MatchOption, None, Option, Some, [], arith, cond, eqb, false, inl}
+use Rattle.std.proofs.Common.{inr, is_some, leb, refl, sym, true, ℕ, ◌*◌, ◌+◌, ◌-◌, ◌<◌, ◌∙◌, ◌∷◌, ◌≡◌, ◌≢◌, ◌≤◌}
 use Rattle.std.proofs.lemmas.Bool.{cases_lt, eq-eqb, eqb-false, eqb-true, le-leb, lt-leb, ne_eqb}
 use Rattle.std.proofs.lemmas.Nat.Bits.{bit_at-zero}
 use Rattle.std.specs.Int.{bit_at}
@@ -28,7 +29,8 @@ module _ {A : Type 0} where
       let clear : bit_at word (m - 64 * at) ≡ 0 = rw zero (bit_at-zero (m - 64 * at)) in
       unmarked (firsts m) (rw place at (sym bit ∙ clear))
 
-  pub last_in_word : (firsts : ℕ → Option A) (at word j : ℕ) → IsWord firsts at word → j < 64 → bit_at word j ≡ 1 → ((i : ℕ) → j < i → bit_at word i ≡ 0) → IsLast firsts (64 * at) (64 * at + 64) (64 * at + j)
+  pub last_in_word : (firsts : ℕ → Option A) (at word j : ℕ) → IsWord firsts at word → j < 64 → bit_at word j ≡ 1
+      → ((i : ℕ) → j < i → bit_at word i ≡ 0) → IsLast firsts (64 * at) (64 * at + 64) (64 * at + j)
   last_in_word firsts at word j bits j_in one zeros = record {
     not_before = omega arith;
     below = omega arith;
@@ -73,7 +75,8 @@ module _ (weight : ℕ → ℕ) where
   abbrev Lighter : ℕ → Option ℕ → Type 0
   Lighter p found = MatchOption found (Unit {0}) (λ b. weight b < p)
 
-  reached : (p : ℕ) (xs : List ℕ) → AllByRecursion (λ x. weight x ≤ p) xs → (k : ℕ) → firsts xs p ≡ Some k → (acc : Option ℕ) → Lighter p acc → fold (better_by weight) acc xs ≡ Some k
+  reached : (p : ℕ) (xs : List ℕ) → AllByRecursion (λ x. weight x ≤ p) xs → (k : ℕ) → firsts xs p ≡ Some k → (acc : Option ℕ)
+      → Lighter p acc → fold (better_by weight) acc xs ≡ Some k
   reached p [] all k found acc lighter = absurd (cc)
   reached p (x ∷ xs) all k found acc lighter = by_test (eqb (weight x) p) refl (λ later. reached p xs all.1 k later) found
     where
@@ -91,7 +94,9 @@ module _ (weight : ℕ → ℕ) where
           either true = lighter
           either false = less
 
-      by_test : (t : Bool) → eqb (weight x) p ≡ t → (find (λ y. eqb (weight y) p) xs ≡ Some k → (next : Option ℕ) → Lighter p next → fold (better_by weight) next xs ≡ Some k) → cond t (Some x) (find (λ y. eqb (weight y) p) xs) ≡ Some k → fold (better_by weight) (better_by weight acc x) xs ≡ Some k
+      by_test : (t : Bool) → eqb (weight x) p ≡ t
+          → (find (λ y. eqb (weight y) p) xs ≡ Some k → (next : Option ℕ) → Lighter p next → fold (better_by weight) next xs ≡ Some k)
+          → cond t (Some x) (find (λ y. eqb (weight y) p) xs) ≡ Some k → fold (better_by weight) (better_by weight acc x) xs ≡ Some k
       by_test true e rest here =
           let is : weight x ≡ p = eqb-true _ _ e in
           rw (takes acc lighter is) (stays p xs all.1 x is ∙ here)
@@ -121,7 +126,8 @@ module _ (weight : ℕ → ℕ) where
 
   -- where all weigh less than 256, the first of the last is the first of the heaviest
   pub last_is_best : (xs : List ℕ) → AllByRecursion (λ x. weight x < 256) xs → (given : Option ℕ) → GivesLast (firsts xs) given → given ≡ best_by weight xs
-  last_is_best xs low (Some k) last = sym (reached last.list xs (at_most last.list xs (λ m above. elim (cases_lt m 256) [ inl below ↦ last.none_later m above below | inr past ↦ none_beyond 256 xs low m past ])) k last.is_first None tt)
+  last_is_best xs low (Some k) last = sym (reached last.list xs (at_most last.list xs
+      (λ m above. elim (cases_lt m 256) [ inl below ↦ last.none_later m above below | inr past ↦ none_beyond 256 xs low m past ])) k last.is_first None tt)
   last_is_best [] low None none = refl
   last_is_best (x ∷ xs) low None none =
       let is : eqb (weight x) (weight x) ≡ true = eq-eqb _ _ refl in

@@ -26,16 +26,19 @@ module _ (leaves : List (Option TimerRow)) (leaf : ℕ) where
     pub leaf_has : get_or leaves leaf None ≡ None → ⊥
     leaf_has none = passed_none p (get_or leaves leaf None) (first_found p leaves leaf is).passed none
 
-  pub due_row : (now : ℕ) (row : TimerRow) → first_of (is_due now) leaves ≡ Some leaf → get_or leaves leaf None ≡ Some row → first_due (living leaves) now ≡ Some row
+  pub due_row : (now : ℕ) (row : TimerRow) → first_of (is_due now) leaves ≡ Some leaf → get_or leaves leaf None ≡ Some row
+      → first_due (living leaves) now ≡ Some row
   due_row now row is here = (first_found (is_due now) leaves leaf is).is_first ∙ here
 
-  pub popped_leaf : IsOnce leaves → (now : ℕ) (row : TimerRow) → first_of (is_due now) leaves ≡ Some leaf → get_or leaves leaf None ≡ Some row → living (set leaves leaf None) ≡ without_found (first_due (living leaves) now) (living leaves)
+  pub popped_leaf : IsOnce leaves → (now : ℕ) (row : TimerRow) → first_of (is_due now) leaves ≡ Some leaf
+      → get_or leaves leaf None ≡ Some row → living (set leaves leaf None) ≡ without_found (first_due (living leaves) now) (living leaves)
   popped_leaf once now row is here = rw (due_row now row is here) (living-emptied leaves leaf row here (once row.tid))
 
   pub dropped_leaf : IsOnce leaves → (t : ℕ) → first_of (is_timer_of t) leaves ≡ Some leaf → living (set leaves leaf None) ≡ without_timer t (living leaves)
   dropped_leaf once t is = by_leaf (get_or leaves leaf None) refl (first_found (is_timer_of t) leaves leaf is).passed
     where
-      by_leaf : (o : Option TimerRow) → get_or leaves leaf None ≡ o → passes (is_timer_of t) o ≡ true → living (set leaves leaf None) ≡ without_timer t (living leaves)
+      by_leaf : (o : Option TimerRow) → get_or leaves leaf None ≡ o → passes (is_timer_of t) o ≡ true
+          → living (set leaves leaf None) ≡ without_timer t (living leaves)
       by_leaf None here passed = absurd (cc)
       by_leaf (Some row) here passed =
           let same : row.tid ≡ t = eqb-true row.tid t passed in

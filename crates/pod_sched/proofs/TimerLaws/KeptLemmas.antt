@@ -4,11 +4,14 @@ use Rattle.lwp_types.specs.Counts.{timers_of}
 use Rattle.lwp_types.specs.State.{passes}
 use Rattle.lwp_types.specs.Unblock.{is_timer_of}
 use Rattle.lwp_types.specs.declared.rows.TimerRow.{TimerRow}
-use Rattle.std.proofs.Common.{Bool, IsSome, List, cond, option_map, None, Option, Some, [], ap, arith, false, get_or, inl, inr, is_some, length, length-set, length-take, refl, replicate, set, suc, sym, take, true, zero, ℕ, ◌++◌, ◌+◌, ◌<◌, ◌∙◌, ◌∷◌, ◌≡◌, ◌≤◌}
+use Rattle.std.proofs.Common.{Bool, IsSome, List, cond, option_map, None, Option, Some, [], ap, arith, false, get_or, inl, inr, is_some, length, length-set}
+use Rattle.std.proofs.Common.{length-take, refl, replicate, set, suc, sym, take, true, zero, ℕ, ◌++◌, ◌+◌, ◌<◌, ◌∙◌, ◌∷◌, ◌≡◌, ◌≤◌}
 use Rattle.std.proofs.lemmas.Bool.{cases_eq, eq-eqb, ne_eqb}
 use Rattle.std.proofs.lemmas.List.{get_or-replicate, length_push, take_more}
 use Rattle.std.specs.List.{filter, list_any}
-use Rattle.pod_sched.proofs.TimerLaws.LeavesLemmas.{IsOnce-emptied, IsOnce-packed, IsOnce-push, IsTied-bare, IsTied-emptied, IsTied-none, IsTied-push, few_living, first-emptied_other, first-emptied_same, first-push_here, first-push_past, length-packed, living-push, uncounted_found, unfound_new}
+use Rattle.pod_sched.proofs.TimerLaws.LeavesLemmas.{IsOnce-emptied, IsOnce-packed, IsOnce-push, IsTied-bare, IsTied-emptied, IsTied-none}
+use Rattle.pod_sched.proofs.TimerLaws.LeavesLemmas.{IsTied-push, few_living, first-emptied_other, first-emptied_same, first-push_here}
+use Rattle.pod_sched.proofs.TimerLaws.LeavesLemmas.{first-push_past, length-packed, living-push, uncounted_found, unfound_new}
 use Rattle.lists.proofs.LivingLemmas.{held, living-set}
 use Rattle.lists.specs.ThreadIndex.{Found, IsEmpty, Puts, count_of, place_of, width_of}
 use Rattle.pod_sched.specs.Timers.Kept.{IsFiled, IsShelved}
@@ -27,7 +30,8 @@ module _ (leaves : List (Option TimerRow)) (dues : List ℕ) (index : Found) (wa
       append-empty [] = refl
       append-empty (x ∷ xs) = ap (λ ys. x ∷ ys) (append-empty xs)
 
-  module _ (row : TimerRow) (index' : Found) (room : length leaves < length dues) (none : first_of (is_timer_of row.tid) leaves ≡ None) (puts : Puts (place_of index) (place_of index') row.tid (Some (length leaves))) (count : count_of index' ≡ count_of index + 1) where
+  module _ (row : TimerRow) (index' : Found) (room : length leaves < length dues) (none : first_of (is_timer_of row.tid) leaves ≡ None)
+      (puts : Puts (place_of index) (place_of index') row.tid (Some (length leaves))) (count : count_of index' ≡ count_of index + 1) where
     pub IsFiled-some : IsFiled (leaves ++ Some row ∷ []) (set dues (length leaves) row.due) index'
     IsFiled-some = record {
       tied = IsTied-push leaves dues was.tied row room;
@@ -48,16 +52,19 @@ IsFiled-bare dues index bare empty = record {
 
 -- ---- filing them one after the other
 
-once_before : (xs : List (Option TimerRow)) (i : ℕ) (row : TimerRow) → get_or xs i None ≡ Some row → timers_of (living (take i xs)) row.tid + 1 ≤ timers_of (living xs) row.tid
+once_before : (xs : List (Option TimerRow)) (i : ℕ) (row : TimerRow) → get_or xs i None ≡ Some row
+    → timers_of (living (take i xs)) row.tid + 1 ≤ timers_of (living xs) row.tid
 once_before [] i row is = absurd (cc)
 once_before (None ∷ xs) zero row is = absurd (cc)
 once_before (Some x ∷ xs) zero row is =
     let same : x ≡ row = cc in
     omega (arith, count-cons (is_timer_of row.tid) x (living xs), ap one (eq-eqb x.tid row.tid (ap (λ (r : TimerRow). r.tid) same)))
 once_before (None ∷ xs) (suc i) row is = once_before xs i row is
-once_before (Some x ∷ xs) (suc i) row is = omega (arith, once_before xs i row is, count-cons (is_timer_of row.tid) x (living xs), count-cons (is_timer_of row.tid) x (living (take i xs)))
+once_before (Some x ∷ xs) (suc i) row is =
+    omega (arith, once_before xs i row is, count-cons (is_timer_of row.tid) x (living xs), count-cons (is_timer_of row.tid) x (living (take i xs)))
 
-module _ (leaves : List (Option TimerRow)) (once : IsOnce leaves) (dues : List ℕ) (index : Found) (i : ℕ) (within : i < length leaves) (was : IsFiled (take i leaves) dues index) where
+module _ (leaves : List (Option TimerRow)) (once : IsOnce leaves) (dues : List ℕ) (index : Found) (i : ℕ) (within : i < length leaves)
+    (was : IsFiled (take i leaves) dues index) where
   taken : length (take i leaves) ≡ i
   taken = omega (arith, length-take i leaves, within)
 
@@ -74,7 +81,8 @@ module _ (leaves : List (Option TimerRow)) (once : IsOnce leaves) (dues : List �
     pub unfiled : place_of index row.tid ≡ None
     unfiled = was.found row.tid ∙ none_before
 
-    pub IsFiled-next_some : (index' : Found) → i < length dues → Puts (place_of index) (place_of index') row.tid (Some i) → count_of index' ≡ count_of index + 1 → IsFiled (take (i + 1) leaves) (set dues i row.due) index'
+    pub IsFiled-next_some : (index' : Found) → i < length dues → Puts (place_of index) (place_of index') row.tid (Some i)
+        → count_of index' ≡ count_of index + 1 → IsFiled (take (i + 1) leaves) (set dues i row.due) index'
     IsFiled-next_some index' room puts count =
         rw (take_more leaves i None within, is)
         (rw taken at (IsFiled-some (take i leaves) dues index was row index' (rw taken room) none_before (rw taken puts) count))
@@ -100,7 +108,8 @@ module _ (leaves : List (Option TimerRow)) (dues : List ℕ) (index : Found) (pl
     pub some_filed : IsSome (place_of index row.tid)
     some_filed = rw (was.filed.found row.tid) (some_there row.tid leaves j row is refl)
 
-    pub IsShelved-emptied : (index' : Found) → Puts (place_of index) (place_of index') row.tid None → count_of index' + 1 ≡ count_of index → width_of index' ≡ width_of index → index'.room ≡ index.room → IsShelved (set leaves j None) (set dues j never) index' places
+    pub IsShelved-emptied : (index' : Found) → Puts (place_of index) (place_of index') row.tid None → count_of index' + 1 ≡ count_of index
+        → width_of index' ≡ width_of index → index'.room ≡ index.room → IsShelved (set leaves j None) (set dues j never) index' places
     IsShelved-emptied index' puts count width room = record {
       filed = record {
         tied = IsTied-emptied leaves dues was.filed.tied j within was.fits;
@@ -124,7 +133,9 @@ module _ (leaves : List (Option TimerRow)) (dues : List ℕ) (index : Found) (pl
     pub few_new : count_of index < index.room
     few_new = omega (arith, was.filed.counted, few_living leaves, room, was.room)
 
-    pub IsShelved-push : (index' : Found) → Puts (place_of index) (place_of index') row.tid (Some (length leaves)) → count_of index' ≡ count_of index + 1 → width_of index' ≡ width_of index → index'.room ≡ index.room → IsShelved (leaves ++ Some row ∷ []) (set dues (length leaves) row.due) index' places
+    pub IsShelved-push : (index' : Found) → Puts (place_of index) (place_of index') row.tid (Some (length leaves))
+        → count_of index' ≡ count_of index + 1 → width_of index' ≡ width_of index → index'.room ≡ index.room
+        → IsShelved (leaves ++ Some row ∷ []) (set dues (length leaves) row.due) index' places
     IsShelved-push index' puts count width same = record {
       filed = IsFiled-some leaves dues index was.filed row index' room (unfound_new leaves was.once row new) puts count;
       once = IsOnce-push leaves was.once row new;
@@ -141,5 +152,14 @@ module _ (leaves : List (Option TimerRow)) (dues : List ℕ) (index : Found) (pl
   closed_fits = omega (arith, length-packed leaves, few_living leaves, was.fits)
 
   -- the same leaves or fewer, filed anew
-  pub IsShelved-filed : (leaves' : List (Option TimerRow)) (dues' : List ℕ) (index' : Found) (places' : ℕ) → IsOnce leaves' → IsFiled leaves' dues' index' → length leaves' ≤ length dues' → width_of index' ≡ length dues' → length dues' ≤ index'.room → length dues' ≤ places' → IsShelved leaves' dues' index' places'
-  IsShelved-filed leaves' dues' index' places' once filed fits cells room capacity = record { filed = filed; once = once; fits = fits; cells = cells; room = room; capacity = capacity }
+  pub IsShelved-filed : (leaves' : List (Option TimerRow)) (dues' : List ℕ) (index' : Found) (places' : ℕ) → IsOnce leaves'
+      → IsFiled leaves' dues' index' → length leaves' ≤ length dues' → width_of index' ≡ length dues' → length dues' ≤ index'.room
+      → length dues' ≤ places' → IsShelved leaves' dues' index' places'
+  IsShelved-filed leaves' dues' index' places' once filed fits cells room capacity = record {
+    filed = filed;
+    once = once;
+    fits = fits;
+    cells = cells;
+    room = room;
+    capacity = capacity;
+  }

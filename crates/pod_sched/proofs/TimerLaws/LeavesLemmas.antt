@@ -5,7 +5,8 @@ use Rattle.lwp_types.specs.State.{passes}
 use Rattle.lwp_types.specs.Time.{is_due}
 use Rattle.lwp_types.specs.Unblock.{is_timer_of, without_timer}
 use Rattle.lwp_types.specs.declared.rows.TimerRow.{TimerRow}
-use Rattle.std.proofs.Common.{Bool, List, None, Option, Some, [], ap, arith, cond, eqb, false, get_or, get_or-set_other, get_or-set_same, inl, inr, is_some, length, not, option_map, refl, set, suc, sym, true, zero, ℕ, ◌++◌, ◌+◌, ◌<◌, ◌∙◌, ◌∷◌, ◌≡◌, ◌≢◌, ◌≤◌}
+use Rattle.std.proofs.Common.{Bool, List, None, Option, Some, [], ap, arith, cond, eqb, false, get_or, get_or-set_other, get_or-set_same, inl, inr}
+use Rattle.std.proofs.Common.{is_some, length, not, option_map, refl, set, suc, sym, true, zero, ℕ, ◌++◌, ◌+◌, ◌<◌, ◌∙◌, ◌∷◌, ◌≡◌, ◌≢◌, ◌≤◌}
 use Rattle.std.proofs.lemmas.Bool.{cases_eq, eq-eqb, lt-leb, ne_eqb}
 use Rattle.std.specs.List.{filter, find, list_any}
 use Rattle.pod_sched.specs.Timers.Leaves.{IsOnce, due_of, first_of, never}
@@ -73,7 +74,8 @@ module _ {A : Type 0} (p : A → Bool) where
   first_found [] j is = absurd (cc)
   first_found (o ∷ xs) j is = by_test (λ k later. first_found xs k later) o j (passes p o) refl is
     where
-      by_test : ((k : ℕ) → first_of p xs ≡ Some k → IsFirst xs k) → (o : Option A) (j : ℕ) (t : Bool) → passes p o ≡ t → cond t (Some 0) (option_map suc (first_of p xs)) ≡ Some j → IsFirst (o ∷ xs) j
+      by_test : ((k : ℕ) → first_of p xs ≡ Some k → IsFirst xs k) → (o : Option A) (j : ℕ) (t : Bool) → passes p o ≡ t
+          → cond t (Some 0) (option_map suc (first_of p xs)) ≡ Some j → IsFirst (o ∷ xs) j
       by_test rest None j true here is = absurd (cc)
       by_test rest (Some x) zero true here is = record { within = omega arith; passed = here; is_first = rw here refl }
       by_test rest (Some x) (suc j) true here is = absurd (cc)
@@ -89,7 +91,8 @@ module _ {A : Type 0} (p : A → Bool) where
   none_found [] is = refl
   none_found (o ∷ xs) is = by_test (λ later. none_found xs later) o (passes p o) refl is
     where
-      by_test : (first_of p xs ≡ None → find p (living xs) ≡ None) → (o : Option A) (t : Bool) → passes p o ≡ t → cond t (Some 0) (option_map suc (first_of p xs)) ≡ None → find p (living (o ∷ xs)) ≡ None
+      by_test : (first_of p xs ≡ None → find p (living xs) ≡ None) → (o : Option A) (t : Bool) → passes p o ≡ t
+          → cond t (Some 0) (option_map suc (first_of p xs)) ≡ None → find p (living (o ∷ xs)) ≡ None
       by_test rest o true here is = absurd (cc)
       by_test rest None false away is = rest (no_next (first_of p xs) is)
       by_test rest (Some x) false away is = rw away (rest (no_next (first_of p xs) is))
@@ -102,7 +105,8 @@ module _ {A : Type 0} (p : A → Bool) where
   first-push_here [] o here none = rw here refl
   first-push_here (x ∷ xs) o here none = by_test (λ later. first-push_here xs o here later) (passes p x) none
     where
-      by_test : (first_of p xs ≡ None → first_of p (xs ++ o ∷ []) ≡ Some (length xs)) → (t : Bool) → cond t (Some 0) (option_map suc (first_of p xs)) ≡ None → cond t (Some 0) (option_map suc (first_of p (xs ++ o ∷ []))) ≡ Some (suc (length xs))
+      by_test : (first_of p xs ≡ None → first_of p (xs ++ o ∷ []) ≡ Some (length xs)) → (t : Bool)
+          → cond t (Some 0) (option_map suc (first_of p xs)) ≡ None → cond t (Some 0) (option_map suc (first_of p (xs ++ o ∷ []))) ≡ Some (suc (length xs))
       by_test rest true is = absurd (cc)
       by_test rest false is = ap (option_map suc) (rest (no_next (first_of p xs) is))
 
@@ -132,7 +136,8 @@ none_counted t (row ∷ rows) none = by_test (λ later. none_counted t rows late
     by_test rest false away = rw away (ap (λ ys. row ∷ ys) (rest (omega (arith, none, count-cons (is_timer_of t) row rows))))
 
 -- the leaf is emptied: the timers are those of all others
-pub living-emptied : (xs : List (Option TimerRow)) (j : ℕ) (row : TimerRow) → get_or xs j None ≡ Some row → timers_of (living xs) row.tid ≤ 1 → living (set xs j None) ≡ without_timer row.tid (living xs)
+pub living-emptied : (xs : List (Option TimerRow)) (j : ℕ) (row : TimerRow) → get_or xs j None ≡ Some row
+    → timers_of (living xs) row.tid ≤ 1 → living (set xs j None) ≡ without_timer row.tid (living xs)
 living-emptied [] j row is once = absurd (cc)
 living-emptied (None ∷ xs) zero row is once = absurd (cc)
 living-emptied (None ∷ xs) (suc j) row is once = living-emptied xs j row is once
@@ -142,7 +147,8 @@ living-emptied (Some x ∷ xs) zero row is once =
     rw here (sym (none_counted row.tid (living xs) (omega (arith, once, count-cons (is_timer_of row.tid) x (living xs), ap one here))))
 living-emptied (Some x ∷ xs) (suc j) row is once = by_test (λ later. living-emptied xs j row is later) (eqb x.tid row.tid) refl
   where
-    by_test : (timers_of (living xs) row.tid ≤ 1 → living (set xs j None) ≡ without_timer row.tid (living xs)) → (b : Bool) → eqb x.tid row.tid ≡ b → x ∷ living (set xs j None) ≡ without_timer row.tid (x ∷ living xs)
+    by_test : (timers_of (living xs) row.tid ≤ 1 → living (set xs j None) ≡ without_timer row.tid (living xs)) → (b : Bool)
+        → eqb x.tid row.tid ≡ b → x ∷ living (set xs j None) ≡ without_timer row.tid (x ∷ living xs)
     by_test rest true here = absurd (omega (arith, once, counted_at xs j row is, count-cons (is_timer_of row.tid) x (living xs), ap one here))
     by_test rest false away = rw away (ap (λ ys. x ∷ ys) (rest (omega (arith, once, count-cons (is_timer_of row.tid) x (living xs)))))
 
@@ -151,7 +157,8 @@ unfound_counted : (t : ℕ) (xs : List (Option TimerRow)) → first_of (is_timer
 unfound_counted t [] none = refl
 unfound_counted t (o ∷ xs) none = by_test (λ later. unfound_counted t xs later) o (passes (is_timer_of t) o) refl none
   where
-    by_test : (first_of (is_timer_of t) xs ≡ None → timers_of (living xs) t ≡ 0) → (o : Option TimerRow) (b : Bool) → passes (is_timer_of t) o ≡ b → cond b (Some 0) (option_map suc (first_of (is_timer_of t) xs)) ≡ None → timers_of (living (o ∷ xs)) t ≡ 0
+    by_test : (first_of (is_timer_of t) xs ≡ None → timers_of (living xs) t ≡ 0) → (o : Option TimerRow) (b : Bool)
+        → passes (is_timer_of t) o ≡ b → cond b (Some 0) (option_map suc (first_of (is_timer_of t) xs)) ≡ None → timers_of (living (o ∷ xs)) t ≡ 0
     by_test rest o true here is = absurd (cc)
     by_test rest None false away is = rest (no_next (first_of (is_timer_of t) xs) is)
     by_test rest (Some x) false away is = omega (arith, count-cons (is_timer_of t) x (living xs), ap one away, rest (no_next (first_of (is_timer_of t) xs) is))
@@ -179,25 +186,35 @@ module _ (xs : List (Option TimerRow)) (once : IsOnce xs) where
 
     pub IsOnce-push : IsOnce (xs ++ Some row ∷ [])
     IsOnce-push t = rw (living-push xs (Some row)) (elim (cases_eq row.tid t) [
-      | inl same ↦ omega (arith, count-push (is_timer_of t) (living xs) row, count_none (is_timer_of row.tid) (living xs) new, ap (timers_of (living xs)) same, ap one (eq-eqb row.tid t same))
+      | inl same
+          ↦ omega (
+            arith,
+            count-push (is_timer_of t) (living xs) row,
+            count_none (is_timer_of row.tid) (living xs) new,
+            ap (timers_of (living xs)) same,
+            ap one (eq-eqb row.tid t same),
+          )
       | inr away ↦ omega (arith, count-push (is_timer_of t) (living xs) row, once t, ap one (ne_eqb row.tid t away))
     ])
 
   module _ (j : ℕ) (row : TimerRow) (is : get_or xs j None ≡ Some row) where
     pub IsOnce-emptied : IsOnce (set xs j None)
-    IsOnce-emptied t = rw (living-emptied xs j row is (once row.tid)) (omega (arith, once t, count-filter-le (is_timer_of t) (λ r. not (is_timer_of row.tid r)) (living xs)))
+    IsOnce-emptied t = rw (living-emptied xs j row is (once row.tid))
+        (omega (arith, once t, count-filter-le (is_timer_of t) (λ r. not (is_timer_of row.tid r)) (living xs)))
 
     pub first-emptied_same : first_of (is_timer_of row.tid) (set xs j None) ≡ None
     first-emptied_same = uncounted_found row.tid (set xs j None) (omega (arith, once row.tid, gone xs j is))
       where
-        gone : (ys : List (Option TimerRow)) (j : ℕ) → get_or ys j None ≡ Some row → timers_of (living (set ys j None)) row.tid + 1 ≡ timers_of (living ys) row.tid
+        gone : (ys : List (Option TimerRow)) (j : ℕ) → get_or ys j None ≡ Some row
+            → timers_of (living (set ys j None)) row.tid + 1 ≡ timers_of (living ys) row.tid
         gone [] j is = absurd (cc)
         gone (None ∷ ys) zero is = absurd (cc)
         gone (None ∷ ys) (suc j) is = gone ys j is
         gone (Some x ∷ ys) zero is =
             let same : x ≡ row = cc in
             omega (arith, count-cons (is_timer_of row.tid) x (living ys), ap one (eq-eqb x.tid row.tid (ap (λ (r : TimerRow). r.tid) same)))
-        gone (Some x ∷ ys) (suc j) is = omega (arith, gone ys j is, count-cons (is_timer_of row.tid) x (living ys), count-cons (is_timer_of row.tid) x (living (set ys j None)))
+        gone (Some x ∷ ys) (suc j) is =
+            omega (arith, gone ys j is, count-cons (is_timer_of row.tid) x (living ys), count-cons (is_timer_of row.tid) x (living (set ys j None)))
 
     pub first-emptied_other : (t : ℕ) → t ≢ row.tid → first_of (is_timer_of t) (set xs j None) ≡ first_of (is_timer_of t) xs
     first-emptied_other t away = first-set_past (is_timer_of t) xs j (rw is (ne_eqb row.tid t (λ same. away (sym same))))
@@ -214,7 +231,8 @@ none_come now early (d ∷ dues) tied =
     let late : now < d = omega (arith, tied 0, early) in
     rw (lt-leb d now late, none_come now early dues (λ i. tied (suc i))) refl
 
-pub first_come : (now : ℕ) → now < never → (xs : List (Option TimerRow)) (dues : List ℕ) → length xs ≤ length dues → IsTied xs dues → first_within now dues ≡ first_of (is_due now) xs
+pub first_come : (now : ℕ) → now < never → (xs : List (Option TimerRow)) (dues : List ℕ) → length xs ≤ length dues → IsTied xs dues
+    → first_within now dues ≡ first_of (is_due now) xs
 first_come now early [] dues fits tied = none_come now early dues tied
 first_come now early (o ∷ xs) [] fits tied = absurd (omega arith)
 first_come now early (None ∷ xs) (d ∷ dues) fits tied =

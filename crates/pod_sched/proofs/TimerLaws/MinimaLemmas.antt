@@ -1,5 +1,6 @@
 -- A tree of the least: how it is mended, and how the first leaf that has come is found.
-use Rattle.std.proofs.Common.{List, None, Some, [], add-one, ap, arith, get_or, get_or-drop, get_or-set_other, get_or-set_same, inl, inr, length, length-set, min, refl, set, suc, zero, drop, ℕ, ◌*◌, ◌+◌, ◌-◌, ◌<◌, ◌∙◌, ◌∷◌, ◌≡◌, ◌≢◌, ◌≤◌}
+use Rattle.std.proofs.Common.{List, None, Some, [], add-one, ap, arith, get_or, get_or-drop, get_or-set_other, get_or-set_same, inl, inr}
+use Rattle.std.proofs.Common.{length, length-set, min, refl, set, suc, zero, drop, ℕ, ◌*◌, ◌+◌, ◌-◌, ◌<◌, ◌∙◌, ◌∷◌, ◌≡◌, ◌≢◌, ◌≤◌}
 use Rattle.std.proofs.lemmas.Bool.{cases_eq, cases_lt, le-leb, lt-leb}
 use Rattle.std.proofs.lemmas.List.{drop-set-add, drop-set-lt, length-drop}
 use Rattle.pod_sched.specs.Timers.Minima.{IsLesser, IsMended, first_within, leaf_under, node}
@@ -45,7 +46,8 @@ pub record Descends (nodes : List ℕ) (width now k at : ℕ) : Type 0 where
 
 module _ (nodes : List ℕ) (width now : ℕ) (mended : IsMended nodes width) where
   -- no leaf has come under a node that hasn't
-  above : (k i : ℕ) → 1 ≤ i → leaf_under k (i + 1) ≤ 2 * width → now < node nodes i → (x : ℕ) → leaf_under k i ≤ x → x < leaf_under k (i + 1) → now < node nodes x
+  above : (k i : ℕ) → 1 ≤ i → leaf_under k (i + 1) ≤ 2 * width → now < node nodes i → (x : ℕ) → leaf_under k i ≤ x
+      → x < leaf_under k (i + 1) → now < node nodes x
   above zero i some inside high x from to =
       let same : x ≡ i = omega (arith, from, to) in
       rw same high
@@ -54,7 +56,9 @@ module _ (nodes : List ℕ) (width now : ℕ) (mended : IsMended nodes width) wh
       let low : i < width = omega (arith, at_least k (2 * (i + 1)), inside) in
       let lesser = mended i some low in
       elim (cases_lt x (leaf_under k (2 * i + 1))) [
-        | inl left ↦ above k (2 * i) (omega arith) (omega (arith, rises k (2 * i + 1) (2 * i + 1 + 1) (omega arith), even, inside)) (omega (arith, lesser, high)) x from left
+        | inl left
+            ↦ above k (2 * i) (omega arith) (omega (arith, rises k (2 * i + 1) (2 * i + 1 + 1) (omega arith), even, inside))
+            (omega (arith, lesser, high)) x from left
         | inr right ↦ above k (2 * i + 1) (omega arith) (omega (arith, even, inside)) (omega (arith, lesser, high)) x right (omega (arith, even, to))
       ]
 
@@ -108,7 +112,8 @@ module _ (nodes : List ℕ) (width now : ℕ) (mended : IsMended nodes width) wh
       pub none_found : now < node nodes 1 → first_within now (drop width nodes) ≡ None
       none_found late = first_none now (drop width nodes) (λ i less.
           rw (get_or-drop width nodes i 0)
-          (above height 1 (omega arith) (omega (arith, full, doubles height 1)) late (width + i) (omega (arith, full)) (omega (arith, less, length-drop width nodes, halves, full, doubles height 1))))
+          (above height 1 (omega arith) (omega (arith, full, doubles height 1)) late (width + i) (omega (arith, full))
+          (omega (arith, less, length-drop width nodes, halves, full, doubles height 1))))
 
 -- ---- the way up
 
@@ -148,7 +153,9 @@ module _ (old : List ℕ) (width leaf due : ℕ) (halves : length old ≡ 2 * wi
       leaves = drop-set-lt width nodes half _ half_in ∙ was.leaves;
       others = λ i i_some below left right. elim (cases_eq i half) [
         | inl same ↦ rw same here
-        | inr away ↦ lesser_kept nodes half _ i away left right (was.others i i_some below (λ same. away (omega (arith, same, low, high))) (λ same. away (omega (arith, same, low, high))))
+        | inr away
+            ↦ lesser_kept nodes half _ i away left right
+            (was.others i i_some below (λ same. away (omega (arith, same, low, high))) (λ same. away (omega (arith, same, low, high))))
       ];
     }
       where
@@ -160,4 +167,5 @@ module _ (old : List ℕ) (width leaf due : ℕ) (halves : length old ≡ 2 * wi
         ) refl
 
   pub mending_ends : (nodes : List ℕ) (at : ℕ) → IsMending old nodes width leaf due at → at ≤ 1 → IsMended nodes width
-  mending_ends nodes at was low i some below = was.others i some below (λ same. absurd (omega (arith, same, low, some))) (λ same. absurd (omega (arith, same, low, some)))
+  mending_ends nodes at was low i some below =
+      was.others i some below (λ same. absurd (omega (arith, same, low, some))) (λ same. absurd (omega (arith, same, low, some)))

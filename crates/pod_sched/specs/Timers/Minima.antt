@@ -1,5 +1,6 @@
 -- A tree of the least of many numbers. No public clause cites this module.
-use Rattle.std.specs.Prelude.{List, None, Option, Some, [], if◌then◌else◌, length, min, nat_le, option_map, slice_index_or, suc, zero, ℕ, ◌*◌, ◌+◌, ◌<◌, ◌∷◌, ◌≡◌, ◌≤◌}
+use Rattle.std.specs.Prelude.{List, None, Option, Some, [], if◌then◌else◌, length, min, nat_le, option_map}
+use Rattle.std.specs.Prelude.{slice_index_or, suc, zero, ℕ, ◌*◌, ◌+◌, ◌<◌, ◌∷◌, ◌≡◌, ◌≤◌}
 
 -- the place of the first number that is at most this
 abbrev pub first_within : ℕ → List ℕ → Option ℕ

@@ -10,4 +10,5 @@ returns-in_err-at c = c.from_residual.ensures ∙ sym (find_none (is_condition c
 pub returns : goal.returns
 returns c =
     let here = c.in_ok-at.ensures.some in
-    ap Some c.index-rows-at.is ∙ sym (found_at c.args.rows.now c.args.cond c.in_ok-at.at c.index-rows-at.result c.requires here.within (here.here c.index-rows-at.result))
+    ap Some c.index-rows-at.is
+    ∙ sym (found_at c.args.rows.now c.args.cond c.in_ok-at.at c.index-rows-at.result c.requires here.within (here.here c.index-rows-at.result))

@@ -27,13 +27,15 @@ some_left c = elim c.if-not-is_empty.branch [
 -- the two first lines are the same
 same_line : (c : goal.Else-ne) → take (line_end c.loop-left.left.now) c.loop-left.left.now ≡ take (line_end c.loop-left.other.now) c.loop-left.other.now
 same_line c =
-    let same : c.first_line.result.0.now ≡ c.first_line-in-loop-left.result.0.now = grind (rules, bytes_eq-Decides c.first_line.result.0.now c.first_line-in-loop-left.result.0.now) in
+    let same : c.first_line.result.0.now
+    ≡ c.first_line-in-loop-left.result.0.now = grind (rules, bytes_eq-Decides c.first_line.result.0.now c.first_line-in-loop-left.result.0.now) in
     rw (c.first_line.ensures.line, c.first_line-in-loop-left.ensures.line) at same
 
 line_taken : (c : goal.Else-ne) → suc (length c.first_line.result.1.now) ≤ length c.loop-left.left.now
 line_taken c =
     let left = c.loop-left.left.now in
-    rw c.first_line.ensures.rest (omega (arith, has_byte left c.loop-left.other.now (some_left c) (same_line c), c.first_line.ensures.within, length-drop (line_end left) left))
+    rw c.first_line.ensures.rest
+    (omega (arith, has_byte left c.loop-left.other.now (some_left c) (same_line c), c.first_line.ensures.within, length-drop (line_end left) left))
 
 pub loop-left-smaller : goal.loop-left-smaller
 loop-left-smaller c = line_taken c

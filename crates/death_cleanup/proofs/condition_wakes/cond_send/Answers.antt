@@ -10,41 +10,58 @@ use Rattle.lwp_types.specs.declared.call.LwpErr.TheVariants as error
 use Rattle.std.proofs.Common.{Some, [], refl, sym, ◌∙◌, ◌≡◌}
 
 pub returns-in_default : goal.returns-in_default
-returns-in_default c = record { answers = answers_refused c.args.parts.now [] _ error.NonExist c.requires.lawful.step (waking-absent (state_of c.args.parts.now) c.args.tid c.args.cond _ _ (row-none c.args.parts.now.conds.conditions c.args.cond (sym c.monitor_of.ensures ∙ c.in_default.is))) }
+returns-in_default c = record {
+  answers = answers_refused c.args.parts.now [] _ error.NonExist c.requires.lawful.step (waking-absent (state_of c.args.parts.now)
+      c.args.tid c.args.cond _ _ (row-none c.args.parts.now.conds.conditions c.args.cond (sym c.monitor_of.ensures ∙ c.in_default.is)));
+}
 
 pub returns-then-not-is_last : goal.returns-then-not-is_last
 returns-then-not-is_last c = record {
   answers = answers_refused c.args.parts.now [] _ error.NotOwned c.requires.lawful.step
-      (waking-other (state_of c.args.parts.now) c.args.tid c.args.cond _ _ c.in-Some.mon (row-is c.args.parts.now.conds.conditions c.args.cond c.in-Some.mon (sym c.monitor_of.ensures ∙ c.in-Some.is)) (sym c.if-not-is_last.ensures));
+      (waking-other (state_of c.args.parts.now) c.args.tid c.args.cond _ _ c.in-Some.mon
+      (row-is c.args.parts.now.conds.conditions c.args.cond c.in-Some.mon (sym c.monitor_of.ensures ∙ c.in-Some.is)) (sym c.if-not-is_last.ensures));
 }
 
 pub returns-then-not-is_thread : goal.returns-then-not-is_thread
 returns-then-not-is_thread c =
-    let found : condition_of c.args.parts.now.conds.conditions c.args.cond ≡ Some (record { number = c.args.cond; mon = c.in-Some.mon }) = row-is c.args.parts.now.conds.conditions c.args.cond c.in-Some.mon (sym c.monitor_of.ensures ∙ c.in-Some.is) in
+    let found : condition_of c.args.parts.now.conds.conditions c.args.cond
+    ≡ Some (record { number = c.args.cond; mon = c.in-Some.mon }) =
+    row-is c.args.parts.now.conds.conditions c.args.cond c.in-Some.mon (sym c.monitor_of.ensures ∙ c.in-Some.is) in
     record { answers = answers_refused c.args.parts.now [] _ error.NonExist c.requires.lawful.step (sent-absent c.args.parts.now c.requires.lawful c.args.tid c.args.cond c.in-Some.mon found (sym c.if-not-is_last.ensures) c.args.to (sym c.if-not-is_thread.ensures)) }
 
 pub returns-in_default-send_to : goal.returns-in_default-send_to
 returns-in_default-send_to c =
-    let found : condition_of c.args.parts.now.conds.conditions c.args.cond ≡ Some (record { number = c.args.cond; mon = c.in-Some.mon }) = row-is c.args.parts.now.conds.conditions c.args.cond c.in-Some.mon (sym c.monitor_of.ensures ∙ c.in-Some.is) in
+    let found : condition_of c.args.parts.now.conds.conditions c.args.cond
+    ≡ Some (record { number = c.args.cond; mon = c.in-Some.mon }) =
+    row-is c.args.parts.now.conds.conditions c.args.cond c.in-Some.mon (sym c.monitor_of.ensures ∙ c.in-Some.is) in
     record {
       answers = rw (c.send_to.ensures.after, c.in_default-send_to.is) (answers_refused c.args.parts.now [] _ error.NoWait c.requires.lawful.step
-          (sent-none c.args.parts.now c.requires.lawful c.args.tid c.args.cond c.in-Some.mon found (sym c.if-not-is_last.ensures) c.args.to (sym c.if-not-is_thread.ensures) (sym c.in_default-send_to.is ∙ c.send_to.ensures.value)));
+          (sent-none c.args.parts.now c.requires.lawful c.args.tid c.args.cond c.in-Some.mon found (sym c.if-not-is_last.ensures) c.args.to
+          (sym c.if-not-is_thread.ensures) (sym c.in_default-send_to.is ∙ c.send_to.ensures.value)));
     }
 
 pub ask_again-requires : goal.ask_again-requires
 ask_again-requires c =
-    let found : condition_of c.args.parts.now.conds.conditions c.args.cond ≡ Some (record { number = c.args.cond; mon = c.in-Some.mon }) = row-is c.args.parts.now.conds.conditions c.args.cond c.in-Some.mon (sym c.monitor_of.ensures ∙ c.in-Some.is) in
+    let found : condition_of c.args.parts.now.conds.conditions c.args.cond
+    ≡ Some (record { number = c.args.cond; mon = c.in-Some.mon }) =
+    row-is c.args.parts.now.conds.conditions c.args.cond c.in-Some.mon (sym c.monitor_of.ensures ∙ c.in-Some.is) in
     may-ask c.args.parts.now c.args.tid c.args.cond c.in-Some.mon c.in-Some-send_to.wait []
-    (begins-one c.args.parts.now c.requires.lawful c.args.tid c.args.cond c.in-Some.mon found (sym c.if-not-is_last.ensures) c.args.to c.in-Some-send_to.wait (sym c.in-Some-send_to.is ∙ c.send_to.ensures.value))
+    (begins-one c.args.parts.now c.requires.lawful c.args.tid c.args.cond c.in-Some.mon found (sym c.if-not-is_last.ensures) c.args.to
+    c.in-Some-send_to.wait (sym c.in-Some-send_to.is ∙ c.send_to.ensures.value))
 
 pub returns : goal.returns
 returns c =
-    let found : condition_of c.args.parts.now.conds.conditions c.args.cond ≡ Some (record { number = c.args.cond; mon = c.in-Some.mon }) = row-is c.args.parts.now.conds.conditions c.args.cond c.in-Some.mon (sym c.monitor_of.ensures ∙ c.in-Some.is) in
+    let found : condition_of c.args.parts.now.conds.conditions c.args.cond
+    ≡ Some (record { number = c.args.cond; mon = c.in-Some.mon }) =
+    row-is c.args.parts.now.conds.conditions c.args.cond c.in-Some.mon (sym c.monitor_of.ensures ∙ c.in-Some.is) in
     let next = sym c.in-Some-send_to.is ∙ c.send_to.ensures.value in
     record {
-      answers = rw (c.ask_again.ensures, c.send_to.ensures.after, c.in-Some-send_to.is) (answers_quietly c.args.parts.now (after_signal c.args.parts.now c.in-Some.mon c.in-Some-send_to.wait) [] _ zero_answer
+      answers = rw (c.ask_again.ensures, c.send_to.ensures.after, c.in-Some-send_to.is)
+          (answers_quietly c.args.parts.now (after_signal c.args.parts.now c.in-Some.mon c.in-Some-send_to.wait) [] _ zero_answer
           (InStep-signalled c.args.parts.now c.args.tid c.args.cond c.in-Some.mon c.in-Some-send_to.wait []
-          (begins-one c.args.parts.now c.requires.lawful c.args.tid c.args.cond c.in-Some.mon found (sym c.if-not-is_last.ensures) c.args.to c.in-Some-send_to.wait next)
+          (begins-one c.args.parts.now c.requires.lawful c.args.tid c.args.cond c.in-Some.mon found (sym c.if-not-is_last.ensures) c.args.to
+          c.in-Some-send_to.wait next)
           (one-ranked c.args.parts.now c.requires.lawful.step c.args.cond c.args.to c.in-Some-send_to.wait next)) refl
-          (sent-one c.args.parts.now c.requires.lawful c.args.tid c.args.cond c.in-Some.mon found (sym c.if-not-is_last.ensures) c.args.to c.in-Some-send_to.wait (sym c.if-not-is_thread.ensures) next));
+          (sent-one c.args.parts.now c.requires.lawful c.args.tid c.args.cond c.in-Some.mon found (sym c.if-not-is_last.ensures) c.args.to
+          c.in-Some-send_to.wait (sym c.if-not-is_thread.ensures) next));
     }

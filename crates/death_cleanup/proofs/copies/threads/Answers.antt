@@ -14,8 +14,10 @@ loop-i-preserved c =
     elim c.match-kind.branch [
       | in-Thread+in_ok-thread_copy-in-Thread+in_ok-push-in-Thread w ↦
           ap (λ copies. map row_in copies ++ later) (w.copies-is ∙ w.in_ok-push-in-Thread.ensures.ok)
-          ∙ copied-thread p known living c.loop-i.i c.nth_of-tid.result.0 c.nth_of-tid.result.1.now c.nth_of-tid.ensures _ w.in-Thread.is _ w.in_ok-thread_copy-in-Thread.ensures c.loop-i.copies (state_of c.args.parts.now).threads c.loop-i.invariant
+          ∙ copied-thread p known living c.loop-i.i c.nth_of-tid.result.0 c.nth_of-tid.result.1.now c.nth_of-tid.ensures _ w.in-Thread.is _
+          w.in_ok-thread_copy-in-Thread.ensures c.loop-i.copies (state_of c.args.parts.now).threads c.loop-i.invariant
       | in-Agent w ↦
           ap (λ copies. map row_in copies ++ later) w.copies-is
-          ∙ passed-agent p known living c.loop-i.i c.nth_of-tid.result.0 c.nth_of-tid.result.1.now c.nth_of-tid.ensures w.in-Agent.is c.loop-i.copies (state_of c.args.parts.now).threads c.loop-i.invariant
+          ∙ passed-agent p known living c.loop-i.i c.nth_of-tid.result.0 c.nth_of-tid.result.1.now c.nth_of-tid.ensures w.in-Agent.is
+          c.loop-i.copies (state_of c.args.parts.now).threads c.loop-i.invariant
     ]

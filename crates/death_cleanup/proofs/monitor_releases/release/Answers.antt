@@ -14,6 +14,8 @@ go_on-requires-clause-waits c = owner-waits c.args.parts.now c.requires.lawful c
 
 pub returns : goal.returns
 returns c =
-    let is : release c.args.mon (state_of c.args.parts.now) ≡ with_owner c.break_lock-next.result (state_of (record c.args.parts.now { mons = c.break_lock-next.new.self })) =
-    rw c.break_lock-next.ensures.after (released-is c.args.parts.now c.requires.lawful.step c.args.mon c.break_lock-next.result c.break_lock-next.ensures.value) in
+    let is : release c.args.mon (state_of c.args.parts.now)
+    ≡ with_owner c.break_lock-next.result (state_of (record c.args.parts.now { mons = c.break_lock-next.new.self })) =
+    rw c.break_lock-next.ensures.after
+    (released-is c.args.parts.now c.requires.lawful.step c.args.mon c.break_lock-next.result c.break_lock-next.ensures.value) in
     record { came = came_as _ _ _ _ _ _ _ c.go_on.ensures.came refl is }

@@ -7,7 +7,8 @@ use Rattle.std.proofs.lemmas.List.Sorted.{IsPartitionPoint-from_clause}
 pub returns : goal.returns
 returns c =
     let test = is_before (run_of c.args.wait.now) c.args.wait.now.tid in
-    let point = IsPartitionPoint-from_clause test _ _ c.partition_point.ensures.partitioned (parted c.args.waits.now (run_of c.args.wait.now) c.args.wait.now.tid c.requires) (λ a r q k. search rules) in
+    let point = IsPartitionPoint-from_clause test _ _ c.partition_point.ensures.partitioned
+    (parted c.args.waits.now (run_of c.args.wait.now) c.args.wait.now.tid c.requires) (λ a r q k. search rules) in
     record {
       within = c.partition_point.ensures.bound;
       below = λ j d lt. point.0 j d (omega arith) lt;

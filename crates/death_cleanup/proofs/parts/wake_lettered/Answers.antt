@@ -3,4 +3,7 @@ use Rattle.death_cleanup.proofs.parts.wake_lettered.Goals as goal
 use Rattle.lwp_types.specs.declared.call.Answer.TheVariants as answer
 
 pub returns : goal.returns
-returns c = record { came = rw (c.unblock.ensures, c.lettered.ensures) (came_waked c.args.parts.now c.requires.step c.args.tid (answer.Letter c.args.letter.now.from c.args.letter.now.text c.args.letter.now.room) c.args.effects.now c.requires.waits) }
+returns c = record {
+  came = rw (c.unblock.ensures, c.lettered.ensures) (came_waked c.args.parts.now c.requires.step c.args.tid
+      (answer.Letter c.args.letter.now.from c.args.letter.now.text c.args.letter.now.room) c.args.effects.now c.requires.waits);
+}

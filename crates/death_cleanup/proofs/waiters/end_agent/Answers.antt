@@ -8,4 +8,7 @@ pub clear_agent-requires-clause-room : goal.clear_agent-requires-clause-room
 clear_agent-requires-clause-room c = rw c.destroy.ensures (unlisted_room c.args.parts.now c.args.agent c.args.effects.now c.requires.room)
 
 pub returns : goal.returns
-returns c = record { came = came_ended c.args.parts.now c.args.agent c.clear_agent.new.parts c.args.effects.now c.clear_agent.new.effects (rw c.destroy.ensures at c.clear_agent.ensures.came) }
+returns c = record {
+  came = came_ended c.args.parts.now c.args.agent c.clear_agent.new.parts c.args.effects.now c.clear_agent.new.effects
+      (rw c.destroy.ensures at c.clear_agent.ensures.came);
+}

@@ -13,6 +13,7 @@ unwrap-kind-requires c =
 pub returns : goal.returns
 returns c =
     let own = nth-own c.args.ids.now.live c.args.i c.nth-number.result c.nth-number.ensures.rising c.requires c.nth-number.ensures.value in
-    let here : value_of c.nth-number.result c.args.ids.now.live ≡ Some c.unwrap-kind.result.now = sym c.get.ensures.value ∙ ap option_copied c.unwrap-kind.ensures in
+    let here : value_of c.nth-number.result c.args.ids.now.live
+    ≡ Some c.unwrap-kind.result.now = sym c.get.ensures.value ∙ ap option_copied c.unwrap-kind.ensures in
     let same : own.0 ≡ c.unwrap-kind.result.now = (let e : Some own.0 ≡ Some c.unwrap-kind.result.now = sym own.1 ∙ here in cc) in
     own.2 ∙ ap (λ (v : Kind). Some (c.nth-number.result, v)) same

@@ -17,7 +17,8 @@ split_seat-requires c =
     let aimed = c.compare_exchange_with.ensures.2 _ refl in (
       c.compare_exchange_with.ensures.0 ∙ c.requires.gauge.same,
       omega arith,
-      enrolls _ _ (ap (λ (v : GaugeView). v.book.takes) aimed.0 ∙ c.requires.taker) (ap (λ (v : GaugeView). is_noted v.book.next v.book.noted) aimed.0 ∙ c.requires.new),
+      enrolls _ _ (ap (λ (v : GaugeView). v.book.takes) aimed.0 ∙ c.requires.taker)
+          (ap (λ (v : GaugeView). is_noted v.book.next v.book.noted) aimed.0 ∙ c.requires.new),
     )
 
 pub returns-clause-seat : goal.returns-clause-seat
@@ -28,5 +29,7 @@ returns-clause-seat c =
 
 pub returns-clause-poster : goal.returns-clause-poster
 returns-clause-poster c =
-    let aimed = c.compare_exchange_with.ensures.2 _ refl in
-    (c.split_seat.ensures.3 ∙ c.compare_exchange_with.ensures.0, next_seat_is c.split_seat.result.me c.args.seat.now.me.0 c.compare_exchange_with.new.seat.me.0 c.args.client c.split_seat.ensures.4 aimed.0)
+    let aimed = c.compare_exchange_with.ensures.2 _ refl in (
+      c.split_seat.ensures.3 ∙ c.compare_exchange_with.ensures.0,
+      next_seat_is c.split_seat.result.me c.args.seat.now.me.0 c.compare_exchange_with.new.seat.me.0 c.args.client c.split_seat.ensures.4 aimed.0,
+    )

@@ -8,5 +8,6 @@ use Rattle.std.proofs.Common.{arith, ◌≡◌}
 pub returns-clause-came : goal.returns-clause-came
 returns-clause-came c =
     let born : c.insert.new.self ≡ after_insert c.args.parts.now.ids kind.Agent =
-    on_ok c.insert.result (c.insert.new.self ≡ after_insert c.args.parts.now.ids kind.Agent) c.insert.ensures.ok (λ e. omega (arith, c.insert.ensures.at_limit.0 e, c.requires.births)) in
+    on_ok c.insert.result (c.insert.new.self ≡ after_insert c.args.parts.now.ids kind.Agent) c.insert.ensures.ok
+    (λ e. omega (arith, c.insert.ensures.at_limit.0 e, c.requires.births)) in
     rw (born, c.create.ensures, c.births-number.ensures.value) (came_agent c.args.parts.now c.args.event c.args.caller c.requires.lawful.step c.requires.places)

@@ -9,8 +9,10 @@ returns-clause-as_before c =
     let agents = c.len-agents.result + 1 in
     rw (c.in-Ok.ensures.ok, c.in_ok-reserve.ensures.ok)
     (either_way c.reserve-3.result c.reserve-3.ensures.ok c.reserve-3.ensures.err
-    (λ last. rw last (came_agents_grown was c.requires.lawful.step (max was.ids.places c.next_count-living.result) (max was.agents.places agents) (max was.mail.places (c.thread_count-threads.result + agents)) (omega arith)))
-    (λ last. rw last (came_agents_grown was c.requires.lawful.step (max was.ids.places c.next_count-living.result) (max was.agents.places agents) was.mail.places (omega arith))))
+    (λ last. rw last (came_agents_grown was c.requires.lawful.step (max was.ids.places c.next_count-living.result)
+    (max was.agents.places agents) (max was.mail.places (c.thread_count-threads.result + agents)) (omega arith)))
+    (λ last. rw last (came_agents_grown was c.requires.lawful.step (max was.ids.places c.next_count-living.result)
+    (max was.agents.places agents) was.mail.places (omega arith))))
 
 pub returns-clause-ok : goal.returns-clause-ok
 returns-clause-ok c =

@@ -14,4 +14,5 @@ returns-in-Some-Agent c = sym (flags-under c.args.parts.now c.args.tid (Some kin
     (rw (← c.tid.view_is) (sym c.get.ensures.value ∙ ap option_copied c.in-Some-Agent.is ∙ ap (λ (k : Kind). Some k) c.in-Some-Agent.field-0-is)))
 
 pub returns-in-None : goal.returns-in-None
-returns-in-None c = sym (flags-under c.args.parts.now c.args.tid None c.get.ensures.rising (rw (← c.tid.view_is) (sym c.get.ensures.value ∙ ap option_copied c.in-None.is)))
+returns-in-None c = sym (flags-under c.args.parts.now c.args.tid None c.get.ensures.rising
+    (rw (← c.tid.view_is) (sym c.get.ensures.value ∙ ap option_copied c.in-None.is)))

@@ -14,8 +14,10 @@ loop-i-preserved c =
       | in-Thread+in_ok-push-in-Thread w ↦
           ap (λ ids. ids ++ numbers (rows_of p known (drop (c.loop-i.i + 1) living))) (w.list-is ∙ w.in_ok-push-in-Thread.ensures.ok)
           ∙ ap (λ n. (c.loop-i.list ++ n ∷ []) ++ numbers (rows_of p known (drop (c.loop-i.i + 1) living))) c.tid.view_is
-          ∙ listed-thread p known living c.loop-i.i c.nth_of-tid.result.0 c.nth_of-tid.result.1.now c.nth_of-tid.ensures _ w.in-Thread.is c.loop-i.list (numbers (state_of c.args.parts.now).threads) c.loop-i.invariant
+          ∙ listed-thread p known living c.loop-i.i c.nth_of-tid.result.0 c.nth_of-tid.result.1.now c.nth_of-tid.ensures _ w.in-Thread.is
+          c.loop-i.list (numbers (state_of c.args.parts.now).threads) c.loop-i.invariant
       | in-Agent w ↦
           ap (λ ids. ids ++ numbers (rows_of p known (drop (c.loop-i.i + 1) living))) w.list-is
-          ∙ listed-agent p known living c.loop-i.i c.nth_of-tid.result.0 c.nth_of-tid.result.1.now c.nth_of-tid.ensures w.in-Agent.is c.loop-i.list (numbers (state_of c.args.parts.now).threads) c.loop-i.invariant
+          ∙ listed-agent p known living c.loop-i.i c.nth_of-tid.result.0 c.nth_of-tid.result.1.now c.nth_of-tid.ensures w.in-Agent.is
+          c.loop-i.list (numbers (state_of c.args.parts.now).threads) c.loop-i.invariant
     ]

@@ -32,7 +32,10 @@ returns-clause-most c =
 
 pub returns-clause-ok : goal.returns-clause-ok
 returns-clause-ok c =
-    let comes : ComesTo c.args.parts.now c.match-call.parts c.args.effects.now c.match-call.effects (case_of (state_of c.args.parts.now) c.args.tid (condition_call c.args.call)) (option_map answer_by c.match-call.own) = elim c.match-call.branch [
+    let comes : ComesTo c.args.parts.now c.match-call.parts c.args.effects.now c.match-call.effects
+    (case_of (state_of c.args.parts.now) c.args.tid (condition_call c.args.call)) (option_map
+    answer_by c.match-call.own) =
+    elim c.match-call.branch [
       | in-Destroy w ↦ rw (w.parts-is, w.own-is, w.effects-is, w.in-Destroy.is) (ComesTo-said w.destroy.ensures c.args.effects.now)
       | in-Wait w ↦ rw (w.parts-is, w.own-is, w.effects-is, w.in-Wait.is) w.wait-own.ensures.comes
       | in-Notify w ↦ rw (w.parts-is, w.own-is, w.effects-is, w.in-Notify.is) (ComesTo-said w.notify.ensures.answers c.args.effects.now)

@@ -27,7 +27,10 @@ returns-clause-most c =
 
 pub returns-clause-ok : goal.returns-clause-ok
 returns-clause-ok c =
-    let comes : ComesTo c.args.parts.now c.match-call.parts c.args.effects.now c.match-call.effects (case_of (state_of c.args.parts.now) c.args.tid (message_call c.args.call.now)) (option_map answer_by c.match-call.own) = elim c.match-call.branch [
+    let comes : ComesTo c.args.parts.now c.match-call.parts c.args.effects.now c.match-call.effects
+    (case_of (state_of c.args.parts.now) c.args.tid (message_call c.args.call.now)) (option_map
+    answer_by c.match-call.own) =
+    elim c.match-call.branch [
       | in-Send w ↦ rw (w.parts-is, w.own-is, w.effects-is, w.in-Send.is) w.send-own.ensures.comes
       | in-Reply w ↦ rw (w.parts-is, w.own-is, w.effects-is, w.in-Reply.is) (ComesTo-answers w.reply.ensures.answers)
     ] in

@@ -16,12 +16,14 @@ use Rattle.std.proofs.Common.{ap, arith, false, length, refl, sym, ◌∙◌}
 pub returns-in_default-clause-comes : goal.returns-in_default-clause-comes
 returns-in_default-clause-comes c =
     let absent = mapped-absent _ (thread_of (state_of c.args.parts.now) c.args.to) (sym c.receiver.ensures ∙ c.in_default.is) in
-    ComesTo-answers (answers_refused c.args.parts.now c.args.effects.now _ error.NonExist c.requires.lawful.step (send-absent (state_of c.args.parts.now) c.args.caller c.args.to c.args.room c.args.text.now absent))
+    ComesTo-answers (answers_refused c.args.parts.now c.args.effects.now _ error.NonExist c.requires.lawful.step
+    (send-absent (state_of c.args.parts.now) c.args.caller c.args.to c.args.room c.args.text.now absent))
 
 pub returns-then-eq-clause-comes : goal.returns-then-eq-clause-comes
 returns-then-eq-clause-comes c =
     let there = mapped-there _ (thread_of (state_of c.args.parts.now) c.args.to) c.in-Some.received (sym c.receiver.ensures ∙ c.in-Some.is) in
-    ComesTo-answers (answers_refused c.args.parts.now c.args.effects.now _ error.InvalidArg c.requires.lawful.step (send-self (state_of c.args.parts.now) c.args.caller c.args.to c.args.room c.args.text.now there (sym c.if-eq.ensures)))
+    ComesTo-answers (answers_refused c.args.parts.now c.args.effects.now _ error.InvalidArg c.requires.lawful.step
+    (send-self (state_of c.args.parts.now) c.args.caller c.args.to c.args.room c.args.text.now there (sym c.if-eq.ensures)))
 
 pub put-requires-clause-known : goal.put-requires-clause-known
 put-requires-clause-known c =
@@ -54,4 +56,8 @@ returns-clause-comes c =
     let there = ap (λ (s : State). post letter s) c.block.ensures.state in
     let lives = mapped-there _ (thread_of (state_of c.args.parts.now) c.args.to) c.in-Some.received (sym c.receiver.ensures ∙ c.in-Some.is) in
     rw (send-made (state_of c.args.parts.now) c.args.caller c.args.to c.args.room c.args.text.now lives (sym c.if-eq.ensures))
-    (record { came = came_as c.args.parts.now c.block.new.parts c.put.new.parts c.args.effects.now c.put.new.effects _ _ (rw c.again.ensures at c.put.ensures) c.block.ensures.dying (sym there); own = refl })
+    (record {
+      came = came_as c.args.parts.now c.block.new.parts c.put.new.parts c.args.effects.now c.put.new.effects _ _
+          (rw c.again.ensures at c.put.ensures) c.block.ensures.dying (sym there);
+      own = refl;
+    })

@@ -33,7 +33,10 @@ returns-clause-most c =
 
 pub returns-clause-ok : goal.returns-clause-ok
 returns-clause-ok c =
-    let comes : ComesTo c.args.parts.now c.match-call.parts c.args.effects.now c.match-call.effects (case_of (state_of c.args.parts.now) c.args.tid (monitor_call c.args.call)) (option_map answer_by c.match-call.own) = elim c.match-call.branch [
+    let comes : ComesTo c.args.parts.now c.match-call.parts c.args.effects.now c.match-call.effects
+    (case_of (state_of c.args.parts.now) c.args.tid (monitor_call c.args.call)) (option_map
+    answer_by c.match-call.own) =
+    elim c.match-call.branch [
       | in-Destroy w ↦ rw (w.parts-is, w.own-is, w.effects-is, w.in-Destroy.is) (ComesTo-said w.destroy.ensures c.args.effects.now)
       | in-Enter w ↦ rw (w.parts-is, w.own-is, w.effects-is, w.in-Enter.is) (ComesTo-quiet w.enter-own.ensures c.args.effects.now)
       | in-CondEnter w ↦ rw (w.parts-is, w.own-is, w.effects-is, w.in-CondEnter.is) (ComesTo-said w.cond_enter.ensures c.args.effects.now)

@@ -13,25 +13,31 @@ use Rattle.monitors.specs.MonitorTable as mon
 use Rattle.std.proofs.Common.{[], false, refl, sym, true, ◌∙◌}
 
 pub returns-then-not-is_live : goal.returns-then-not-is_live
-returns-then-not-is_live c = answers_refused c.args.parts.now [] _ error.NonExist c.requires.lawful.step (destroy-absent (state_of c.args.parts.now) c.args.mon (sym c.if-not-is_live.ensures))
+returns-then-not-is_live c = answers_refused c.args.parts.now [] _ error.NonExist c.requires.lawful.step
+    (destroy-absent (state_of c.args.parts.now) c.args.mon (sym c.if-not-is_live.ensures))
 
 pub returns-then-is_some : goal.returns-then-is_some
 returns-then-is_some c = answers_refused c.args.parts.now [] _ error.InUse c.requires.lawful.step
-    (destroy-held (state_of c.args.parts.now) c.args.mon (sym c.if-not-is_live.ensures) (lock-some (lock_of c.args.parts.now.mons.locks c.args.mon) true c.owner.result c.owner.ensures (sym c.if-is_some.ensures)))
+    (destroy-held (state_of c.args.parts.now) c.args.mon (sym c.if-not-is_live.ensures)
+    (lock-some (lock_of c.args.parts.now.mons.locks c.args.mon) true c.owner.result c.owner.ensures (sym c.if-is_some.ensures)))
 
 pub returns-then-waited_of : goal.returns-then-waited_of
 returns-then-waited_of c = answers_refused c.args.parts.now [] _ error.InUse c.requires.lawful.step
-    (destroy-waited (state_of c.args.parts.now) c.args.mon (sym c.if-not-is_live.ensures) (lock-some (lock_of c.args.parts.now.mons.locks c.args.mon) false c.owner.result c.owner.ensures (sym c.if-is_some.ensures))
+    (destroy-waited (state_of c.args.parts.now) c.args.mon (sym c.if-not-is_live.ensures)
+    (lock-some (lock_of c.args.parts.now.mons.locks c.args.mon) false c.owner.result c.owner.ensures (sym c.if-is_some.ensures))
     (has_waits_agrees c.args.parts.now.conds (state_of c.args.parts.now) c.args.mon ∙ sym c.if-waited_of.ensures))
 
 pub destroy-requires-clause-unwanted : goal.destroy-requires-clause-unwanted
-destroy-requires-clause-unwanted c = unwanted c.args.parts.now c.requires.lawful c.args.mon (lock-gone _ (lock-some (lock_of c.args.parts.now.mons.locks c.args.mon) false c.owner.result c.owner.ensures (sym c.if-is_some.ensures)))
+destroy-requires-clause-unwanted c = unwanted c.args.parts.now c.requires.lawful c.args.mon
+    (lock-gone _ (lock-some (lock_of c.args.parts.now.mons.locks c.args.mon) false c.owner.result c.owner.ensures (sym c.if-is_some.ensures)))
 
 pub returns : goal.returns
 returns c = rw (c.destroy.ensures, c.destroy_of.ensures) (Answers-is
-    (destroy-idle (state_of c.args.parts.now) c.args.mon (sym c.if-not-is_live.ensures) (lock-some (lock_of c.args.parts.now.mons.locks c.args.mon) false c.owner.result c.owner.ensures (sym c.if-is_some.ensures))
+    (destroy-idle (state_of c.args.parts.now) c.args.mon (sym c.if-not-is_live.ensures)
+    (lock-some (lock_of c.args.parts.now.mons.locks c.args.mon) false c.owner.result c.owner.ensures (sym c.if-is_some.ensures))
     (has_waits_agrees c.args.parts.now.conds (state_of c.args.parts.now) c.args.mon ∙ sym c.if-waited_of.ensures))
     (InStep-conditions (record c.args.parts.now { mons = mon.after_destroy c.args.parts.now.mons c.args.mon })
-    (InStep-monitors c.args.parts.now c.requires.lawful.step (mon.after_destroy c.args.parts.now.mons c.args.mon) c.requires.lawful.step.ranked.requests refl refl)
+    (InStep-monitors c.args.parts.now c.requires.lawful.step (mon.after_destroy c.args.parts.now.mons c.args.mon)
+    c.requires.lawful.step.ranked.requests refl refl)
     (cond.after_destroy_of c.args.parts.now.conds c.args.mon) c.requires.lawful.step.ranked.waits refl refl)
     refl)

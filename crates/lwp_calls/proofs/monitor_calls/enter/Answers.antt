@@ -12,10 +12,13 @@ use Rattle.monitors.proofs.Machine.{waits_agree}
 use Rattle.std.proofs.Common.{ap, refl, sym, ◌∙◌, ◌≡◌}
 
 pub returns-then-not-is_live : goal.returns-then-not-is_live
-returns-then-not-is_live c = ComesTo-is (enter-absent (state_of c.args.parts.now) c.args.caller c.args.mon (sym c.if-not-is_live.ensures)) c.requires.lawful.step refl
+returns-then-not-is_live c =
+    ComesTo-is (enter-absent (state_of c.args.parts.now) c.args.caller c.args.mon (sym c.if-not-is_live.ensures)) c.requires.lawful.step refl
 
 pub returns-then-not-is_others : goal.returns-then-not-is_others
-returns-then-not-is_others c = rw (enter-own (state_of c.args.parts.now) c.args.caller c.args.mon (sym c.if-not-is_live.ensures) (sym c.if-not-is_others.ensures)) (ComesTo-answers c.go_in.ensures)
+returns-then-not-is_others c =
+    rw (enter-own (state_of c.args.parts.now) c.args.caller c.args.mon (sym c.if-not-is_live.ensures) (sym c.if-not-is_others.ensures))
+    (ComesTo-answers c.go_in.ensures)
 
 pub request-requires-clause-waits_nowhere : goal.request-requires-clause-waits_nowhere
 request-requires-clause-waits_nowhere c = asks_nowhere c.args.parts.now c.requires.lawful c.args.caller c.requires.may_run
@@ -25,7 +28,9 @@ request-requires-clause-room c = asks_room c.args.parts.now c.requires.lawful c.
 
 pub returns : goal.returns
 returns c =
-    let is : enter (state_of c.args.parts.now) c.args.caller c.args.mon ≡ silent_case (still (after_block (state_of (record c.args.parts.now { mons = c.request.new.self })) c.args.caller (block.Entering c.args.mon))) =
+    let is : enter (state_of c.args.parts.now) c.args.caller c.args.mon
+    ≡ silent_case (still (after_block (state_of (record c.args.parts.now { mons = c.request.new.self })) c.args.caller (block.Entering c.args.mon))) =
     rw c.request.ensures (enter-other (state_of c.args.parts.now) c.args.caller c.args.mon (sym c.if-not-is_live.ensures) (sym c.if-not-is_others.ensures)
-    ∙ ap (λ (s : State). silent_case (still s)) (waits_agree c.args.parts.now.mons (state_of c.args.parts.now) c.args.caller c.args.mon c.prio_of-prio.result)) in
+    ∙ ap (λ (s : State). silent_case (still s))
+    (waits_agree c.args.parts.now.mons (state_of c.args.parts.now) c.args.caller c.args.mon c.prio_of-prio.result)) in
     rw is (record { came = came_as _ _ _ _ _ _ _ c.block.ensures refl refl; own = refl })

@@ -12,10 +12,14 @@ use Rattle.std.proofs.Common.{[], arith, of_z, pos, refl, rules, to_z, w64, ◌�
 
 pub returns-then-depth-ge-MOST_DEPTH : goal.returns-then-depth-ge-MOST_DEPTH
 returns-then-depth-ge-MOST_DEPTH c = answers_refused c.args.parts.now [] _ error.NoRoom c.requires.step
-    (in-deep (state_of c.args.parts.now) c.args.tid c.args.mon (deepest-is (state_of c.args.parts.now) c.args.tid c.args.mon c.requires.open ∙ le-true 65535 (depth_in c.args.parts.now.mons.locks c.args.mon) (omega (arith, c.depth.ensures, c.if-depth-ge-MOST_DEPTH.true))))
+    (in-deep (state_of c.args.parts.now) c.args.tid c.args.mon (deepest-is (state_of c.args.parts.now) c.args.tid c.args.mon c.requires.open
+    ∙ le-true 65535 (depth_in c.args.parts.now.mons.locks c.args.mon) (omega (arith, c.depth.ensures, c.if-depth-ge-MOST_DEPTH.true))))
 
 pub returns : goal.returns
 returns c =
     let same : to_z w64 (of_z w64 c.from.result) ≡ pos (depth_in c.args.parts.now.mons.locks c.args.mon) = search rules in
-    rw (c.enter.ensures.after, same) (Answers-is (in-once (state_of c.args.parts.now) c.args.tid c.args.mon (deepest-is (state_of c.args.parts.now) c.args.tid c.args.mon c.requires.open ∙ le-false 65535 (depth_in c.args.parts.now.mons.locks c.args.mon) (omega (arith, c.depth.ensures, c.if-depth-ge-MOST_DEPTH.false))))
-    (InStep-monitors c.args.parts.now c.requires.step (mon.after_enter c.args.parts.now.mons c.args.tid c.args.mon) c.requires.step.ranked.requests refl refl) refl)
+    rw (c.enter.ensures.after, same)
+    (Answers-is (in-once (state_of c.args.parts.now) c.args.tid c.args.mon (deepest-is (state_of c.args.parts.now) c.args.tid c.args.mon c.requires.open
+    ∙ le-false 65535 (depth_in c.args.parts.now.mons.locks c.args.mon) (omega (arith, c.depth.ensures, c.if-depth-ge-MOST_DEPTH.false))))
+    (InStep-monitors c.args.parts.now c.requires.step (mon.after_enter c.args.parts.now.mons c.args.tid c.args.mon) c.requires.step.ranked.requests refl refl)
+    refl)

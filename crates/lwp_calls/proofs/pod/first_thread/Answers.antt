@@ -10,14 +10,38 @@ use Rattle.std.proofs.Common.{arith, eqb, refl, ◌≡◌}
 pub returns-clause-state : goal.returns-clause-state
 returns-clause-state c =
     let born : c.insert.new.self ≡ after_insert c.reserve.new.self (kind.Thread c.in_ok-first.first) =
-    on_ok c.insert.result (c.insert.new.self ≡ after_insert c.reserve.new.self (kind.Thread c.in_ok-first.first)) c.insert.ensures.ok (λ e. let full = (rw (c.in-Ok.ensures.ok, c.requires.empty) at c.insert.ensures.at_limit.0 e) in omega (arith, full, c.requires.births)) in
-    rw (born, c.admit.ensures, c.in-Ok.ensures.ok, c.in_ok-reserve.ensures.ok, c.in_ok-reserve-2.ensures.ok, c.in_ok-reserve-3.ensures.ok, c.in_ok-reserve-4.ensures.ok, c.in_ok-first.ensures, c.requires.empty) refl
+    on_ok c.insert.result (c.insert.new.self ≡ after_insert c.reserve.new.self (kind.Thread c.in_ok-first.first)) c.insert.ensures.ok (λ e.
+    let full = (rw (c.in-Ok.ensures.ok, c.requires.empty) at c.insert.ensures.at_limit.0 e) in omega (arith, full, c.requires.births)) in
+    rw (
+      born,
+      c.admit.ensures,
+      c.in-Ok.ensures.ok,
+      c.in_ok-reserve.ensures.ok,
+      c.in_ok-reserve-2.ensures.ok,
+      c.in_ok-reserve-3.ensures.ok,
+      c.in_ok-reserve-4.ensures.ok,
+      c.in_ok-first.ensures,
+      c.requires.empty,
+    )
+    refl
 
 pub returns-clause-step : goal.returns-clause-step
 returns-clause-step c =
     let born : c.insert.new.self ≡ after_insert c.reserve.new.self (kind.Thread c.in_ok-first.first) =
-    on_ok c.insert.result (c.insert.new.self ≡ after_insert c.reserve.new.self (kind.Thread c.in_ok-first.first)) c.insert.ensures.ok (λ e. let full = (rw (c.in-Ok.ensures.ok, c.requires.empty) at c.insert.ensures.at_limit.0 e) in omega (arith, full, c.requires.births)) in
-    rw (born, c.admit.ensures, c.in-Ok.ensures.ok, c.in_ok-reserve.ensures.ok, c.in_ok-reserve-2.ensures.ok, c.in_ok-reserve-3.ensures.ok, c.in_ok-reserve-4.ensures.ok, c.in_ok-first.ensures, c.requires.empty) (record {
+    on_ok c.insert.result (c.insert.new.self ≡ after_insert c.reserve.new.self (kind.Thread c.in_ok-first.first)) c.insert.ensures.ok (λ e.
+    let full = (rw (c.in-Ok.ensures.ok, c.requires.empty) at c.insert.ensures.at_limit.0 e) in omega (arith, full, c.requires.births)) in
+    rw (
+      born,
+      c.admit.ensures,
+      c.in-Ok.ensures.ok,
+      c.in_ok-reserve.ensures.ok,
+      c.in_ok-reserve-2.ensures.ok,
+      c.in_ok-reserve-3.ensures.ok,
+      c.in_ok-reserve-4.ensures.ok,
+      c.in_ok-first.ensures,
+      c.requires.empty,
+    )
+    (record {
       tied = record { known = λ u. first-known (eqb 0 u) _ _; waits = λ u. first-waits (λ (k : Known). k.blocked) waits (eqb 0 u) _ _ refl refl };
       ranked = record { requests = tt; waits = tt };
       roomy = record { letters = omega arith; threads = omega arith; requests = omega arith; waits = omega arith };

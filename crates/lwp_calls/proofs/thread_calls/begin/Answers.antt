@@ -12,5 +12,8 @@ admit-requires-clause-new c = rw c.births-number.ensures.value (unknown c.args.p
 pub returns-clause-came : goal.returns-clause-came
 returns-clause-came c =
     let born : c.insert.new.self ≡ after_insert c.args.parts.now.ids (kind.Thread (record { flags = c.args.flags; block = block.Not; stack = c.args.stack })) =
-    on_ok c.insert.result (c.insert.new.self ≡ after_insert c.args.parts.now.ids (kind.Thread (record { flags = c.args.flags; block = block.Not; stack = c.args.stack }))) c.insert.ensures.ok (λ e. omega (arith, c.insert.ensures.at_limit.0 e, c.requires.births)) in
-    rw (born, c.admit.ensures, c.requires.frame, c.births-number.ensures.value) (came_begun c.args.parts.now c.requires.lawful c.requires.alone c.args.prio c.args.flags c.births-number.ensures.born c.requires.places)
+    on_ok c.insert.result (c.insert.new.self
+    ≡ after_insert c.args.parts.now.ids (kind.Thread (record { flags = c.args.flags; block = block.Not; stack = c.args.stack })))
+    c.insert.ensures.ok (λ e. omega (arith, c.insert.ensures.at_limit.0 e, c.requires.births)) in
+    rw (born, c.admit.ensures, c.requires.frame, c.births-number.ensures.value)
+    (came_begun c.args.parts.now c.requires.lawful c.requires.alone c.args.prio c.args.flags c.births-number.ensures.born c.requires.places)

@@ -30,7 +30,10 @@ returns-clause-most c =
 
 pub returns-clause-ok : goal.returns-clause-ok
 returns-clause-ok c =
-    let comes : ComesTo c.args.parts.now c.match-call.parts c.args.effects.now c.match-call.effects (case_of (state_of c.args.parts.now) c.args.tid (thread_call c.args.call)) (option_map answer_by c.match-call.own) = elim c.match-call.branch [
+    let comes : ComesTo c.args.parts.now c.match-call.parts c.args.effects.now c.match-call.effects
+    (case_of (state_of c.args.parts.now) c.args.tid (thread_call c.args.call)) (option_map
+    answer_by c.match-call.own) =
+    elim c.match-call.branch [
       | in-Destroy w ↦ rw (w.parts-is, w.own-is, w.effects-is, w.in-Destroy.is) w.destroy-own.ensures.comes
       | in-Ping w ↦ rw (w.parts-is, w.own-is, w.effects-is, w.in-Ping.is) (ComesTo-said w.ping.ensures c.args.effects.now)
       | in-Join w ↦ rw (w.parts-is, w.own-is, w.effects-is, w.in-Join.is) (ComesTo-quiet w.join-own.ensures c.args.effects.now)
@@ -39,4 +42,5 @@ returns-clause-ok c =
     told-behind comes c.args.tid c.done_now.ensures
 
 pub returns-in-Create : goal.returns-in-Create
-returns-in-Create c = rw c.in-Create.is (record { ok = c.create.ensures.ok; most = omega (arith, c.create.ensures.most); err = c.create.ensures.err; memory = λ e. refl })
+returns-in-Create c = rw c.in-Create.is
+    (record { ok = c.create.ensures.ok; most = omega (arith, c.create.ensures.most); err = c.create.ensures.err; memory = λ e. refl })

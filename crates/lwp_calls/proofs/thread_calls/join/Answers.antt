@@ -19,5 +19,7 @@ returns-then-eq c = ComesTo-is (rw (sym c.if-not-is_thread.ensures, sym c.if-eq.
 pub returns : goal.returns
 unfolding unless
 returns c =
-    let is : join (state_of c.args.parts.now) c.args.caller c.args.tid ≡ silent_case (still (after_block (state_of c.args.parts.now) c.args.caller (block.Joining c.args.tid))) = rw (sym c.if-not-is_thread.ensures, sym c.if-eq.ensures) refl in
+    let is : join (state_of c.args.parts.now) c.args.caller c.args.tid
+    ≡ silent_case (still (after_block (state_of c.args.parts.now) c.args.caller (block.Joining c.args.tid))) =
+    rw (sym c.if-not-is_thread.ensures, sym c.if-eq.ensures) refl in
     rw is (record { came = c.block.ensures; own = refl })

@@ -16,4 +16,5 @@ pub returns : goal.returns
 unfolding unless
 returns c =
     let known = known-same c.args.parts.now c.requires.step.tied c.requires.alone c.args.tid ∙ sym c.if-not-is_thread.ensures in
-    rw c.suspend.ensures (Answers-is (rw (sym c.if-not-is_thread.ensures, suspended-is c.args.parts.now c.args.tid known) refl) (InStep-suspended c.args.parts.now c.args.tid c.requires.step known) refl)
+    rw c.suspend.ensures (Answers-is (rw (sym c.if-not-is_thread.ensures, suspended-is c.args.parts.now c.args.tid known) refl)
+    (InStep-suspended c.args.parts.now c.args.tid c.requires.step known) refl)

@@ -20,5 +20,12 @@ pub returns-then-eq : goal.returns-then-eq
 unfolding unless
 returns-then-eq c =
     let living : is_thread (state_of c.args.parts.now) c.args.caller ≡ true = lives (state_of c.args.parts.now) c.args.caller c.requires.may_run in
-    rw c.yield_to.ensures (Answers-is (rw (eqb-true c.args.to c.args.caller (sym c.eq.ensures ∙ c.if-eq.true), living, eq-eqb (priority_in (state_of c.args.parts.now) c.args.caller) _ refl, c.requires.may_run) refl)
-    (InStep-levels c.args.parts.now c.requires.step (after_yield c.args.parts.now.sched c.args.caller c.args.caller).order c.args.parts.now.sched.maxpri c.args.parts.now.exit c.args.parts.now.ended) refl)
+    rw c.yield_to.ensures (Answers-is (rw (
+      eqb-true c.args.to c.args.caller (sym c.eq.ensures ∙ c.if-eq.true),
+      living,
+      eq-eqb (priority_in (state_of c.args.parts.now) c.args.caller) _ refl,
+      c.requires.may_run,
+    ) refl)
+    (InStep-levels c.args.parts.now c.requires.step (after_yield c.args.parts.now.sched c.args.caller c.args.caller).order
+    c.args.parts.now.sched.maxpri c.args.parts.now.exit c.args.parts.now.ended)
+    refl)

@@ -14,11 +14,15 @@ run_to-requires-clause-due c = c.in_ok-stop.ensures.last.made
 
 pub returns-then-differs_within : goal.returns-then-differs_within
 returns-then-differs_within c =
-    found-verdict c.args.script.now c.args.recorded.now c.args.lines 100000 c.in_ok-told.told refl c.in_ok-told.ensures (sym c.differs_within.ensures ∙ c.if-differs_within.true)
+    found-verdict c.args.script.now c.args.recorded.now c.args.lines 100000 c.in_ok-told.told refl c.in_ok-told.ensures
+    (sym c.differs_within.ensures ∙ c.if-differs_within.true)
 
 pub returns : goal.returns
 returns c =
-    found-state c.args.script.now c.args.recorded.now c.args.lines 100000 c.in_ok-told.told c.in_ok-shown.shown (moment_at c.in_ok-told.told.taken c.in_ok-stop.stop.reach) refl c.in_ok-told.ensures
-    (sym c.differs_within.ensures ∙ c.if-differs_within.false) c.in_ok-stop.ensures.last c.in_ok-shown.ensures.end (c.in_ok-shown.ensures.takes ∙ c.in_ok-run.ensures.takes) (c.in_ok-shown.ensures.calls ∙ c.in_ok-run.ensures.calls)
-    (subst (λ k. IsStateOf (nat_lt k c.args.lines) c.args.script.now (moment_at c.in_ok-told.told.taken c.in_ok-stop.stop.reach).takes c.in_ok-stop.stop.reach.calls c.in_ok-shown.shown.text.items)
+    found-state c.args.script.now c.args.recorded.now c.args.lines 100000 c.in_ok-told.told c.in_ok-shown.shown
+    (moment_at c.in_ok-told.told.taken c.in_ok-stop.stop.reach) refl c.in_ok-told.ensures
+    (sym c.differs_within.ensures ∙ c.if-differs_within.false) c.in_ok-stop.ensures.last c.in_ok-shown.ensures.end
+    (c.in_ok-shown.ensures.takes ∙ c.in_ok-run.ensures.takes) (c.in_ok-shown.ensures.calls ∙ c.in_ok-run.ensures.calls)
+    (subst (λ k. IsStateOf (nat_lt k c.args.lines) c.args.script.now (moment_at c.in_ok-told.told.taken c.in_ok-stop.stop.reach).takes
+    c.in_ok-stop.stop.reach.calls c.in_ok-shown.shown.text.items)
     c.in_ok-stop.ensures.lines (rw (sym c.in_ok-run.ensures.takes, sym c.in_ok-run.ensures.calls) c.in_ok-shown.ensures.state))

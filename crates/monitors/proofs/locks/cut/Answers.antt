@@ -35,5 +35,6 @@ returns-clause-owners c =
     let links_cut = c.pop-2.ensures.rest ∙ ap (λ n. take n links) {y = c.args.slot} (omega (arith, end, was.linked.as_many)) in
     let below = ap (λ (l : Link). l.below) (rw c.deref.ensures.value at c.link_of-below.ensures) in
     rw (slots_cut, links_cut)
-    (owner_cut slots links c.args.slot end c.args.last.now c.relink.new.last c.args.owner was c.requires.has (rw (c.deref-2.ensures.value, slots_cut) at c.relink.ensures.owner)
+    (owner_cut slots links c.args.slot end c.args.last.now c.relink.new.last c.args.owner was c.requires.has
+    (rw (c.deref-2.ensures.value, slots_cut) at c.relink.ensures.owner)
     c.relink.ensures.others c.relink.ensures.fewer (λ none. c.relink.ensures.gone (below ∙ none)))

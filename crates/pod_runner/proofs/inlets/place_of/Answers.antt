@@ -11,5 +11,6 @@ pub loop-i-preserved : goal.loop-i-preserved
 loop-i-preserved g c =
     let is : slice_index_or c.args.inlets.now c.loop-i.i c.index-inlets-i.result ≡ c.index-inlets-i.result = search rules in (
       search rules,
-      below-more g.I.Inlet.intake c.args.inlets.now c.args.from c.loop-i.i c.args.event c.index-inlets-i.result (search rules) is (search rules) c.loop-i.invariant.1,
+      below-more g.I.Inlet.intake c.args.inlets.now c.args.from c.loop-i.i c.args.event c.index-inlets-i.result (search rules) is
+          (search rules) c.loop-i.invariant.1,
     )

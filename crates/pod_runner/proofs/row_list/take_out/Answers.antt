@@ -5,7 +5,8 @@ use Rattle.pod_runner.proofs.row_list.take_out.Goals as goal
 pub returns-then-i-len-clause-after : goal.returns-then-i-len-clause-after
 returns-then-i-len-clause-after g c =
     let last : c.args.i + 1 ≡ length c.args.rows.now.items = search rules in
-    c.truncate.ensures.items ∙ sym (remove_last c.args.rows.now.items c.args.i last) ∙ sym (without_row_at c.args.tid c.args.rows.now.items c.args.i c.requires.at c.requires.within)
+    c.truncate.ensures.items ∙ sym (remove_last c.args.rows.now.items c.args.i last)
+    ∙ sym (without_row_at c.args.tid c.args.rows.now.items c.args.i c.requires.at c.requires.within)
 
 pub returns-then-i-len-clause-rising : goal.returns-then-i-len-clause-rising
 returns-then-i-len-clause-rising g c = λ up.

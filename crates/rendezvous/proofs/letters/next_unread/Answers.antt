@@ -8,7 +8,8 @@ returns-in_default c = rw c.in_default.is (c.first_unread.ensures c.args.slots.n
 pub returns-in_err-slot : goal.returns-in_err-slot
 returns-in_err-slot c =
     rw (c.in-Some.is, c.from_residual.ensures)
-    (none_open c.args.slots.now.items c.requires.once c.args.to c.in-Some.sender (absent c.args.slots.now.items c.args.directory.now c.in-Some.sender c.requires.filed (sym c.in_err-slot.ensures)))
+    (none_open c.args.slots.now.items c.requires.once c.args.to c.in-Some.sender
+    (absent c.args.slots.now.items c.args.directory.now c.in-Some.sender c.requires.filed (sym c.in_err-slot.ensures)))
 
 pub returns-then-is_unread_by : goal.returns-then-is_unread_by
 returns-then-is_unread_by c =

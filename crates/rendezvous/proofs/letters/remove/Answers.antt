@@ -7,7 +7,9 @@ take-requires-clause-there c = some_filed c.args.slots.now.items c.args.director
 
 pub returns-clause-tied : goal.returns-clause-tied
 returns-clause-tied c =
-    tied_removed c.args.slots.now.items c.args.directory.now _ c.requires.tied c.args.slot c.args.from c.requires.its _ c.empty.ensures.emptied c.take.new.self _ c.take.ensures.filed c.take.ensures.sound c.take.ensures.width c.empty.ensures.capacity
+    tied_removed c.args.slots.now.items c.args.directory.now _ c.requires.tied c.args.slot c.args.from c.requires.its _
+    c.empty.ensures.emptied c.take.new.self _ c.take.ensures.filed c.take.ensures.sound c.take.ensures.width c.empty.ensures.capacity
 
 pub returns-clause-letters : goal.returns-clause-letters
-returns-clause-letters c = letters_removed c.args.slots.now.items c.args.directory.now _ c.requires.tied c.args.slot c.args.from c.requires.its _ c.empty.ensures.emptied
+returns-clause-letters c =
+    letters_removed c.args.slots.now.items c.args.directory.now _ c.requires.tied c.args.slot c.args.from c.requires.its _ c.empty.ensures.emptied

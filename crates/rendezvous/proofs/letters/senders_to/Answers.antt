@@ -20,17 +20,20 @@ returns-in_default-next c =
 
 pub overflow_sub-key : goal.overflow_sub-key
 overflow_sub-key c =
-    let key = a_key c.args.directory.now.width (is_to c.args.to) c.args.slots.now.items c.loop-letter._letter c.in-Some-next.key (sym c.loop-letter.invariant.next ∙ c.in-Some-next.is) in
+    let key = a_key c.args.directory.now.width (is_to c.args.to) c.args.slots.now.items c.loop-letter._letter c.in-Some-next.key
+    (sym c.loop-letter.invariant.next ∙ c.in-Some-next.is) in
     omega (arith, key.is)
 
 pub sender_at-requires : goal.sender_at-requires
 sender_at-requires c =
-    let key = a_key c.args.directory.now.width (is_to c.args.to) c.args.slots.now.items c.loop-letter._letter c.in-Some-next.key (sym c.loop-letter.invariant.next ∙ c.in-Some-next.is) in
+    let key = a_key c.args.directory.now.width (is_to c.args.to) c.args.slots.now.items c.loop-letter._letter c.in-Some-next.key
+    (sym c.loop-letter.invariant.next ∙ c.in-Some-next.is) in
     omega (arith, key.is, key.within)
 
 pub behind-next-requires-clause-in_limit : goal.behind-next-requires-clause-in_limit
 behind-next-requires-clause-in_limit c =
-    let key = a_key c.args.directory.now.width (is_to c.args.to) c.args.slots.now.items c.loop-letter._letter c.in-Some-next.key (sym c.loop-letter.invariant.next ∙ c.in-Some-next.is) in
+    let key = a_key c.args.directory.now.width (is_to c.args.to) c.args.slots.now.items c.loop-letter._letter c.in-Some-next.key
+    (sym c.loop-letter.invariant.next ∙ c.in-Some-next.is) in
     omega (arith, key.is, key.within, c.requires.within, c.requires.sound.held_limit)
 
 pub loop-letter-preserved : goal.loop-letter-preserved
@@ -65,4 +68,5 @@ returns c =
     let was = c.loop-letter.invariant in
     let past : length slots ≤ c.loop-letter._letter = omega (arith, c.loop-letter-test.false, c.len-letter-end.ensures) in
     let few = few_keys d.width (is_to c.args.to) slots in
-    whole d.width c.args.to slots c.loop-letter._letter c.loop-letter.ids (none_past (keys_from d.width (is_to c.args.to) slots) c.loop-letter._letter (omega (arith, few, past))) was.ids
+    whole d.width c.args.to slots c.loop-letter._letter c.loop-letter.ids
+    (none_past (keys_from d.width (is_to c.args.to) slots) c.loop-letter._letter (omega (arith, few, past))) was.ids

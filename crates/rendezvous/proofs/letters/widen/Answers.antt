@@ -10,5 +10,13 @@ returns-clause-tied c = record {
   sound = c.file.ensures.sound;
   once = rw c.in_ok-reserve.ensures.items c.requires.tied.once;
   within = omega (arith, ap length c.in_ok-reserve.ensures.items, c.requires.tied.within, c.requires.more, c.file.ensures.width, c.in_ok-wider.ensures.width);
-  capacity_fit = omega (arith, c.in_ok-reserve.ensures.ok, ap length c.in_ok-reserve.ensures.items, c.requires.tied.within, c.requires.more, c.file.ensures.width, c.in_ok-wider.ensures.width);
+  capacity_fit = omega (
+    arith,
+    c.in_ok-reserve.ensures.ok,
+    ap length c.in_ok-reserve.ensures.items,
+    c.requires.tied.within,
+    c.requires.more,
+    c.file.ensures.width,
+    c.in_ok-wider.ensures.width,
+  );
 }

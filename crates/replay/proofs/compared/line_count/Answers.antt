@@ -17,4 +17,5 @@ pub overflow_add-result : goal.overflow_add-result
 overflow_add-result c = omega (arith, c.loop-i.invariant.1, count-front c.args.bytes.now c.loop-i.i, c.loop-i.invariant.0, c.from.ensures)
 
 pub returns : goal.returns
-returns c = count-rest c.args.bytes.now c.loop-i.i c.loop-i.lines c.from.result c.loop-i.invariant.0 c.loop-i.invariant.1 (c.from.ensures ∙ c.few_lines-2.ensures)
+returns c = count-rest c.args.bytes.now c.loop-i.i c.loop-i.lines c.from.result c.loop-i.invariant.0 c.loop-i.invariant.1
+    (c.from.ensures ∙ c.few_lines-2.ensures)

@@ -17,6 +17,9 @@ returns g c clients posts fit speaks here goes =
     let two = subst (λ (l : List ℕ). EndSays (end_text c.args.turns l c.args.halt.now) c.rest.result.now c.lines.result v) counts one in
     let three = subst (λ (t : ℕ). EndSays (end_text t (counts_in lines) c.args.halt.now) c.rest.result.now c.lines.result v) c.requires.turns two in
     let four = subst (λ (l : List ℕ). EndSays (end_text c.args.run.now.turns (counts_in lines) c.args.halt.now) l c.lines.result v) c.rest.ensures.rest three in
-    let five = subst (λ (n : ℕ). EndSays (end_text c.args.run.now.turns (counts_in lines) c.args.halt.now) (drop c.args.follower.now.at c.args.follower.now.recorded) n v) c.lines.ensures.same four in
+    let five = subst
+    (λ (n : ℕ). EndSays (end_text c.args.run.now.turns (counts_in lines) c.args.halt.now) (drop c.args.follower.now.at c.args.follower.now.recorded) n v)
+    c.lines.ensures.same four in
     subst (λ (n : ℕ). Says asked c.args.follower.now.recorded v c.args.run.now.takes n) (sym c.calls.ensures)
-    (walk-over asked c.args.follower.now.recorded fit speaks (moment_of c.args.run.now) lines c.args.follower.now.at c.args.follower.now.lines c.args.follower.now.ticks here goes.0 c.args.halt.now goes.1 goes.2 v five)
+    (walk-over asked c.args.follower.now.recorded fit speaks (moment_of c.args.run.now) lines c.args.follower.now.at
+    c.args.follower.now.lines c.args.follower.now.ticks here goes.0 c.args.halt.now goes.1 goes.2 v five)

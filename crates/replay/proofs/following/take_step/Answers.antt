@@ -16,20 +16,39 @@ returns-in-None g c = record {
       let p = moment_of c.args.run.now in
       let is : c.offer.new.self ≡ with_took c.args.run.now (event_in lines c.args.told.client) c.args.told.line =
       c.in-Ok.ensures.after ∙ ap (λ e. with_took c.args.run.now e c.args.told.line) c.event-event.ensures in
-      let by : ComparedBy c.offer.new.sink c.compare.new.follower None = subst (λ o. ComparedBy c.offer.new.sink c.compare.new.follower o) c.in-None.is c.in_ok-compare.ensures in
-      let wrote : Writes (Some (bytes_told c.args.follower.now)) (Some (bytes_told c.offer.new.sink)) (trace_of g.B.Body.next g.P.Program.bodies g.P.Program.proc_names c.args.run.now)
+      let by : ComparedBy c.offer.new.sink c.compare.new.follower None =
+      subst (λ o. ComparedBy c.offer.new.sink c.compare.new.follower o) c.in-None.is c.in_ok-compare.ensures in
+      let wrote : Writes (Some (bytes_told c.args.follower.now)) (Some (bytes_told c.offer.new.sink))
+      (trace_of g.B.Body.next g.P.Program.bodies g.P.Program.proc_names c.args.run.now)
       (trace_of g.B.Body.next g.P.Program.bodies g.P.Program.proc_names (with_took c.args.run.now (event_in lines c.args.told.client) c.args.told.line)) =
-      subst (λ (r : Played _). Writes (Some (bytes_told c.args.follower.now)) (Some (bytes_told c.offer.new.sink)) (trace_of g.B.Body.next g.P.Program.bodies g.P.Program.proc_names c.args.run.now) (trace_of g.B.Body.next g.P.Program.bodies g.P.Program.proc_names r)) is c.in-Ok.ensures.told.0 in
-      let kept = walk-keeps asked fit speaks p lines c.args.follower.now c.offer.new.sink here c.requires.clean (Some (event_in lines c.args.told.client, c.args.told.line)) wrote c.compare.new.follower by
+      subst
+      (λ (r : Played _). Writes (Some (bytes_told c.args.follower.now)) (Some (bytes_told c.offer.new.sink))
+      (trace_of g.B.Body.next g.P.Program.bodies g.P.Program.proc_names c.args.run.now)
+      (trace_of g.B.Body.next g.P.Program.bodies g.P.Program.proc_names r))
+      is c.in-Ok.ensures.told.0 in
+      let kept = walk-keeps asked fit speaks p lines c.args.follower.now c.offer.new.sink here c.requires.clean
+      (Some (event_in lines c.args.told.client, c.args.told.line)) wrote c.compare.new.follower by
       (take-told-one asked fit speaks p lines c.args.follower.now c.offer.new.sink here c.requires.clean c.args.told.client c.args.told.line c.requires.told) in
       let f2 = c.compare.new.follower in
       let f3 = c.count.new.self in
-      let counted : f3 ≡ record f2 { ticks = ticks_after (event_in lines c.args.told.client) f2.ticks } = c.count.ensures ∙ ap (λ e. record f2 { ticks = ticks_after e f2.ticks }) c.event-event.ensures in
+      let counted : f3
+      ≡ record f2 { ticks = ticks_after (event_in lines c.args.told.client) f2.ticks } = c.count.ensures
+      ∙ ap (λ e. record f2 { ticks = ticks_after e f2.ticks }) c.event-event.ensures in
       record {
-        going = subst (λ (f : Following). Going asked c.args.follower.now.recorded (moment_of c.offer.new.self) (g.C.Posted.lines c.take.new.self) f.at f.lines f.ticks) (sym counted)
-            (subst (λ (r : Played _). Going asked c.args.follower.now.recorded (moment_of r) (g.C.Posted.lines c.take.new.self) f2.at f2.lines (ticks_after (event_in lines c.args.told.client) f2.ticks)) (sym is)
-            (subst (λ ls. Going asked c.args.follower.now.recorded (moment_of (with_took c.args.run.now (event_in lines c.args.told.client) c.args.told.line)) ls f2.at f2.lines (ticks_after (event_in lines c.args.told.client) f2.ticks)) (sym c.take.ensures.taken)
-            (walk-take asked fit speaks p lines c.args.follower.now c.offer.new.sink here c.requires.clean c.args.told.client c.args.told.line c.requires.told wrote c.compare.new.follower by)));
+        going = subst
+            (λ (f : Following). Going asked c.args.follower.now.recorded (moment_of c.offer.new.self) (g.C.Posted.lines c.take.new.self) f.at f.lines f.ticks)
+            (sym counted)
+            (subst
+            (λ (r : Played _). Going asked c.args.follower.now.recorded (moment_of r) (g.C.Posted.lines c.take.new.self) f2.at f2.lines
+            (ticks_after (event_in lines c.args.told.client) f2.ticks))
+            (sym is)
+            (subst
+            (λ ls. Going asked c.args.follower.now.recorded
+            (moment_of (with_took c.args.run.now (event_in lines c.args.told.client) c.args.told.line)) ls f2.at f2.lines
+            (ticks_after (event_in lines c.args.told.client) f2.ticks))
+            (sym c.take.ensures.taken)
+            (walk-take asked fit speaks p lines c.args.follower.now c.offer.new.sink here c.requires.clean c.args.told.client
+            c.args.told.line c.requires.told wrote c.compare.new.follower by)));
         recorded = ap (λ (f : Following). f.recorded) c.count.ensures ∙ kept.0;
         clean = ap (λ (f : Following). f.step) c.count.ensures ∙ kept.1;
         further = omega (arith, kept.2, ap (λ (f : Following). f.at) c.count.ensures);
@@ -49,13 +68,20 @@ returns-in-Some g c = record {
       let p = moment_of c.args.run.now in
       let is : c.offer.new.self ≡ with_took c.args.run.now (event_in lines c.args.told.client) c.args.told.line =
       c.in-Ok.ensures.after ∙ ap (λ e. with_took c.args.run.now e c.args.told.line) c.event-event.ensures in
-      let by : ComparedBy c.offer.new.sink c.compare.new.follower (Some c.in-Some.difference) = subst (λ o. ComparedBy c.offer.new.sink c.compare.new.follower o) c.in-Some.is c.in_ok-compare.ensures in
-      let wrote : Writes (Some (bytes_told c.args.follower.now)) (Some (bytes_told c.offer.new.sink)) (trace_of g.B.Body.next g.P.Program.bodies g.P.Program.proc_names c.args.run.now)
+      let by : ComparedBy c.offer.new.sink c.compare.new.follower (Some c.in-Some.difference) =
+      subst (λ o. ComparedBy c.offer.new.sink c.compare.new.follower o) c.in-Some.is c.in_ok-compare.ensures in
+      let wrote : Writes (Some (bytes_told c.args.follower.now)) (Some (bytes_told c.offer.new.sink))
+      (trace_of g.B.Body.next g.P.Program.bodies g.P.Program.proc_names c.args.run.now)
       (trace_of g.B.Body.next g.P.Program.bodies g.P.Program.proc_names (with_took c.args.run.now (event_in lines c.args.told.client) c.args.told.line)) =
-      subst (λ (r : Played _). Writes (Some (bytes_told c.args.follower.now)) (Some (bytes_told c.offer.new.sink)) (trace_of g.B.Body.next g.P.Program.bodies g.P.Program.proc_names c.args.run.now) (trace_of g.B.Body.next g.P.Program.bodies g.P.Program.proc_names r)) is c.in-Ok.ensures.told.0 in
+      subst
+      (λ (r : Played _). Writes (Some (bytes_told c.args.follower.now)) (Some (bytes_told c.offer.new.sink))
+      (trace_of g.B.Body.next g.P.Program.bodies g.P.Program.proc_names c.args.run.now)
+      (trace_of g.B.Body.next g.P.Program.bodies g.P.Program.proc_names r))
+      is c.in-Ok.ensures.told.0 in
       subst (λ n. Says asked c.args.follower.now.recorded c.in-Some.difference.verdict c.offer.new.self.takes n) (sym c.calls.ensures)
       (subst (λ (r : Played _). Says asked c.args.follower.now.recorded c.in-Some.difference.verdict r.takes r.calls) (sym is)
-      (walk-take-differs asked fit speaks p lines c.args.follower.now c.offer.new.sink here c.requires.clean c.args.told.client c.args.told.line c.requires.told wrote c.in-Some.difference by.0));
+      (walk-take-differs asked fit speaks p lines c.args.follower.now c.offer.new.sink here c.requires.clean c.args.told.client
+      c.args.told.line c.requires.told wrote c.in-Some.difference by.0));
   same = search (rules, c.in-Ok.ensures.after);
   unfailed = ap (λ (r : Played _). r.failed) c.in-Ok.ensures.after ∙ c.requires.sound;
   posts = c.take.ensures.same;

@@ -6,4 +6,5 @@ use Rattle.replay.proofs.laws.every_recorded_take.Goals as goal
 
 pub returns : goal.returns
 returns g c asked fit peopled bytes n p rest here t next agree =
-    forced-take asked bytes fit (speaks asked peopled) n p rest here t next [] (subst (λ l. Agree 1 rest l) (sym (append-nil (told_line asked bytes p t))) agree)
+    forced-take asked bytes fit (speaks asked peopled) n p rest here t next []
+    (subst (λ l. Agree 1 rest l) (sym (append-nil (told_line asked bytes p t))) agree)

@@ -12,7 +12,8 @@ put_place-requires c =
     let i = c.loop-place.place - 1 in
     let low : i < length (lines_posted script) = omega (arith, c.loop-place-test.true, c.loop-place.invariant.1) in
     let there : i < length c.as_slice-posts.result.now = omega (arith, low, posts-long script c.as_slice-posts.result.now c.as_slice-posts.ensures) in
-    let own : (line_at (lines_posted script) i).client ≡ c.from.result = client-at script c.as_slice-posts.result.now i _ c.as_slice-posts.ensures there ∙ sym c.from.ensures in
+    let own : (line_at (lines_posted script) i).client
+    ≡ c.from.result = client-at script c.as_slice-posts.result.now i _ c.as_slice-posts.ensures there ∙ sym c.from.ensures in
     omega (arith, client-known script i c.requires low, own, c.loop-place.invariant.0)
 
 pub loop-place-preserved : goal.loop-place-preserved
@@ -21,7 +22,8 @@ loop-place-preserved c =
     let i = c.loop-place.place - 1 in
     let low : i < length (lines_posted script) = omega (arith, c.loop-place-test.true, c.loop-place.invariant.1) in
     let there : i < length c.as_slice-posts.result.now = omega (arith, low, posts-long script c.as_slice-posts.result.now c.as_slice-posts.ensures) in
-    let own : (line_at (lines_posted script) i).client ≡ c.from.result = client-at script c.as_slice-posts.result.now i _ c.as_slice-posts.ensures there ∙ sym c.from.ensures in
+    let own : (line_at (lines_posted script) i).client
+    ≡ c.from.result = client-at script c.as_slice-posts.result.now i _ c.as_slice-posts.ensures there ∙ sym c.from.ensures in
     let on : c.loop-place.place ≡ i + 1 = omega (arith, c.loop-place-test.true) in
     let all = c.loop-place.places.items in
     rw c.in_ok-put_place.ensures (

@@ -10,5 +10,23 @@ follow_recorded-requires g c =
     let left = subst (λ (posts : List Line). AreLeft c.in_ok-lines.lines.lines posts) (sym c.in_ok-lines.ensures.posts) c.in_ok-lines.ensures.left in
     λ k. (
       (refl, tt),
-      (within.least_priority, (within.most_priority, (within.least_births, (within.most_births, (omega (arith, c.procs.ensures, c.requires.procs), (c.requires.names, (left, (posted-fits _ c.args.script.now c.requires.posted c.in_ok-lines.ensures.clients c.in_ok-lines.ensures.posts, sym c.procs.ensures)))))))),
+      (
+        within.least_priority,
+        (
+          within.most_priority,
+          (
+            within.least_births,
+            (
+              within.most_births,
+              (
+                omega (arith, c.procs.ensures, c.requires.procs),
+                (
+                  c.requires.names,
+                  (left, (posted-fits _ c.args.script.now c.requires.posted c.in_ok-lines.ensures.clients c.in_ok-lines.ensures.posts, sym c.procs.ensures)),
+                ),
+              ),
+            ),
+          ),
+        ),
+      ),
     )

@@ -6,6 +6,10 @@ use Rattle.script_advice.proofs.ahead.looked_back.Goals as goal
 
 pub loop-front-preserved : goal.loop-front-preserved
 loop-front-preserved c = record {
-  kept = kept_step c.loop-front.kept.items c.note_line.new.kept.items c.loop-front.ahead c.note_line.new.ahead (line_cut c.loop-front.rest.now).0 (line_cut c.in-Some.front.now).0 c.in-Some.line.now (keeping no_ahead (line_cut c.args.text.now).0) c.loop-front.invariant.kept c.in-Some.ensures.some c.in_ok-note_line.ensures.ahead c.in_ok-note_line.ensures.kept;
-  habits = habits_step c.loop-front.habits c.note_line.new.habits (line_cut c.loop-front.rest.now).0 (line_cut c.in-Some.front.now).0 c.in-Some.line.now (habits_of no_habits (line_cut c.args.text.now).0) c.loop-front.invariant.habits c.in-Some.ensures.some c.in_ok-note_line.ensures.habits;
+  kept = kept_step c.loop-front.kept.items c.note_line.new.kept.items c.loop-front.ahead c.note_line.new.ahead
+      (line_cut c.loop-front.rest.now).0 (line_cut c.in-Some.front.now).0 c.in-Some.line.now (keeping no_ahead (line_cut c.args.text.now).0)
+      c.loop-front.invariant.kept c.in-Some.ensures.some c.in_ok-note_line.ensures.ahead c.in_ok-note_line.ensures.kept;
+  habits = habits_step c.loop-front.habits c.note_line.new.habits (line_cut c.loop-front.rest.now).0 (line_cut c.in-Some.front.now).0
+      c.in-Some.line.now (habits_of no_habits (line_cut c.args.text.now).0) c.loop-front.invariant.habits c.in-Some.ensures.some
+      c.in_ok-note_line.ensures.habits;
 }

@@ -13,6 +13,10 @@ loop-line-preserved c =
     let m = c.last_kept-keeps.ensures.last (keeping no_ahead lines) (keeps (ahead_of no_ahead lines) (phrase_at c.in-Some.line.now)) k in
     record {
       kept = c.last_kept-keeps.ensures.rest (keeping no_ahead lines) (keeps (ahead_of no_ahead lines) (phrase_at c.in-Some.line.now)) k;
-      told = walk_told c.args.format c.in_ok-sets.sets c.loop-line.walk.way c.in_ok-walk.walk.way c.loop-line.walk.number c.in_ok-walk.walk.number c.loop-line.walk.left c.in_ok-walk.walk.left _ c.in-Some.line.now lines _ _ _ _ e m c.in_ok-walk.ensures.way c.in_ok-walk.ensures.number c.in_ok-walk.ensures.told c.loop-line.invariant.told;
-      any = walk_any c.in_ok-sets.sets c.loop-line.walk.way c.in_ok-walk.walk.way c.loop-line.walk.number c.in_ok-walk.walk.number c.loop-line.walk.any c.in_ok-walk.walk.any _ c.in-Some.line.now lines _ _ e m c.in_ok-walk.ensures.way c.in_ok-walk.ensures.number c.in_ok-walk.ensures.any c.loop-line.invariant.any;
+      told = walk_told c.args.format c.in_ok-sets.sets c.loop-line.walk.way c.in_ok-walk.walk.way c.loop-line.walk.number
+          c.in_ok-walk.walk.number c.loop-line.walk.left c.in_ok-walk.walk.left _ c.in-Some.line.now lines _ _ _ _ e m
+          c.in_ok-walk.ensures.way c.in_ok-walk.ensures.number c.in_ok-walk.ensures.told c.loop-line.invariant.told;
+      any = walk_any c.in_ok-sets.sets c.loop-line.walk.way c.in_ok-walk.walk.way c.loop-line.walk.number c.in_ok-walk.walk.number
+          c.loop-line.walk.any c.in_ok-walk.walk.any _ c.in-Some.line.now lines _ _ e m c.in_ok-walk.ensures.way c.in_ok-walk.ensures.number
+          c.in_ok-walk.ensures.any c.loop-line.invariant.any;
     }

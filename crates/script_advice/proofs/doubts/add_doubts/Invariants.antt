@@ -8,7 +8,8 @@ use Rattle.script_advice.proofs.doubts.add_doubts.Given as goal
 abbrev pub invariant-loop-line : goal.invariant-loop-line
 invariant-loop-line l = record {
   kept : l.kept.items ≡ keeping no_ahead (line_cut l.rest).0;
-  told : l.out.items ++ remarks_text l.format (take l.walk.left (doubts_from l.sets l.walk.way l.walk.number (line_cut l.rest).0)) ≡ l.initial.out.items ++ remarks_text l.format (take 1000 (doubts l.text));
+  told : l.out.items ++ remarks_text l.format (take l.walk.left (doubts_from l.sets l.walk.way l.walk.number (line_cut l.rest).0))
+      ≡ l.initial.out.items ++ remarks_text l.format (take 1000 (doubts l.text));
   any : (l.walk.any || are_some (doubts_from l.sets l.walk.way l.walk.number (line_cut l.rest).0)) ≡ are_some (doubts l.text);
 }
 

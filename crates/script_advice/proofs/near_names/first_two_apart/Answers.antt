@@ -16,4 +16,6 @@ loop-place-preserved c =
 
 pub returns : goal.returns
 returns c =
-    rw (no_name_left 256 c.args.names.now c.loop-place.place (omega (arith, c.loop-place-test.false, c.min-place-end.ensures, c.len.ensures))) at c.loop-place.invariant
+    rw
+    (no_name_left 256 c.args.names.now c.loop-place.place (omega (arith, c.loop-place-test.false, c.min-place-end.ensures, c.len.ensures)))
+    at c.loop-place.invariant

@@ -10,7 +10,8 @@ use Rattle.script_lines.specs.Reading.{fill, phrase_at}
 use Rattle.script_lines.proofs.phrase.phrase_at.Goals as goal
 
 -- what a line says, by what its key was found to be: the key is cut where it ends, or where the line does
-said : (line : List ℕ) (n m : ℕ) (key : List ℕ) (x : Option Op) → n ≡ key_length line → m ≡ min n (length line) → key ≡ take m line → op_at key ≡ x → phrase_at line ≡ option_and_then (λ o. fill (slots_of o) (blank o) (drop m line)) x
+said : (line : List ℕ) (n m : ℕ) (key : List ℕ) (x : Option Op) → n ≡ key_length line → m ≡ min n (length line) → key ≡ take m line
+    → op_at key ≡ x → phrase_at line ≡ option_and_then (λ o. fill (slots_of o) (blank o) (drop m line)) x
 unfolding phrase_at
 said line n m key x long cut front found =
     let k = key_length line in
@@ -24,7 +25,8 @@ filled : (o : Op) (ks : List Kind) (b : Phrase) (rest r : List ℕ) → ks ≡ s
 filled o ks b rest r p q s = ap (λ l. fill l b r) p ∙ ap (λ v. fill (slots_of o) v r) q ∙ ap (fill (slots_of o) (blank o)) s
 
 pub returns-in_err-op : goal.returns-in_err-op
-returns-in_err-op c = c.from_residual.ensures ∙ sym (said c.args.line.now _ _ _ None c.key_length.ensures c.min.ensures c.split_at.ensures.front (sym c.at.ensures ∙ c.in_err-op.was))
+returns-in_err-op c = c.from_residual.ensures
+    ∙ sym (said c.args.line.now _ _ _ None c.key_length.ensures c.min.ensures c.split_at.ensures.front (sym c.at.ensures ∙ c.in_err-op.was))
 
 pub returns-in_err-fill : goal.returns-in_err-fill
 returns-in_err-fill c =

@@ -17,6 +17,8 @@ returns-then-is_empty-clause-every c (b ∷ bs) e none =
     let spelt = saying_is_spelt c.args.line.now b bs e in
     let whole : c.behind_say-text.result.now ≡ b ∷ bs = c.behind_say-text.ensures ∙ spelt.0 in
     elim c.then-is_empty.branch [
-      | then-is_empty-via-then-is_empty w ↦ absurd (let no : length c.behind_say-text.result.now ≡ 0 = eqb-true _ 0 (sym w.if-is_empty.ensures) in omega (arith, no, ap length whole))
-      | then-is_empty-via-else-is_empty+then-not-is_text w ↦ absurd (let no : true ≡ false = sym spelt.1 ∙ ap is_text (sym whole) ∙ sym w.is_text.ensures ∙ w.if-not-is_text.true in cc)
+      | then-is_empty-via-then-is_empty w
+          ↦ absurd (let no : length c.behind_say-text.result.now ≡ 0 = eqb-true _ 0 (sym w.if-is_empty.ensures) in omega (arith, no, ap length whole))
+      | then-is_empty-via-else-is_empty+then-not-is_text w
+          ↦ absurd (let no : true ≡ false = sym spelt.1 ∙ ap is_text (sym whole) ∙ sym w.is_text.ensures ∙ w.if-not-is_text.true in cc)
     ]

@@ -12,7 +12,9 @@ pub loop-step-preserved : goal.loop-step-preserved
 loop-step-preserved c = elim c.if-letter_of-letter.branch [
   | then-letter_of-letter w ↦ record {
     within = omega (arith, w.first-is, c.loop-step.invariant.within);
-    earlier = λ k d lt. earlier table_row 1 c.args.rows.now (c.loop-step.first + c.loop-step.step - 1) _ c.args.letter c.requires (omega (arith, c.loop-step.invariant.within)) (subst (λ v. v < c.args.letter) c.letter_of.ensures w.if-letter_of-letter.true) k d (omega (arith, lt, w.first-is));
+    earlier = λ k d lt. earlier table_row 1 c.args.rows.now (c.loop-step.first + c.loop-step.step - 1) _ c.args.letter c.requires
+        (omega (arith, c.loop-step.invariant.within)) (subst (λ v. v < c.args.letter) c.letter_of.ensures w.if-letter_of-letter.true) k d
+        (omega (arith, lt, w.first-is));
   }
   | else-letter_of-letter w ↦ record {
     within = omega (arith, w.first-is, c.loop-step.invariant.within);

@@ -10,7 +10,9 @@ use Rattle.script_printer.proofs.printing.print_script.Goals as goal
 pub returns : goal.returns
 returns c =
     let s = c.args.s.now in
-    let header = c.in_ok-add_line.ensures ∙ ap (λ (l : List ℕ). l ++ with_newline (phrase_text c.number_line.result)) c.new-out.ensures.items ∙ ap (λ (p : Phrase). with_newline (phrase_text p)) c.number_line.ensures in
+    let header = c.in_ok-add_line.ensures
+    ∙ ap (λ (l : List ℕ). l ++ with_newline (phrase_text c.number_line.result)) c.new-out.ensures.items
+    ∙ ap (λ (p : Phrase). with_newline (phrase_text p)) c.number_line.ensures in
     let pod = c.in_ok-add_line-2.ensures ∙ (λ i. header i ++ with_newline (phrase_text (c.number_line-2.ensures i))) in
     let limit = c.in_ok-add_limit.ensures ∙ ap (λ (l : List ℕ). l ++ spelling (limit_lines s.births)) pod in
     let clients = c.in_ok-add_clients.ensures ∙ (λ i. limit i ++ spelling (client_lines 0 (c.as_slice.ensures i))) in

@@ -11,4 +11,5 @@ loop-client-preserved c =
     ∙ map-append (λ v. v.items) c.loop-client.all.items (c.in_ok-texts_for.field-0 ∷ [])
     ∙ ap (λ ts. ts ++ c.in_ok-texts_for.field-0.items ∷ []) c.loop-client.invariant
     ∙ ap (λ ts. texts_from 0 (take c.loop-client.client c.args.script.now.clients) (lines_posted c.args.script.now) ++ ts ∷ []) c.in_ok-texts_for.ensures
-    ∙ sym (texts-next c.loop-client.client c.args.script.now.clients (lines_posted c.args.script.now) (omega (arith, c.loop-client-test.true, c.len-client-end.ensures)))
+    ∙ sym (texts-next c.loop-client.client c.args.script.now.clients (lines_posted c.args.script.now)
+    (omega (arith, c.loop-client-test.true, c.len-client-end.ensures)))

@@ -29,4 +29,6 @@ returns g c =
     let past = c.loop-event-test.false in
     let within = c.loop-event.auto.event-end in
     let last : c.loop-event.event ≡ 32 = omega (arith, past, within) in
-    subst (λ (e : ℕ). AreOpen c.args.events.now (map (λ v. v.items) c.args.texts.now) e (map any_intake c.loop-event.inlets.items) c.loop-event.seats.items) last c.loop-event.invariant
+    subst
+    (λ (e : ℕ). AreOpen c.args.events.now (map (λ v. v.items) c.args.texts.now) e (map any_intake c.loop-event.inlets.items) c.loop-event.seats.items)
+    last c.loop-event.invariant

@@ -13,7 +13,8 @@ pub returns-then-is_empty : goal.returns-then-is_empty
 returns-then-is_empty g c =
     let texts : List (List (List ℕ)) = map (λ v. v.items) c.args.texts.now in
     let size : length c.in_ok-clients.clients.items ≡ 0 = search rules in
-    open_nothing c.args.events.now texts c.args.event (map any_intake c.args.inlets.now.items) c.args.seats.now.items c.requires.before (sym c.in_ok-clients.ensures ∙ nil_from_length c.in_ok-clients.clients.items size)
+    open_nothing c.args.events.now texts c.args.event (map any_intake c.args.inlets.now.items) c.args.seats.now.items c.requires.before
+    (sym c.in_ok-clients.ensures ∙ nil_from_length c.in_ok-clients.clients.items size)
 
 pub open_inlet-requires-clause-distinct : goal.open_inlet-requires-clause-distinct
 open_inlet-requires-clause-distinct g c =
@@ -34,11 +35,13 @@ returns g c =
     let ok = c.args.inlets.now.ok.0 in
     let len = c.len.ensures in
     let index : c.len.result ≡ length before = omega (arith, len, ok, size) in
-    let is : t ≡ fresh t.place c.args.event (clients_of c.args.events.now c.args.event) = c.in_ok-inlet.ensures.inlet ∙ ap (fresh t.place c.args.event) clients in
+    let is : t
+    ≡ fresh t.place c.args.event (clients_of c.args.events.now c.args.event) = c.in_ok-inlet.ensures.inlet ∙ ap (fresh t.place c.args.event) clients in
     let lane = c.in_ok-inlet.ensures.lane ∙ ap (λ (cs : List ℕ). eqb (length cs) 1) clients in
     let seats : AreSeated texts (length before) t.place (clients_of c.args.events.now c.args.event) c.args.seats.now.items c.open_inlet.new.seats.items =
     subst (λ (i : ℕ). AreSeated texts i t.place (clients_of c.args.events.now c.args.event) c.args.seats.now.items c.open_inlet.new.seats.items) index
-    (subst (λ (cs : List ℕ). AreSeated texts c.len.result t.place cs c.args.seats.now.items c.open_inlet.new.seats.items) clients c.in_ok-inlet.ensures.seats) in
+    (subst (λ (cs : List ℕ). AreSeated texts c.len.result t.place cs c.args.seats.now.items c.open_inlet.new.seats.items) clients
+    c.in_ok-inlet.ensures.seats) in
     subst (λ (inlets : List Intake). AreOpen c.args.events.now texts (c.args.event + 1) inlets c.open_inlet.new.seats.items)
     (sym (ap (map any_intake) c.in_ok-push.ensures.items ∙ map-append any_intake c.args.inlets.now.items (c.in_ok-inlet.inlet ∷ [])))
     (open_more c.args.events.now texts c.args.event before t c.args.seats.now.items c.open_inlet.new.seats.items c.requires.before is lane seats)

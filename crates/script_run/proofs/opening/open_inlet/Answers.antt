@@ -8,7 +8,8 @@ open_for_one-requires-clause-texts g c = subst (All (λ b. b < length c.args.tex
 
 pub open_for_one-requires-clause-seats : goal.open_for_one-requires-clause-seats
 open_for_one-requires-clause-seats g c =
-    let texts : c.in-Some.client < length c.args.texts.now = subst (All (λ b. b < length c.args.texts.now)) c.in-Some.ensures c.requires.texts 0 0 (omega arith) in
+    let texts : c.in-Some.client
+    < length c.args.texts.now = subst (All (λ b. b < length c.args.texts.now)) c.in-Some.ensures c.requires.texts 0 0 (omega arith) in
     let seats = c.requires.seats in
     omega (arith, texts, seats)
 
@@ -34,4 +35,5 @@ pub returns-in-Some-clause-lane : goal.returns-in-Some-clause-lane
 returns-in-Some-clause-lane g c = rw c.in-Some.ensures c.open_for_one.ensures.lane
 
 pub returns-in_default-clause-lane : goal.returns-in_default-clause-lane
-returns-in_default-clause-lane g c = subst (λ (b : Bool). IfOk c.open_for_many.result (λ r. is_lane (any_intake r).place ≡ b)) (sym (ne_eqb (length c.args.clients.now) 1 c.in_default.ensures)) c.open_for_many.ensures.port
+returns-in_default-clause-lane g c = subst (λ (b : Bool). IfOk c.open_for_many.result (λ r. is_lane (any_intake r).place ≡ b))
+    (sym (ne_eqb (length c.args.clients.now) 1 c.in_default.ensures)) c.open_for_many.ensures.port

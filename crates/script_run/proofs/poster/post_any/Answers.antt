@@ -40,7 +40,9 @@ lane_tried : (p q : LanePosting) (texts : List (List ℕ)) → IsReady (lane_pla
     → lines_from p.client (length p.posted) texts ≡ lines_tried p.client texts (record { pass = Lane q; all = true })
 lane_tried p q texts ready is =
     let none : length p.posted ≡ 0 = ap length ready.posted_is in
-    let size : length q.posted ≡ length texts = ap (λ (r : LanePosting). length r.posted) is ∙ length-append p.posted (lines_from p.client (length p.posted) texts) ∙ (let m = length-lines_from p.client (length p.posted) texts in omega (arith, none, m)) in
+    let size : length q.posted
+    ≡ length texts = ap (λ (r : LanePosting). length r.posted) is ∙ length-append p.posted (lines_from p.client (length p.posted) texts)
+    ∙ (let m = length-lines_from p.client (length p.posted) texts in omega (arith, none, m)) in
     let all : take (length q.posted + 0) texts ≡ texts = take_all (length q.posted + 0) texts (omega (arith, size)) in
     λ k. lines_from p.client (none k) (sym all k)
 
@@ -64,9 +66,13 @@ returns-in-Port-clause-end g c =
 pub returns-in-Lane-clause-gate : goal.returns-in-Lane-clause-gate
 returns-in-Lane-clause-gate g c =
     let ready = rw c.in-Lane.is at c.requires in
-    rw c.in-Lane.is (c.lane_post_all.ensures.gate ∙ ap (after_asks g.G.PostGate.asked c.args.gate.now) (lane_tried c.in-Lane.poster c.lane_post_all.result c.args.texts.now ready c.lane_post_all.ensures.posts))
+    rw c.in-Lane.is (c.lane_post_all.ensures.gate
+    ∙ ap (after_asks g.G.PostGate.asked c.args.gate.now)
+    (lane_tried c.in-Lane.poster c.lane_post_all.result c.args.texts.now ready c.lane_post_all.ensures.posts))
 
 pub returns-in-Port-clause-gate : goal.returns-in-Port-clause-gate
 returns-in-Port-clause-gate g c =
     let ready = rw c.in-Port.is at c.requires in
-    rw c.in-Port.is (c.post_all-pass.ensures.gate ∙ ap (after_asks g.G.PostGate.asked c.args.gate.now) (port_tried c.in-Port.poster c.post_all-pass.result.pass c.args.texts.now c.post_all-pass.result.all ready))
+    rw c.in-Port.is (c.post_all-pass.ensures.gate
+    ∙ ap (after_asks g.G.PostGate.asked c.args.gate.now)
+    (port_tried c.in-Port.poster c.post_all-pass.result.pass c.args.texts.now c.post_all-pass.result.all ready))

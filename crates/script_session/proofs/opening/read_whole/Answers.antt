@@ -22,6 +22,7 @@ returns-in-Err-Bad-clause-not_read g c =
     let k = c.in-Ok.ensures.read in
     let bad : c.finish.result ≡ Err (err.Bad c.in-Err-Bad.line c.in-Err-Bad.reason) = search rules in (
       c.in-Ok.ensures.same,
-      refuses-of (g.S.Source.left c.args.source.now) k.0 c.in-Err-Bad.line c.in-Err-Bad.reason k.1 (gives-bad k.0 c.finish.result c.in-Err-Bad.line c.in-Err-Bad.reason bad (c.finish.ensures.exact k.0 k.2)),
+      refuses-of (g.S.Source.left c.args.source.now) k.0 c.in-Err-Bad.line c.in-Err-Bad.reason k.1
+          (gives-bad k.0 c.finish.result c.in-Err-Bad.line c.in-Err-Bad.reason bad (c.finish.ensures.exact k.0 k.2)),
       c.in-Ok.ensures.up,
     )

@@ -22,8 +22,10 @@ loop-row-preserved-then-is_missing c =
     let lt : i < length rows = rw same at c.loop-row-test.true in
     let here : d ≡ get_or rows i d = c.row-item.is ∙ ap (λ ls. get_or ls i d) same in
     let key_is : key_at keys i ≡ (get_or rows i d).number = key_of (λ (row : ThreadCopy). row.number) rows keys c.requires.threads 0 0 i d lt in
-    let covered : IsCovered (next_of (state_in copy)) (length rows) least (get_or rows i d).number = subst (λ n. IsCovered (next_of (state_in copy)) (length rows) least n) key_is (c.in_ok-least.ensures i lt) in
-    let absent : IsAbsent least (get_or rows i d).number 0 (length least) = subst (λ (x : ThreadCopy). IsAbsent least x.number 0 (length least)) here (c.is_missing.ensures c.if-is_missing.true) in
+    let covered : IsCovered (next_of (state_in copy)) (length rows) least (get_or rows i d).number =
+    subst (λ n. IsCovered (next_of (state_in copy)) (length rows) least n) key_is (c.in_ok-least.ensures i lt) in
+    let absent : IsAbsent least (get_or rows i d).number 0 (length least) =
+    subst (λ (x : ThreadCopy). IsAbsent least x.number 0 (length least)) here (c.is_missing.ensures c.if-is_missing.true) in
     cycle_none (state_in copy) c.loop-row.out.items _ rows i c.loop-row.invariant d lt (no_cycle copy least (get_or rows i d).number covered absent)
 
 pub returns : goal.returns

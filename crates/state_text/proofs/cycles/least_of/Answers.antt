@@ -7,16 +7,21 @@ use Rattle.state_text.proofs.cycles.least_of.Goals as goal
 
 pub loop-step-preserved : goal.loop-step-preserved
 loop-step-preserved c =
-    rw (c.min-least.ensures, c.next.view_is) (least_on (next_of (state_in c.args.pod.now.state)) (length c.args.pod.now.state.threads) c.args.start c.loop-step.step c.loop-step.here c.loop-step.least c.loop-step.invariant c.in-Some.next (sym c.next_of.ensures ∙ c.in-Some.is))
+    rw (c.min-least.ensures, c.next.view_is) (least_on (next_of (state_in c.args.pod.now.state)) (length c.args.pod.now.state.threads)
+    c.args.start c.loop-step.step c.loop-step.here c.loop-step.least c.loop-step.invariant c.in-Some.next (sym c.next_of.ensures ∙ c.in-Some.is))
 
 pub returns-in_default : goal.returns-in_default
 returns-in_default c =
-    least_ends (next_of (state_in c.args.pod.now.state)) (length c.args.pod.now.state.threads) c.args.start c.loop-step.step c.loop-step.here c.loop-step.least c.loop-step.invariant (sym c.next_of.ensures ∙ c.in_default.is)
+    least_ends (next_of (state_in c.args.pod.now.state)) (length c.args.pod.now.state.threads) c.args.start c.loop-step.step
+    c.loop-step.here c.loop-step.least c.loop-step.invariant (sym c.next_of.ensures ∙ c.in_default.is)
 
 pub returns-then-eq : goal.returns-then-eq
 returns-then-eq c =
-    least_closes (next_of (state_in c.args.pod.now.state)) (length c.args.pod.now.state.threads) c.args.start c.loop-step.step c.loop-step.here c.loop-step.least c.loop-step.invariant (sym c.next_of.ensures ∙ c.in-Some.is ∙ ap Some (eqb-true c.in-Some.next c.args.start (sym c.if-eq.ensures)))
+    least_closes (next_of (state_in c.args.pod.now.state)) (length c.args.pod.now.state.threads) c.args.start c.loop-step.step
+    c.loop-step.here c.loop-step.least c.loop-step.invariant
+    (sym c.next_of.ensures ∙ c.in-Some.is ∙ ap Some (eqb-true c.in-Some.next c.args.start (sym c.if-eq.ensures)))
 
 pub returns : goal.returns
 returns c =
-    least_spent (next_of (state_in c.args.pod.now.state)) (length c.args.pod.now.state.threads) c.args.start c.loop-step.step c.loop-step.here c.loop-step.least c.loop-step.invariant (rw c.len-step-end.ensures at c.loop-step-test.false)
+    least_spent (next_of (state_in c.args.pod.now.state)) (length c.args.pod.now.state.threads) c.args.start c.loop-step.step
+    c.loop-step.here c.loop-step.least c.loop-step.invariant (rw c.len-step-end.ensures at c.loop-step-test.false)

@@ -21,9 +21,12 @@ loop-i-preserved c =
     ∙ sym (ap (λ (ls : List ThreadCopy). (get_or ls c.loop-i.i d).number) c.as_slice.ensures) in
     elim c.match-seen_again.branch [
       | in-Some+in_ok-push w ↦
-          rw (w.found-is, w.in_ok-push.ensures.items) (one_new (next_of s) (length rows) keys c.loop-i.i c.loop-i.colours.items c.loop-i.found.items c.loop-i.invariant start at c.seen_again.new.colours.items c.seen_again.ensures.places w.in-Some.tid w.least_of.result w.in-Some.ensures.followed w.least_of.ensures)
+          rw (w.found-is, w.in_ok-push.ensures.items)
+          (one_new (next_of s) (length rows) keys c.loop-i.i c.loop-i.colours.items c.loop-i.found.items c.loop-i.invariant start at
+          c.seen_again.new.colours.items c.seen_again.ensures.places w.in-Some.tid w.least_of.result w.in-Some.ensures.followed w.least_of.ensures)
       | in_default w ↦
-          rw w.found-is (nothing_new (next_of s) (length rows) keys c.loop-i.i c.loop-i.colours.items c.loop-i.found.items c.loop-i.invariant start at c.seen_again.new.colours.items c.seen_again.ensures.places w.in_default.ensures.followed)
+          rw w.found-is (nothing_new (next_of s) (length rows) keys c.loop-i.i c.loop-i.colours.items c.loop-i.found.items
+          c.loop-i.invariant start at c.seen_again.new.colours.items c.seen_again.ensures.places w.in_default.ensures.followed)
     ]
 
 pub returns : goal.returns

@@ -14,8 +14,10 @@ loop-row-preserved c =
     let rows = c.args.pod.now.state.threads in
     let same : c.as_slice-row-items.result.now ≡ rows = c.as_slice-row-items.ensures in
     let d = c.row-item.result in
-    one_more (λ (x : ThreadCopy). thread_lines procs notes s (row_in x)) c.loop-row.out.items _ rows c.loop-row.row-index c.loop-row.invariant c.add_belongings.new.out.items d (rw same at c.loop-row-test.true)
-    (c.in_ok-add_belongings.ensures ∙ ap (λ o. o ++ belongings s (row_in d)) c.in_ok-add_thread.ensures ∙ append_assoc c.loop-row.out.items (thread_line procs notes s (row_in d)) (belongings s (row_in d))
+    one_more (λ (x : ThreadCopy). thread_lines procs notes s (row_in x)) c.loop-row.out.items _ rows c.loop-row.row-index
+    c.loop-row.invariant c.add_belongings.new.out.items d (rw same at c.loop-row-test.true)
+    (c.in_ok-add_belongings.ensures ∙ ap (λ o. o ++ belongings s (row_in d)) c.in_ok-add_thread.ensures
+    ∙ append_assoc c.loop-row.out.items (thread_line procs notes s (row_in d)) (belongings s (row_in d))
     ∙ ap (λ x. c.loop-row.out.items ++ thread_lines procs notes s (row_in x)) (c.row-item.is ∙ ap (λ ls. get_or ls c.loop-row.row-index d) same))
 
 pub returns : goal.returns
@@ -25,5 +27,6 @@ returns c =
     let notes = c.args.cast.now.notes.now in
     let rows = c.args.pod.now.state.threads in
     let same : c.as_slice-row-items.result.now ≡ rows = c.as_slice-row-items.ensures in
-    no_more (λ (x : ThreadCopy). thread_lines procs notes s (row_in x)) c.loop-row.out.items _ rows c.loop-row.row-index c.loop-row.invariant (rw same at c.loop-row-test.false)
+    no_more (λ (x : ThreadCopy). thread_lines procs notes s (row_in x)) c.loop-row.out.items _ rows c.loop-row.row-index
+    c.loop-row.invariant (rw same at c.loop-row-test.false)
     ∙ ap (λ l. c.args.out.now.items ++ l) (sym (flat_map-map (thread_lines procs notes s) row_in rows))

@@ -25,7 +25,8 @@ returns c =
     c.in_ok-add_entries-2.ensures ∙ ap (λ n. c.add_marks.new.out.items ++ flat_map letter_line (mailbox c.as_slice-3.result.now n)) c.number_of-tid.ensures
     ∙ ap (λ ls. c.add_marks.new.out.items ++ flat_map letter_line (mailbox ls row.number)) c.as_slice-3.ensures in
     let agents : c.add_entries-3.new.out.items ≡ c.add_entries-2.new.out.items ++ own =
-    c.in_ok-add_entries-3.ensures ∙ ap (λ n. c.add_entries-2.new.out.items ++ flat_map agent_line (filter (belongs_to n) c.as_slice-4.result.now)) c.number_of-tid.ensures
+    c.in_ok-add_entries-3.ensures
+    ∙ ap (λ n. c.add_entries-2.new.out.items ++ flat_map agent_line (filter (belongs_to n) c.as_slice-4.result.now)) c.number_of-tid.ensures
     ∙ ap (λ rows. c.add_entries-2.new.out.items ++ flat_map agent_line (filter (belongs_to row.number) rows)) c.as_slice-4.ensures in
     agents ∙ ap (λ o. o ++ own) (letters ∙ ap (λ o. o ++ sent) (marks ∙ ap (λ o. o ++ set) locks))
     ∙ append_assoc ((out ++ held) ++ set) sent own ∙ append_assoc (out ++ held) set (sent ++ own) ∙ append_assoc out held (set ++ (sent ++ own))

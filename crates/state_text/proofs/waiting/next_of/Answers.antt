@@ -8,7 +8,8 @@ use Rattle.state_text.proofs.waiting.next_of.Goals as goal
 
 pub returns-in_err-place : goal.returns-in_err-place
 returns-in_err-place c =
-    rw c.from_residual.ensures (sym (ap (option_and_then (awaited (state_in c.args.pod.now.state))) (thread_missing c.args.pod.now.state c.args.tables.now.threads c.requires.threads c.args.tid (rw c.tid.view_is at c.in_err-place.ensures))))
+    rw c.from_residual.ensures (sym (ap (option_and_then (awaited (state_in c.args.pod.now.state)))
+    (thread_missing c.args.pod.now.state c.args.tables.now.threads c.requires.threads c.args.tid (rw c.tid.view_is at c.in_err-place.ensures))))
 
 pub returns : goal.returns
 returns c =
@@ -16,4 +17,5 @@ returns c =
     let d = c.index-as_slice-place.result in
     c.awaited.ensures
     ∙ ap (λ (x : ThreadCopy). awaited s (row_in x)) (c.index-as_slice-place.is ∙ ap (λ ls. get_or ls c.in_ok-place.place d) c.as_slice.ensures)
-    ∙ sym (ap (option_and_then (awaited s)) (thread_found c.args.pod.now.state c.args.tables.now.threads c.requires.threads c.args.tid d c.in_ok-place.place (rw c.tid.view_is at c.in_ok-place.ensures)))
+    ∙ sym (ap (option_and_then (awaited s)) (thread_found c.args.pod.now.state c.args.tables.now.threads c.requires.threads c.args.tid d
+    c.in_ok-place.place (rw c.tid.view_is at c.in_ok-place.ensures)))

@@ -6,7 +6,9 @@ use Rattle.trace_text.specs.Lines.{thread_text}
 
 pub loop-i-preserved : goal.loop-i-preserved
 loop-i-preserved c =
-    one_more (λ (t : ℕ). 32 ∷ thread_text t) c.loop-i.out.items _ c.args.threads.now c.loop-i.i c.loop-i.invariant c.add_word_id.new.out.items c.get.result (rw c.len-i-end.ensures at c.loop-i-test.true) (rw c.get.ensures at c.in_ok-add_word_id.ensures)
+    one_more (λ (t : ℕ). 32 ∷ thread_text t) c.loop-i.out.items _ c.args.threads.now c.loop-i.i c.loop-i.invariant
+    c.add_word_id.new.out.items c.get.result (rw c.len-i-end.ensures at c.loop-i-test.true) (rw c.get.ensures at c.in_ok-add_word_id.ensures)
 
 pub returns : goal.returns
-returns c = no_more (λ (t : ℕ). 32 ∷ thread_text t) c.loop-i.out.items _ c.args.threads.now c.loop-i.i c.loop-i.invariant (rw c.len-i-end.ensures at c.loop-i-test.false)
+returns c = no_more (λ (t : ℕ). 32 ∷ thread_text t) c.loop-i.out.items _ c.args.threads.now c.loop-i.i c.loop-i.invariant
+    (rw c.len-i-end.ensures at c.loop-i-test.false)

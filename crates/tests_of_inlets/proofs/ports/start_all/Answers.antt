@@ -18,5 +18,7 @@ IsOf port h = h.promise.taker.value.port ≡ port
 pub loop-poster-preserved : goal.loop-poster-preserved
 loop-poster-preserved g c = (
   All-tail (IsNew c.args.taker.now.port) c.in-Some.poster _ (subst (All (IsNew c.args.taker.now.port)) c.in-Some.ensures.steps.0 c.loop-poster.invariant.0),
-  subst (All (IsOf c.args.taker.now.port)) (sym c.in_ok-push.ensures.items) (All-push (IsOf c.args.taker.now.port) c.loop-poster.handles.items c.in-Ok.handle c.loop-poster.invariant.1 (ap (λ (p : OfPort). p.taker.value.port) c.in-Ok.ensures.there ∙ ap (λ t. t.port) c.of.ensures)),
+  subst (All (IsOf c.args.taker.now.port)) (sym c.in_ok-push.ensures.items)
+      (All-push (IsOf c.args.taker.now.port) c.loop-poster.handles.items c.in-Ok.handle c.loop-poster.invariant.1
+      (ap (λ (p : OfPort). p.taker.value.port) c.in-Ok.ensures.there ∙ ap (λ t. t.port) c.of.ensures)),
 )

@@ -22,4 +22,5 @@ IsNew port p = (p.port ≡ port) × (p.posted ≡ [])
 pub start_all-requires-clause-new : goal.start_all-requires-clause-new
 start_all-requires-clause-new g c κs within =
     let port = c.in_ok-taker.taker.port in
-    All-same (IsNew port) c.in_ok-taker.posters.items (map (posting port) sixteen) c.in_ok-taker.ensures.posters (All-map (IsNew port) (posting port) sixteen (λ k d low. (refl, refl)))
+    All-same (IsNew port) c.in_ok-taker.posters.items (map (posting port) sixteen) c.in_ok-taker.ensures.posters
+    (All-map (IsNew port) (posting port) sixteen (λ k d low. (refl, refl)))

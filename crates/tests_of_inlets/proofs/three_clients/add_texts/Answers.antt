@@ -11,5 +11,6 @@ returns c =
     let same = texts.ok.0 in
     let items = c.in_ok-push-2.ensures.items in (
       ap length items ∙ length-append c.args.all.now.items (texts ∷ []),
-      subst (All (λ ts. length ts.items ≤ 20000)) (sym items) (All-push (λ ts. length ts.items ≤ 20000) c.args.all.now.items texts c.requires.before (omega (arith, size, all, few, same))),
+      subst (All (λ ts. length ts.items ≤ 20000)) (sym items)
+          (All-push (λ ts. length ts.items ≤ 20000) c.args.all.now.items texts c.requires.before (omega (arith, size, all, few, same))),
     )

@@ -6,4 +6,5 @@ pub loop-init : goal.loop-init
 loop-init g c = (tt, tt, gave_none (any_intake c.args.inlet.now))
 
 pub returns-in_default : goal.returns-in_default
-returns-in_default g c = gave_nothing (any_intake c.args.inlet.now) (any_intake c.loop.inlet) (any_intake c.take.new.self) c.loop.invariant.2 c.in_default.ensures.nothing
+returns-in_default g c =
+    gave_nothing (any_intake c.args.inlet.now) (any_intake c.loop.inlet) (any_intake c.take.new.self) c.loop.invariant.2 c.in_default.ensures.nothing

@@ -10,4 +10,5 @@ on_top : (ms : List Mark) (depth mark : ℕ) → depth ≡ frames ms → mark < 
 on_top ms depth mark e h = rw (ap (first_frames depth) (sym (append-nil ms)) ∙ first-append depth ms [] e ∙ append-nil ms) at h
 
 pub settle-requires : goal.settle-requires
-settle-requires c = on_top c.args.stack.now c.in-Some.found.depth c.in-Some.found.mark (c.if-found-frames.false ∙ c.frames.ensures) c.in-Some.ensures.in_reach.number
+settle-requires c = on_top c.args.stack.now c.in-Some.found.depth c.in-Some.found.mark (c.if-found-frames.false ∙ c.frames.ensures)
+    c.in-Some.ensures.in_reach.number

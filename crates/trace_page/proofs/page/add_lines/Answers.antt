@@ -15,7 +15,8 @@ returns-then-end-rest-clause-bad c =
 pub returns-in-Err-clause-bad : goal.returns-in-Err-clause-bad
 returns-in-Err-clause-bad c =
     let lt : c.reach-end.result < length c.loop-rest.rest.now = grind (arith, c.reach-end.ensures.within) in
-    λ n e. refused c.loop-rest.rest.now c.reach-end.result c.reach-end.ensures.value lt c.loop-rest.number n c.args.text.now c.loop-rest.invariant.bad (c.in-Err.ensures.bad n e)
+    λ n e. refused c.loop-rest.rest.now c.reach-end.result c.reach-end.ensures.value lt c.loop-rest.number n c.args.text.now
+    c.loop-rest.invariant.bad (c.in-Err.ensures.bad n e)
 
 pub loop-rest-preserved : goal.loop-rest-preserved
 loop-rest-preserved c =
@@ -27,7 +28,8 @@ loop-rest-preserved c =
     let is = c.skip-rest.ensures in
     record {
       told = told_on rest left k at lt is c.loop-rest.scene c.add_line.new.scene _ c.in-Ok.ensures.told c.loop-rest.invariant.told;
-      drawn = drawn_on rest left k at lt is c.loop-rest.scene c.add_line.new.scene c.loop-rest.out.items c.add_line.new.out.items _ c.in-Ok.ensures.told c.in-Ok.ensures.drawn c.loop-rest.invariant.drawn;
+      drawn = drawn_on rest left k at lt is c.loop-rest.scene c.add_line.new.scene c.loop-rest.out.items c.add_line.new.out.items _
+          c.in-Ok.ensures.told c.in-Ok.ensures.drawn c.loop-rest.invariant.drawn;
       bad = bad_on rest left k at lt is c.loop-rest.number c.args.text.now c.in-Ok.ensures.good c.loop-rest.invariant.bad;
       room = rw is (omega (arith, length-drop (c.reach-end.result + 1) rest, c.loop-rest.invariant.room, lt));
     }

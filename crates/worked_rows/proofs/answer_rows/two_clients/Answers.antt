@@ -16,13 +16,16 @@ use Rattle.std.specs.Fmt.{digits}
 use Rattle.worked_rows.proofs.answer_rows.two_clients.Goals as goal
 
 pub returns-clause-the_first : goal.returns-clause-the_first
-unfolding replies_in plan_whole to_the_end events move call_move take_move script_next session_next store_next event_step event_step_by take_event step step_by deliver unless and_then in_order for_each digits
+unfolding replies_in plan_whole to_the_end events move call_move take_move script_next session_next store_next event_step event_step_by
+    take_event step step_by deliver unless and_then in_order for_each digits
 returns-clause-the_first c = refl
 
 pub returns-clause-the_second : goal.returns-clause-the_second
-unfolding replies_in plan_whole to_the_end events move call_move take_move script_next session_next store_next event_step event_step_by take_event step step_by deliver unless and_then in_order for_each digits
+unfolding replies_in plan_whole to_the_end events move call_move take_move script_next session_next store_next event_step event_step_by
+    take_event step step_by deliver unless and_then in_order for_each digits
 returns-clause-the_second c = refl
 
 pub returns-clause-nobody : goal.returns-clause-nobody
-unfolding replies_in plan_whole to_the_end events move call_move take_move script_next session_next store_next event_step event_step_by take_event step step_by deliver unless and_then in_order for_each digits
+unfolding replies_in plan_whole to_the_end events move call_move take_move script_next session_next store_next event_step event_step_by
+    take_event step step_by deliver unless and_then in_order for_each digits
 returns-clause-nobody c = refl

@@ -16,29 +16,36 @@ use Rattle.std.specs.Fmt.{digits}
 use Rattle.worked_rows.proofs.condition_rows.conditions.Goals as goal
 
 pub returns-clause-condition_of_outer_monitor : goal.returns-clause-condition_of_outer_monitor
-unfolding trace_of halt_of calls_of takes_of plan_whole to_the_end events move call_move take_move script_next session_next store_next event_step event_step_by take_event step step_by deliver unless and_then in_order for_each digits
+unfolding trace_of halt_of calls_of takes_of plan_whole to_the_end events move call_move take_move script_next session_next store_next
+    event_step event_step_by take_event step step_by deliver unless and_then in_order for_each digits
 returns-clause-condition_of_outer_monitor c = (refl, refl, refl, refl)
 
 pub returns-clause-no_such_condition : goal.returns-clause-no_such_condition
-unfolding trace_of halt_of calls_of takes_of plan_whole to_the_end events move call_move take_move script_next session_next store_next event_step event_step_by take_event step step_by deliver unless and_then in_order for_each digits
+unfolding trace_of halt_of calls_of takes_of plan_whole to_the_end events move call_move take_move script_next session_next store_next
+    event_step event_step_by take_event step step_by deliver unless and_then in_order for_each digits
 returns-clause-no_such_condition c = (refl, refl, refl, refl)
 
 pub returns-clause-without_the_lock : goal.returns-clause-without_the_lock
-unfolding trace_of halt_of calls_of takes_of plan_whole to_the_end events move call_move take_move script_next session_next store_next event_step event_step_by take_event step step_by deliver unless and_then in_order for_each digits
+unfolding trace_of halt_of calls_of takes_of plan_whole to_the_end events move call_move take_move script_next session_next store_next
+    event_step event_step_by take_event step step_by deliver unless and_then in_order for_each digits
 returns-clause-without_the_lock c = (refl, refl, refl, refl)
 
 pub returns-clause-the_lock_acquired_last : goal.returns-clause-the_lock_acquired_last
-unfolding trace_of halt_of calls_of takes_of plan_whole to_the_end events move call_move take_move script_next session_next store_next event_step event_step_by take_event step step_by deliver unless and_then in_order for_each digits
+unfolding trace_of halt_of calls_of takes_of plan_whole to_the_end events move call_move take_move script_next session_next store_next
+    event_step event_step_by take_event step step_by deliver unless and_then in_order for_each digits
 returns-clause-the_lock_acquired_last c = (refl, refl, refl, refl)
 
 pub returns-clause-cvsend_is_refused_in_order : goal.returns-clause-cvsend_is_refused_in_order
-unfolding trace_of halt_of calls_of takes_of plan_whole to_the_end events move call_move take_move script_next session_next store_next event_step event_step_by take_event step step_by deliver unless and_then in_order for_each digits
+unfolding trace_of halt_of calls_of takes_of plan_whole to_the_end events move call_move take_move script_next session_next store_next
+    event_step event_step_by take_event step step_by deliver unless and_then in_order for_each digits
 returns-clause-cvsend_is_refused_in_order c = (refl, refl, refl, refl)
 
 pub returns-clause-conditions_go_with_their_monitor : goal.returns-clause-conditions_go_with_their_monitor
-unfolding trace_of halt_of calls_of takes_of plan_whole to_the_end events move call_move take_move script_next session_next store_next event_step event_step_by take_event step step_by deliver unless and_then in_order for_each digits
+unfolding trace_of halt_of calls_of takes_of plan_whole to_the_end events move call_move take_move script_next session_next store_next
+    event_step event_step_by take_event step step_by deliver unless and_then in_order for_each digits
 returns-clause-conditions_go_with_their_monitor c = (refl, refl, refl, refl)
 
 pub returns-clause-in_use_while_waited_on : goal.returns-clause-in_use_while_waited_on
-unfolding trace_of halt_of calls_of takes_of plan_whole to_the_end events move call_move take_move script_next session_next store_next event_step event_step_by take_event step step_by deliver unless and_then in_order for_each digits
+unfolding trace_of halt_of calls_of takes_of plan_whole to_the_end events move call_move take_move script_next session_next store_next
+    event_step event_step_by take_event step step_by deliver unless and_then in_order for_each digits
 returns-clause-in_use_while_waited_on c = (refl, refl, refl, refl)

@@ -16,29 +16,36 @@ use Rattle.std.specs.Fmt.{digits}
 use Rattle.worked_rows.proofs.deaths.withdrawn.Goals as goal
 
 pub returns-clause-destroyed_while_waiting : goal.returns-clause-destroyed_while_waiting
-unfolding trace_of halt_of calls_of takes_of plan_whole to_the_end events move call_move take_move script_next session_next store_next event_step event_step_by take_event step step_by deliver unless and_then in_order for_each digits
+unfolding trace_of halt_of calls_of takes_of plan_whole to_the_end events move call_move take_move script_next session_next store_next
+    event_step event_step_by take_event step step_by deliver unless and_then in_order for_each digits
 returns-clause-destroyed_while_waiting c = (refl, refl, refl, refl)
 
 pub returns-clause-its_own_letter : goal.returns-clause-its_own_letter
-unfolding trace_of halt_of calls_of takes_of plan_whole to_the_end events move call_move take_move script_next session_next store_next event_step event_step_by take_event step step_by deliver unless and_then in_order for_each digits
+unfolding trace_of halt_of calls_of takes_of plan_whole to_the_end events move call_move take_move script_next session_next store_next
+    event_step event_step_by take_event step step_by deliver unless and_then in_order for_each digits
 returns-clause-its_own_letter c = (refl, refl, refl, refl)
 
 pub returns-clause-its_received_letter : goal.returns-clause-its_received_letter
-unfolding trace_of halt_of calls_of takes_of plan_whole to_the_end events move call_move take_move script_next session_next store_next event_step event_step_by take_event step step_by deliver unless and_then in_order for_each digits
+unfolding trace_of halt_of calls_of takes_of plan_whole to_the_end events move call_move take_move script_next session_next store_next
+    event_step event_step_by take_event step step_by deliver unless and_then in_order for_each digits
 returns-clause-its_received_letter c = (refl, refl, refl, refl)
 
 pub returns-clause-its_wait : goal.returns-clause-its_wait
-unfolding trace_of halt_of calls_of takes_of plan_whole to_the_end events move call_move take_move script_next session_next store_next event_step event_step_by take_event step step_by deliver unless and_then in_order for_each digits
+unfolding trace_of halt_of calls_of takes_of plan_whole to_the_end events move call_move take_move script_next session_next store_next
+    event_step event_step_by take_event step step_by deliver unless and_then in_order for_each digits
 returns-clause-its_wait c = (refl, refl, refl, refl)
 
 pub returns-clause-its_entry_request : goal.returns-clause-its_entry_request
-unfolding trace_of halt_of calls_of takes_of plan_whole to_the_end events move call_move take_move script_next session_next store_next event_step event_step_by take_event step step_by deliver unless and_then in_order for_each digits
+unfolding trace_of halt_of calls_of takes_of plan_whole to_the_end events move call_move take_move script_next session_next store_next
+    event_step event_step_by take_event step step_by deliver unless and_then in_order for_each digits
 returns-clause-its_entry_request c = (refl, refl, refl, refl)
 
 pub returns-clause-its_join : goal.returns-clause-its_join
-unfolding trace_of halt_of calls_of takes_of plan_whole to_the_end events move call_move take_move script_next session_next store_next event_step event_step_by take_event step step_by deliver unless and_then in_order for_each digits
+unfolding trace_of halt_of calls_of takes_of plan_whole to_the_end events move call_move take_move script_next session_next store_next
+    event_step event_step_by take_event step step_by deliver unless and_then in_order for_each digits
 returns-clause-its_join c = (refl, refl, refl, refl)
 
 pub returns-clause-a_woken_waiter : goal.returns-clause-a_woken_waiter
-unfolding trace_of halt_of calls_of takes_of plan_whole to_the_end events move call_move take_move script_next session_next store_next event_step event_step_by take_event step step_by deliver unless and_then in_order for_each digits
+unfolding trace_of halt_of calls_of takes_of plan_whole to_the_end events move call_move take_move script_next session_next store_next
+    event_step event_step_by take_event step step_by deliver unless and_then in_order for_each digits
 returns-clause-a_woken_waiter c = (refl, refl, refl, refl)

@@ -16,17 +16,21 @@ use Rattle.std.specs.Fmt.{digits}
 use Rattle.worked_rows.proofs.last_rites.unreported.Goals as goal
 
 pub returns-clause-destroyed_and_reported : goal.returns-clause-destroyed_and_reported
-unfolding trace_of halt_of calls_of takes_of plan_whole to_the_end events move call_move take_move script_next session_next store_next event_step event_step_by take_event step step_by deliver unless and_then in_order for_each digits
+unfolding trace_of halt_of calls_of takes_of plan_whole to_the_end events move call_move take_move script_next session_next store_next
+    event_step event_step_by take_event step step_by deliver unless and_then in_order for_each digits
 returns-clause-destroyed_and_reported c = (refl, refl, refl, refl)
 
 pub returns-clause-an_ended_pod_reports_nothing : goal.returns-clause-an_ended_pod_reports_nothing
-unfolding trace_of halt_of calls_of takes_of plan_whole to_the_end events move call_move take_move script_next session_next store_next event_step event_step_by take_event step step_by deliver unless and_then in_order for_each digits
+unfolding trace_of halt_of calls_of takes_of plan_whole to_the_end events move call_move take_move script_next session_next store_next
+    event_step event_step_by take_event step step_by deliver unless and_then in_order for_each digits
 returns-clause-an_ended_pod_reports_nothing c = (refl, refl, refl, refl)
 
 pub returns-clause-destroyed_beside_its_joiner : goal.returns-clause-destroyed_beside_its_joiner
-unfolding trace_of halt_of calls_of takes_of plan_whole to_the_end events move call_move take_move script_next session_next store_next event_step event_step_by take_event step step_by deliver unless and_then in_order for_each digits
+unfolding trace_of halt_of calls_of takes_of plan_whole to_the_end events move call_move take_move script_next session_next store_next
+    event_step event_step_by take_event step step_by deliver unless and_then in_order for_each digits
 returns-clause-destroyed_beside_its_joiner c = (refl, refl, refl, refl)
 
 pub returns-clause-a_death_by_a_trap : goal.returns-clause-a_death_by_a_trap
-unfolding trace_of halt_of calls_of takes_of plan_whole to_the_end events move call_move take_move script_next session_next store_next event_step event_step_by take_event step step_by deliver unless and_then in_order for_each digits
+unfolding trace_of halt_of calls_of takes_of plan_whole to_the_end events move call_move take_move script_next session_next store_next
+    event_step event_step_by take_event step step_by deliver unless and_then in_order for_each digits
 returns-clause-a_death_by_a_trap c = (refl, refl, refl, refl)

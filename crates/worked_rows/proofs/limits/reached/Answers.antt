@@ -18,19 +18,23 @@ use Rattle.worked_rows.proofs.ManyThreads.{its_calls, its_halt, its_takes, its_t
 use Rattle.worked_rows.proofs.limits.reached.Goals as goal
 
 pub returns-clause-frames : goal.returns-clause-frames
-unfolding trace_of halt_of calls_of takes_of plan_whole to_the_end events move call_move take_move script_next session_next store_next event_step event_step_by take_event step step_by deliver unless and_then in_order for_each digits
+unfolding trace_of halt_of calls_of takes_of plan_whole to_the_end events move call_move take_move script_next session_next store_next
+    event_step event_step_by take_event step step_by deliver unless and_then in_order for_each digits
 returns-clause-frames c = (refl, refl, refl, refl)
 
 pub returns-clause-frames_exact_turns : goal.returns-clause-frames_exact_turns
-unfolding trace_of halt_of calls_of takes_of plan_whole to_the_end events move call_move take_move script_next session_next store_next event_step event_step_by take_event step step_by deliver unless and_then in_order for_each digits
+unfolding trace_of halt_of calls_of takes_of plan_whole to_the_end events move call_move take_move script_next session_next store_next
+    event_step event_step_by take_event step step_by deliver unless and_then in_order for_each digits
 returns-clause-frames_exact_turns c = (refl, refl, refl, refl)
 
 pub returns-clause-frames_one_turn_fewer : goal.returns-clause-frames_one_turn_fewer
-unfolding trace_of halt_of calls_of takes_of plan_whole to_the_end events move call_move take_move script_next session_next store_next event_step event_step_by take_event step step_by deliver unless and_then in_order for_each digits
+unfolding trace_of halt_of calls_of takes_of plan_whole to_the_end events move call_move take_move script_next session_next store_next
+    event_step event_step_by take_event step step_by deliver unless and_then in_order for_each digits
 returns-clause-frames_one_turn_fewer c = (refl, refl, refl, refl)
 
 pub returns-clause-marks : goal.returns-clause-marks
-unfolding trace_of halt_of calls_of takes_of plan_whole to_the_end events move call_move take_move script_next session_next store_next event_step event_step_by take_event step step_by deliver unless and_then in_order for_each digits
+unfolding trace_of halt_of calls_of takes_of plan_whole to_the_end events move call_move take_move script_next session_next store_next
+    event_step event_step_by take_event step step_by deliver unless and_then in_order for_each digits
 returns-clause-marks c = (refl, refl, refl, refl)
 
 pub returns-clause-agents : goal.returns-clause-agents

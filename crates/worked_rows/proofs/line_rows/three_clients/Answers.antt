@@ -16,13 +16,16 @@ use Rattle.std.specs.Fmt.{digits}
 use Rattle.worked_rows.proofs.line_rows.three_clients.Goals as goal
 
 pub returns-clause-whole : goal.returns-clause-whole
-unfolding trace_of halt_of calls_of takes_of plan_whole to_the_end events move call_move take_move script_next session_next store_next event_step event_step_by take_event step step_by deliver unless and_then in_order for_each digits
+unfolding trace_of halt_of calls_of takes_of plan_whole to_the_end events move call_move take_move script_next session_next store_next
+    event_step event_step_by take_event step step_by deliver unless and_then in_order for_each digits
 returns-clause-whole c = (refl, refl, refl, refl)
 
 pub returns-clause-exact_turns : goal.returns-clause-exact_turns
-unfolding trace_of halt_of calls_of takes_of plan_whole to_the_end events move call_move take_move script_next session_next store_next event_step event_step_by take_event step step_by deliver unless and_then in_order for_each digits
+unfolding trace_of halt_of calls_of takes_of plan_whole to_the_end events move call_move take_move script_next session_next store_next
+    event_step event_step_by take_event step step_by deliver unless and_then in_order for_each digits
 returns-clause-exact_turns c = (refl, refl, refl, refl)
 
 pub returns-clause-one_turn_fewer : goal.returns-clause-one_turn_fewer
-unfolding trace_of halt_of calls_of takes_of plan_whole to_the_end events move call_move take_move script_next session_next store_next event_step event_step_by take_event step step_by deliver unless and_then in_order for_each digits
+unfolding trace_of halt_of calls_of takes_of plan_whole to_the_end events move call_move take_move script_next session_next store_next
+    event_step event_step_by take_event step step_by deliver unless and_then in_order for_each digits
 returns-clause-one_turn_fewer c = (refl, refl, refl, refl)

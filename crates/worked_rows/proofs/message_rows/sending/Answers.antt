@@ -16,29 +16,36 @@ use Rattle.std.specs.Fmt.{digits}
 use Rattle.worked_rows.proofs.message_rows.sending.Goals as goal
 
 pub returns-clause-receive_by_name_and_poll : goal.returns-clause-receive_by_name_and_poll
-unfolding trace_of halt_of calls_of takes_of plan_whole to_the_end events move call_move take_move script_next session_next store_next event_step event_step_by take_event step step_by deliver unless and_then in_order for_each digits
+unfolding trace_of halt_of calls_of takes_of plan_whole to_the_end events move call_move take_move script_next session_next store_next
+    event_step event_step_by take_event step step_by deliver unless and_then in_order for_each digits
 returns-clause-receive_by_name_and_poll c = (refl, refl, refl, refl)
 
 pub returns-clause-reply_of_the_room : goal.returns-clause-reply_of_the_room
-unfolding trace_of halt_of calls_of takes_of plan_whole to_the_end events move call_move take_move script_next session_next store_next event_step event_step_by take_event step step_by deliver unless and_then in_order for_each digits
+unfolding trace_of halt_of calls_of takes_of plan_whole to_the_end events move call_move take_move script_next session_next store_next
+    event_step event_step_by take_event step step_by deliver unless and_then in_order for_each digits
 returns-clause-reply_of_the_room c = (refl, refl, refl, refl)
 
 pub returns-clause-send_is_refused_in_order : goal.returns-clause-send_is_refused_in_order
-unfolding trace_of halt_of calls_of takes_of plan_whole to_the_end events move call_move take_move script_next session_next store_next event_step event_step_by take_event step step_by deliver unless and_then in_order for_each digits
+unfolding trace_of halt_of calls_of takes_of plan_whole to_the_end events move call_move take_move script_next session_next store_next
+    event_step event_step_by take_event step step_by deliver unless and_then in_order for_each digits
 returns-clause-send_is_refused_in_order c = (refl, refl, refl, refl)
 
 pub returns-clause-recv_is_refused_in_order : goal.returns-clause-recv_is_refused_in_order
-unfolding trace_of halt_of calls_of takes_of plan_whole to_the_end events move call_move take_move script_next session_next store_next event_step event_step_by take_event step step_by deliver unless and_then in_order for_each digits
+unfolding trace_of halt_of calls_of takes_of plan_whole to_the_end events move call_move take_move script_next session_next store_next
+    event_step event_step_by take_event step step_by deliver unless and_then in_order for_each digits
 returns-clause-recv_is_refused_in_order c = (refl, refl, refl, refl)
 
 pub returns-clause-reply_is_refused_in_order : goal.returns-clause-reply_is_refused_in_order
-unfolding trace_of halt_of calls_of takes_of plan_whole to_the_end events move call_move take_move script_next session_next store_next event_step event_step_by take_event step step_by deliver unless and_then in_order for_each digits
+unfolding trace_of halt_of calls_of takes_of plan_whole to_the_end events move call_move take_move script_next session_next store_next
+    event_step event_step_by take_event step step_by deliver unless and_then in_order for_each digits
 returns-clause-reply_is_refused_in_order c = (refl, refl, refl, refl)
 
 pub returns-clause-room_for_nothing : goal.returns-clause-room_for_nothing
-unfolding trace_of halt_of calls_of takes_of plan_whole to_the_end events move call_move take_move script_next session_next store_next event_step event_step_by take_event step step_by deliver unless and_then in_order for_each digits
+unfolding trace_of halt_of calls_of takes_of plan_whole to_the_end events move call_move take_move script_next session_next store_next
+    event_step event_step_by take_event step step_by deliver unless and_then in_order for_each digits
 returns-clause-room_for_nothing c = (refl, refl, refl, refl)
 
 pub returns-clause-room_for_the_longest : goal.returns-clause-room_for_the_longest
-unfolding trace_of halt_of calls_of takes_of plan_whole to_the_end events move call_move take_move script_next session_next store_next event_step event_step_by take_event step step_by deliver unless and_then in_order for_each digits
+unfolding trace_of halt_of calls_of takes_of plan_whole to_the_end events move call_move take_move script_next session_next store_next
+    event_step event_step_by take_event step step_by deliver unless and_then in_order for_each digits
 returns-clause-room_for_the_longest c = (refl, refl, refl, refl)

@@ -14,17 +14,21 @@ use Rattle.pod_runner.specs.Play.{play}
 use Rattle.worked_rows.proofs.played.armed.Goals as goal
 
 pub returns-clause-until_it_is_taken : goal.returns-clause-until_it_is_taken
-unfolding play move call_move take_move script_next session_next store_next event_step event_step_by take_event step step_by deliver unless and_then in_order for_each digits
+unfolding play move call_move take_move script_next session_next store_next event_step event_step_by take_event step step_by deliver unless
+    and_then in_order for_each digits
 returns-clause-until_it_is_taken c = refl
 
 pub returns-clause-at_once : goal.returns-clause-at_once
-unfolding play move call_move take_move script_next session_next store_next event_step event_step_by take_event step step_by deliver unless and_then in_order for_each digits
+unfolding play move call_move take_move script_next session_next store_next event_step event_step_by take_event step step_by deliver unless
+    and_then in_order for_each digits
 returns-clause-at_once c = refl
 
 pub returns-clause-never_taken : goal.returns-clause-never_taken
-unfolding play move call_move take_move script_next session_next store_next event_step event_step_by take_event step step_by deliver unless and_then in_order for_each digits
+unfolding play move call_move take_move script_next session_next store_next event_step event_step_by take_event step step_by deliver unless
+    and_then in_order for_each digits
 returns-clause-never_taken c = refl
 
 pub returns-clause-another_event : goal.returns-clause-another_event
-unfolding play move call_move take_move script_next session_next store_next event_step event_step_by take_event step step_by deliver unless and_then in_order for_each digits
+unfolding play move call_move take_move script_next session_next store_next event_step event_step_by take_event step step_by deliver unless
+    and_then in_order for_each digits
 returns-clause-another_event c = refl

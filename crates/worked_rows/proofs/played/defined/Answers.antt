@@ -15,33 +15,41 @@ use Rattle.pod_runner.specs.Play.{play}
 use Rattle.worked_rows.proofs.played.defined.Goals as goal
 
 pub returns-clause-opening : goal.returns-clause-opening
-unfolding IsDefined play move call_move take_move script_next session_next store_next event_step event_step_by take_event step step_by deliver unless and_then in_order for_each digits
+unfolding IsDefined play move call_move take_move script_next session_next store_next event_step event_step_by take_event step step_by
+    deliver unless and_then in_order for_each digits
 returns-clause-opening c = search rules
 
 pub returns-clause-two_calls : goal.returns-clause-two_calls
-unfolding IsDefined play move call_move take_move script_next session_next store_next event_step event_step_by take_event step step_by deliver unless and_then in_order for_each digits
+unfolding IsDefined play move call_move take_move script_next session_next store_next event_step event_step_by take_event step step_by
+    deliver unless and_then in_order for_each digits
 returns-clause-two_calls c = search rules
 
 pub returns-clause-late_take : goal.returns-clause-late_take
-unfolding IsDefined play move call_move take_move script_next session_next store_next event_step event_step_by take_event step step_by deliver unless and_then in_order for_each digits
+unfolding IsDefined play move call_move take_move script_next session_next store_next event_step event_step_by take_event step step_by
+    deliver unless and_then in_order for_each digits
 returns-clause-late_take c = search rules
 
 pub returns-clause-no_third_call : goal.returns-clause-no_third_call
-unfolding IsDefined play move call_move take_move script_next session_next store_next event_step event_step_by take_event step step_by deliver unless and_then in_order for_each digits
+unfolding IsDefined play move call_move take_move script_next session_next store_next event_step event_step_by take_event step step_by
+    deliver unless and_then in_order for_each digits
 returns-clause-no_third_call c = search rules
 
 pub returns-clause-not_armed : goal.returns-clause-not_armed
-unfolding IsDefined play move call_move take_move script_next session_next store_next event_step event_step_by take_event step step_by deliver unless and_then in_order for_each digits
+unfolding IsDefined play move call_move take_move script_next session_next store_next event_step event_step_by take_event step step_by
+    deliver unless and_then in_order for_each digits
 returns-clause-not_armed c = search rules
 
 pub returns-clause-holding : goal.returns-clause-holding
-unfolding IsDefined play move call_move take_move script_next session_next store_next event_step event_step_by take_event step step_by deliver unless and_then in_order for_each digits
+unfolding IsDefined play move call_move take_move script_next session_next store_next event_step event_step_by take_event step step_by
+    deliver unless and_then in_order for_each digits
 returns-clause-holding c = search rules
 
 pub returns-clause-above_the_calls : goal.returns-clause-above_the_calls
-unfolding IsDefined play move call_move take_move script_next session_next store_next event_step event_step_by take_event step step_by deliver unless and_then in_order for_each digits
+unfolding IsDefined play move call_move take_move script_next session_next store_next event_step event_step_by take_event step step_by
+    deliver unless and_then in_order for_each digits
 returns-clause-above_the_calls c = search rules
 
 pub returns-clause-turns_that_fall : goal.returns-clause-turns_that_fall
-unfolding IsDefined play move call_move take_move script_next session_next store_next event_step event_step_by take_event step step_by deliver unless and_then in_order for_each digits
+unfolding IsDefined play move call_move take_move script_next session_next store_next event_step event_step_by take_event step step_by
+    deliver unless and_then in_order for_each digits
 returns-clause-turns_that_fall c = search rules

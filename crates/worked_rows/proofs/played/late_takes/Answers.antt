@@ -14,25 +14,31 @@ use Rattle.pod_runner.specs.Play.{play}
 use Rattle.worked_rows.proofs.played.late_takes.Goals as goal
 
 pub returns-clause-nothing : goal.returns-clause-nothing
-unfolding play move call_move take_move script_next session_next store_next event_step event_step_by take_event step step_by deliver unless and_then in_order for_each digits
+unfolding play move call_move take_move script_next session_next store_next event_step event_step_by take_event step step_by deliver unless
+    and_then in_order for_each digits
 returns-clause-nothing c = refl
 
 pub returns-clause-none_taken : goal.returns-clause-none_taken
-unfolding play move call_move take_move script_next session_next store_next event_step event_step_by take_event step step_by deliver unless and_then in_order for_each digits
+unfolding play move call_move take_move script_next session_next store_next event_step event_step_by take_event step step_by deliver unless
+    and_then in_order for_each digits
 returns-clause-none_taken c = refl
 
 pub returns-clause-before_the_receive : goal.returns-clause-before_the_receive
-unfolding play move call_move take_move script_next session_next store_next event_step event_step_by take_event step step_by deliver unless and_then in_order for_each digits
+unfolding play move call_move take_move script_next session_next store_next event_step event_step_by take_event step step_by deliver unless
+    and_then in_order for_each digits
 returns-clause-before_the_receive c = refl
 
 pub returns-clause-while_it_waits : goal.returns-clause-while_it_waits
-unfolding play move call_move take_move script_next session_next store_next event_step event_step_by take_event step step_by deliver unless and_then in_order for_each digits
+unfolding play move call_move take_move script_next session_next store_next event_step event_step_by take_event step step_by deliver unless
+    and_then in_order for_each digits
 returns-clause-while_it_waits c = refl
 
 pub returns-clause-while_it_waits_for_another : goal.returns-clause-while_it_waits_for_another
-unfolding play move call_move take_move script_next session_next store_next event_step event_step_by take_event step step_by deliver unless and_then in_order for_each digits
+unfolding play move call_move take_move script_next session_next store_next event_step event_step_by take_event step step_by deliver unless
+    and_then in_order for_each digits
 returns-clause-while_it_waits_for_another c = refl
 
 pub returns-clause-after_the_last_call : goal.returns-clause-after_the_last_call
-unfolding play move call_move take_move script_next session_next store_next event_step event_step_by take_event step step_by deliver unless and_then in_order for_each digits
+unfolding play move call_move take_move script_next session_next store_next event_step event_step_by take_event step step_by deliver unless
+    and_then in_order for_each digits
 returns-clause-after_the_last_call c = refl

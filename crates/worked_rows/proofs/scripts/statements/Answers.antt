@@ -16,37 +16,46 @@ use Rattle.std.specs.Fmt.{digits}
 use Rattle.worked_rows.proofs.scripts.statements.Goals as goal
 
 pub returns-clause-skip_by_the_last_answer : goal.returns-clause-skip_by_the_last_answer
-unfolding trace_of halt_of calls_of takes_of plan_whole to_the_end events move call_move take_move script_next session_next store_next event_step event_step_by take_event step step_by deliver unless and_then in_order for_each digits
+unfolding trace_of halt_of calls_of takes_of plan_whole to_the_end events move call_move take_move script_next session_next store_next
+    event_step event_step_by take_event step step_by deliver unless and_then in_order for_each digits
 returns-clause-skip_by_the_last_answer c = (refl, refl, refl, refl)
 
 pub returns-clause-a_skip_over_a_skip : goal.returns-clause-a_skip_over_a_skip
-unfolding trace_of halt_of calls_of takes_of plan_whole to_the_end events move call_move take_move script_next session_next store_next event_step event_step_by take_event step step_by deliver unless and_then in_order for_each digits
+unfolding trace_of halt_of calls_of takes_of plan_whole to_the_end events move call_move take_move script_next session_next store_next
+    event_step event_step_by take_event step step_by deliver unless and_then in_order for_each digits
 returns-clause-a_skip_over_a_skip c = (refl, refl, refl, refl)
 
 pub returns-clause-a_skip_at_the_start : goal.returns-clause-a_skip_at_the_start
-unfolding trace_of halt_of calls_of takes_of plan_whole to_the_end events move call_move take_move script_next session_next store_next event_step event_step_by take_event step step_by deliver unless and_then in_order for_each digits
+unfolding trace_of halt_of calls_of takes_of plan_whole to_the_end events move call_move take_move script_next session_next store_next
+    event_step event_step_by take_event step step_by deliver unless and_then in_order for_each digits
 returns-clause-a_skip_at_the_start c = (refl, refl, refl, refl)
 
 pub returns-clause-a_skip_past_the_end : goal.returns-clause-a_skip_past_the_end
-unfolding trace_of halt_of calls_of takes_of plan_whole to_the_end events move call_move take_move script_next session_next store_next event_step event_step_by take_event step step_by deliver unless and_then in_order for_each digits
+unfolding trace_of halt_of calls_of takes_of plan_whole to_the_end events move call_move take_move script_next session_next store_next
+    event_step event_step_by take_event step step_by deliver unless and_then in_order for_each digits
 returns-clause-a_skip_past_the_end c = (refl, refl, refl, refl)
 
 pub returns-clause-an_id_is_no_value : goal.returns-clause-an_id_is_no_value
-unfolding trace_of halt_of calls_of takes_of plan_whole to_the_end events move call_move take_move script_next session_next store_next event_step event_step_by take_event step step_by deliver unless and_then in_order for_each digits
+unfolding trace_of halt_of calls_of takes_of plan_whole to_the_end events move call_move take_move script_next session_next store_next
+    event_step event_step_by take_event step step_by deliver unless and_then in_order for_each digits
 returns-clause-an_id_is_no_value c = (refl, refl, refl, refl)
 
 pub returns-clause-again_until_skipped : goal.returns-clause-again_until_skipped
-unfolding trace_of halt_of calls_of takes_of plan_whole to_the_end events move call_move take_move script_next session_next store_next event_step event_step_by take_event step step_by deliver unless and_then in_order for_each digits
+unfolding trace_of halt_of calls_of takes_of plan_whole to_the_end events move call_move take_move script_next session_next store_next
+    event_step event_step_by take_event step step_by deliver unless and_then in_order for_each digits
 returns-clause-again_until_skipped c = (refl, refl, refl, refl)
 
 pub returns-clause-a_refused_handle_has_no_place : goal.returns-clause-a_refused_handle_has_no_place
-unfolding trace_of halt_of calls_of takes_of plan_whole to_the_end events move call_move take_move script_next session_next store_next event_step event_step_by take_event step step_by deliver unless and_then in_order for_each digits
+unfolding trace_of halt_of calls_of takes_of plan_whole to_the_end events move call_move take_move script_next session_next store_next
+    event_step event_step_by take_event step step_by deliver unless and_then in_order for_each digits
 returns-clause-a_refused_handle_has_no_place c = (refl, refl, refl, refl)
 
 pub returns-clause-a_removed_handler_has_no_place : goal.returns-clause-a_removed_handler_has_no_place
-unfolding trace_of halt_of calls_of takes_of plan_whole to_the_end events move call_move take_move script_next session_next store_next event_step event_step_by take_event step step_by deliver unless and_then in_order for_each digits
+unfolding trace_of halt_of calls_of takes_of plan_whole to_the_end events move call_move take_move script_next session_next store_next
+    event_step event_step_by take_event step step_by deliver unless and_then in_order for_each digits
 returns-clause-a_removed_handler_has_no_place c = (refl, refl, refl, refl)
 
 pub returns-clause-caught_without_a_skip : goal.returns-clause-caught_without_a_skip
-unfolding trace_of halt_of calls_of takes_of plan_whole to_the_end events move call_move take_move script_next session_next store_next event_step event_step_by take_event step step_by deliver unless and_then in_order for_each digits
+unfolding trace_of halt_of calls_of takes_of plan_whole to_the_end events move call_move take_move script_next session_next store_next
+    event_step event_step_by take_event step step_by deliver unless and_then in_order for_each digits
 returns-clause-caught_without_a_skip c = (refl, refl, refl, refl)

@@ -16,13 +16,16 @@ use Rattle.std.specs.Fmt.{digits}
 use Rattle.worked_rows.proofs.servers.stores.Goals as goal
 
 pub returns-clause-commands_of_the_store : goal.returns-clause-commands_of_the_store
-unfolding trace_of halt_of calls_of takes_of plan_whole to_the_end events move call_move take_move script_next session_next store_next event_step event_step_by take_event step step_by deliver unless and_then in_order for_each digits
+unfolding trace_of halt_of calls_of takes_of plan_whole to_the_end events move call_move take_move script_next session_next store_next
+    event_step event_step_by take_event step step_by deliver unless and_then in_order for_each digits
 returns-clause-commands_of_the_store c = (refl, refl, refl, refl)
 
 pub returns-clause-a_table_for_each_sender : goal.returns-clause-a_table_for_each_sender
-unfolding trace_of halt_of calls_of takes_of plan_whole to_the_end events move call_move take_move script_next session_next store_next event_step event_step_by take_event step step_by deliver unless and_then in_order for_each digits
+unfolding trace_of halt_of calls_of takes_of plan_whole to_the_end events move call_move take_move script_next session_next store_next
+    event_step event_step_by take_event step step_by deliver unless and_then in_order for_each digits
 returns-clause-a_table_for_each_sender c = (refl, refl, refl, refl)
 
 pub returns-clause-a_reply_without_room : goal.returns-clause-a_reply_without_room
-unfolding trace_of halt_of calls_of takes_of plan_whole to_the_end events move call_move take_move script_next session_next store_next event_step event_step_by take_event step step_by deliver unless and_then in_order for_each digits
+unfolding trace_of halt_of calls_of takes_of plan_whole to_the_end events move call_move take_move script_next session_next store_next
+    event_step event_step_by take_event step step_by deliver unless and_then in_order for_each digits
 returns-clause-a_reply_without_room c = (refl, refl, refl, refl)

@@ -16,13 +16,16 @@ use Rattle.std.specs.Fmt.{digits}
 use Rattle.worked_rows.proofs.shared_events.ends.Goals as goal
 
 pub returns-clause-an_owner_that_dies_next : goal.returns-clause-an_owner_that_dies_next
-unfolding trace_of halt_of calls_of takes_of plan_whole to_the_end events move call_move take_move script_next session_next store_next event_step event_step_by take_event step step_by deliver unless and_then in_order for_each digits
+unfolding trace_of halt_of calls_of takes_of plan_whole to_the_end events move call_move take_move script_next session_next store_next
+    event_step event_step_by take_event step step_by deliver unless and_then in_order for_each digits
 returns-clause-an_owner_that_dies_next c = (refl, refl, refl, refl)
 
 pub returns-clause-destroyed_while_it_holds : goal.returns-clause-destroyed_while_it_holds
-unfolding trace_of halt_of calls_of takes_of plan_whole to_the_end events move call_move take_move script_next session_next store_next event_step event_step_by take_event step step_by deliver unless and_then in_order for_each digits
+unfolding trace_of halt_of calls_of takes_of plan_whole to_the_end events move call_move take_move script_next session_next store_next
+    event_step event_step_by take_event step step_by deliver unless and_then in_order for_each digits
 returns-clause-destroyed_while_it_holds c = (refl, refl, refl, refl)
 
 pub returns-clause-destroyed_beside_one_that_holds : goal.returns-clause-destroyed_beside_one_that_holds
-unfolding trace_of halt_of calls_of takes_of plan_whole to_the_end events move call_move take_move script_next session_next store_next event_step event_step_by take_event step step_by deliver unless and_then in_order for_each digits
+unfolding trace_of halt_of calls_of takes_of plan_whole to_the_end events move call_move take_move script_next session_next store_next
+    event_step event_step_by take_event step step_by deliver unless and_then in_order for_each digits
 returns-clause-destroyed_beside_one_that_holds c = (refl, refl, refl, refl)

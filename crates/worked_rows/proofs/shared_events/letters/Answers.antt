@@ -16,21 +16,26 @@ use Rattle.std.specs.Fmt.{digits}
 use Rattle.worked_rows.proofs.shared_events.letters.Goals as goal
 
 pub returns-clause-blocked_on_its_second_agent : goal.returns-clause-blocked_on_its_second_agent
-unfolding trace_of halt_of calls_of takes_of plan_whole to_the_end events move call_move take_move script_next session_next store_next event_step event_step_by take_event step step_by deliver unless and_then in_order for_each digits
+unfolding trace_of halt_of calls_of takes_of plan_whole to_the_end events move call_move take_move script_next session_next store_next
+    event_step event_step_by take_event step step_by deliver unless and_then in_order for_each digits
 returns-clause-blocked_on_its_second_agent c = (refl, refl, refl, refl)
 
 pub returns-clause-born_beside_one_that_holds : goal.returns-clause-born_beside_one_that_holds
-unfolding trace_of halt_of calls_of takes_of plan_whole to_the_end events move call_move take_move script_next session_next store_next event_step event_step_by take_event step step_by deliver unless and_then in_order for_each digits
+unfolding trace_of halt_of calls_of takes_of plan_whole to_the_end events move call_move take_move script_next session_next store_next
+    event_step event_step_by take_event step step_by deliver unless and_then in_order for_each digits
 returns-clause-born_beside_one_that_holds c = (refl, refl, refl, refl)
 
 pub returns-clause-a_reply_to_one_of_two : goal.returns-clause-a_reply_to_one_of_two
-unfolding trace_of halt_of calls_of takes_of plan_whole to_the_end events move call_move take_move script_next session_next store_next event_step event_step_by take_event step step_by deliver unless and_then in_order for_each digits
+unfolding trace_of halt_of calls_of takes_of plan_whole to_the_end events move call_move take_move script_next session_next store_next
+    event_step event_step_by take_event step step_by deliver unless and_then in_order for_each digits
 returns-clause-a_reply_to_one_of_two c = (refl, refl, refl, refl)
 
 pub returns-clause-three_agents_of_one_owner : goal.returns-clause-three_agents_of_one_owner
-unfolding trace_of halt_of calls_of takes_of plan_whole to_the_end events move call_move take_move script_next session_next store_next event_step event_step_by take_event step step_by deliver unless and_then in_order for_each digits
+unfolding trace_of halt_of calls_of takes_of plan_whole to_the_end events move call_move take_move script_next session_next store_next
+    event_step event_step_by take_event step step_by deliver unless and_then in_order for_each digits
 returns-clause-three_agents_of_one_owner c = (refl, refl, refl, refl)
 
 pub returns-clause-stuck_beside_one_that_holds : goal.returns-clause-stuck_beside_one_that_holds
-unfolding trace_of halt_of calls_of takes_of plan_whole to_the_end events move call_move take_move script_next session_next store_next event_step event_step_by take_event step step_by deliver unless and_then in_order for_each digits
+unfolding trace_of halt_of calls_of takes_of plan_whole to_the_end events move call_move take_move script_next session_next store_next
+    event_step event_step_by take_event step step_by deliver unless and_then in_order for_each digits
 returns-clause-stuck_beside_one_that_holds c = (refl, refl, refl, refl)

@@ -16,21 +16,26 @@ use Rattle.std.specs.Fmt.{digits}
 use Rattle.worked_rows.proofs.sleepers.ends.Goals as goal
 
 pub returns-clause-a_death_beside_a_sleeping_server : goal.returns-clause-a_death_beside_a_sleeping_server
-unfolding trace_of halt_of calls_of takes_of plan_whole to_the_end events move call_move take_move script_next session_next store_next event_step event_step_by take_event step step_by deliver unless and_then in_order for_each digits
+unfolding trace_of halt_of calls_of takes_of plan_whole to_the_end events move call_move take_move script_next session_next store_next
+    event_step event_step_by take_event step step_by deliver unless and_then in_order for_each digits
 returns-clause-a_death_beside_a_sleeping_server c = (refl, refl, refl, refl)
 
 pub returns-clause-a_server_falls_asleep : goal.returns-clause-a_server_falls_asleep
-unfolding trace_of halt_of calls_of takes_of plan_whole to_the_end events move call_move take_move script_next session_next store_next event_step event_step_by take_event step step_by deliver unless and_then in_order for_each digits
+unfolding trace_of halt_of calls_of takes_of plan_whole to_the_end events move call_move take_move script_next session_next store_next
+    event_step event_step_by take_event step step_by deliver unless and_then in_order for_each digits
 returns-clause-a_server_falls_asleep c = (refl, refl, refl, refl)
 
 pub returns-clause-spent_beside_a_sleeper : goal.returns-clause-spent_beside_a_sleeper
-unfolding trace_of halt_of calls_of takes_of plan_whole to_the_end events move call_move take_move script_next session_next store_next event_step event_step_by take_event step step_by deliver unless and_then in_order for_each digits
+unfolding trace_of halt_of calls_of takes_of plan_whole to_the_end events move call_move take_move script_next session_next store_next
+    event_step event_step_by take_event step step_by deliver unless and_then in_order for_each digits
 returns-clause-spent_beside_a_sleeper c = (refl, refl, refl, refl)
 
 pub returns-clause-ticks_behind_the_last_turn : goal.returns-clause-ticks_behind_the_last_turn
-unfolding trace_of halt_of calls_of takes_of plan_whole to_the_end events move call_move take_move script_next session_next store_next event_step event_step_by take_event step step_by deliver unless and_then in_order for_each digits
+unfolding trace_of halt_of calls_of takes_of plan_whole to_the_end events move call_move take_move script_next session_next store_next
+    event_step event_step_by take_event step step_by deliver unless and_then in_order for_each digits
 returns-clause-ticks_behind_the_last_turn c = (refl, refl, refl, refl)
 
 pub returns-clause-stuck_with_lines_of_another_event : goal.returns-clause-stuck_with_lines_of_another_event
-unfolding trace_of halt_of calls_of takes_of plan_whole to_the_end events move call_move take_move script_next session_next store_next event_step event_step_by take_event step step_by deliver unless and_then in_order for_each digits
+unfolding trace_of halt_of calls_of takes_of plan_whole to_the_end events move call_move take_move script_next session_next store_next
+    event_step event_step_by take_event step step_by deliver unless and_then in_order for_each digits
 returns-clause-stuck_with_lines_of_another_event c = (refl, refl, refl, refl)

@@ -16,25 +16,31 @@ use Rattle.std.specs.Fmt.{digits}
 use Rattle.worked_rows.proofs.sleepers.limited_receives.Goals as goal
 
 pub returns-clause-a_letter_behind_the_due : goal.returns-clause-a_letter_behind_the_due
-unfolding trace_of halt_of calls_of takes_of plan_whole to_the_end events move call_move take_move script_next session_next store_next event_step event_step_by take_event step step_by deliver unless and_then in_order for_each digits
+unfolding trace_of halt_of calls_of takes_of plan_whole to_the_end events move call_move take_move script_next session_next store_next
+    event_step event_step_by take_event step step_by deliver unless and_then in_order for_each digits
 returns-clause-a_letter_behind_the_due c = (refl, refl, refl, refl)
 
 pub returns-clause-an_answered_receive_has_no_timer : goal.returns-clause-an_answered_receive_has_no_timer
-unfolding trace_of halt_of calls_of takes_of plan_whole to_the_end events move call_move take_move script_next session_next store_next event_step event_step_by take_event step step_by deliver unless and_then in_order for_each digits
+unfolding trace_of halt_of calls_of takes_of plan_whole to_the_end events move call_move take_move script_next session_next store_next
+    event_step event_step_by take_event step step_by deliver unless and_then in_order for_each digits
 returns-clause-an_answered_receive_has_no_timer c = (refl, refl, refl, refl)
 
 pub returns-clause-a_letter_of_another : goal.returns-clause-a_letter_of_another
-unfolding trace_of halt_of calls_of takes_of plan_whole to_the_end events move call_move take_move script_next session_next store_next event_step event_step_by take_event step step_by deliver unless and_then in_order for_each digits
+unfolding trace_of halt_of calls_of takes_of plan_whole to_the_end events move call_move take_move script_next session_next store_next
+    event_step event_step_by take_event step step_by deliver unless and_then in_order for_each digits
 returns-clause-a_letter_of_another c = (refl, refl, refl, refl)
 
 pub returns-clause-an_agent_ends_first : goal.returns-clause-an_agent_ends_first
-unfolding trace_of halt_of calls_of takes_of plan_whole to_the_end events move call_move take_move script_next session_next store_next event_step event_step_by take_event step step_by deliver unless and_then in_order for_each digits
+unfolding trace_of halt_of calls_of takes_of plan_whole to_the_end events move call_move take_move script_next session_next store_next
+    event_step event_step_by take_event step step_by deliver unless and_then in_order for_each digits
 returns-clause-an_agent_ends_first c = (refl, refl, refl, refl)
 
 pub returns-clause-the_greatest_ticks : goal.returns-clause-the_greatest_ticks
-unfolding trace_of halt_of calls_of takes_of plan_whole to_the_end events move call_move take_move script_next session_next store_next event_step event_step_by take_event step step_by deliver unless and_then in_order for_each digits
+unfolding trace_of halt_of calls_of takes_of plan_whole to_the_end events move call_move take_move script_next session_next store_next
+    event_step event_step_by take_event step step_by deliver unless and_then in_order for_each digits
 returns-clause-the_greatest_ticks c = (refl, refl, refl, refl)
 
 pub returns-clause-a_limit_and_its_refusals : goal.returns-clause-a_limit_and_its_refusals
-unfolding trace_of halt_of calls_of takes_of plan_whole to_the_end events move call_move take_move script_next session_next store_next event_step event_step_by take_event step step_by deliver unless and_then in_order for_each digits
+unfolding trace_of halt_of calls_of takes_of plan_whole to_the_end events move call_move take_move script_next session_next store_next
+    event_step event_step_by take_event step step_by deliver unless and_then in_order for_each digits
 returns-clause-a_limit_and_its_refusals c = (refl, refl, refl, refl)

@@ -16,33 +16,41 @@ use Rattle.std.specs.Fmt.{digits}
 use Rattle.worked_rows.proofs.sleepers.others.Goals as goal
 
 pub returns-clause-destroyed_asleep : goal.returns-clause-destroyed_asleep
-unfolding trace_of halt_of calls_of takes_of plan_whole to_the_end events move call_move take_move script_next session_next store_next event_step event_step_by take_event step step_by deliver unless and_then in_order for_each digits
+unfolding trace_of halt_of calls_of takes_of plan_whole to_the_end events move call_move take_move script_next session_next store_next
+    event_step event_step_by take_event step step_by deliver unless and_then in_order for_each digits
 returns-clause-destroyed_asleep c = (refl, refl, refl, refl)
 
 pub returns-clause-suspended_past_its_tick : goal.returns-clause-suspended_past_its_tick
-unfolding trace_of halt_of calls_of takes_of plan_whole to_the_end events move call_move take_move script_next session_next store_next event_step event_step_by take_event step step_by deliver unless and_then in_order for_each digits
+unfolding trace_of halt_of calls_of takes_of plan_whole to_the_end events move call_move take_move script_next session_next store_next
+    event_step event_step_by take_event step step_by deliver unless and_then in_order for_each digits
 returns-clause-suspended_past_its_tick c = (refl, refl, refl, refl)
 
 pub returns-clause-resumed_before_its_tick : goal.returns-clause-resumed_before_its_tick
-unfolding trace_of halt_of calls_of takes_of plan_whole to_the_end events move call_move take_move script_next session_next store_next event_step event_step_by take_event step step_by deliver unless and_then in_order for_each digits
+unfolding trace_of halt_of calls_of takes_of plan_whole to_the_end events move call_move take_move script_next session_next store_next
+    event_step event_step_by take_event step step_by deliver unless and_then in_order for_each digits
 returns-clause-resumed_before_its_tick c = (refl, refl, refl, refl)
 
 pub returns-clause-joined_asleep : goal.returns-clause-joined_asleep
-unfolding trace_of halt_of calls_of takes_of plan_whole to_the_end events move call_move take_move script_next session_next store_next event_step event_step_by take_event step step_by deliver unless and_then in_order for_each digits
+unfolding trace_of halt_of calls_of takes_of plan_whole to_the_end events move call_move take_move script_next session_next store_next
+    event_step event_step_by take_event step step_by deliver unless and_then in_order for_each digits
 returns-clause-joined_asleep c = (refl, refl, refl, refl)
 
 pub returns-clause-asleep_with_a_monitor : goal.returns-clause-asleep_with_a_monitor
-unfolding trace_of halt_of calls_of takes_of plan_whole to_the_end events move call_move take_move script_next session_next store_next event_step event_step_by take_event step step_by deliver unless and_then in_order for_each digits
+unfolding trace_of halt_of calls_of takes_of plan_whole to_the_end events move call_move take_move script_next session_next store_next
+    event_step event_step_by take_event step step_by deliver unless and_then in_order for_each digits
 returns-clause-asleep_with_a_monitor c = (refl, refl, refl, refl)
 
 pub returns-clause-what_others_see_of_a_sleeper : goal.returns-clause-what_others_see_of_a_sleeper
-unfolding trace_of halt_of calls_of takes_of plan_whole to_the_end events move call_move take_move script_next session_next store_next event_step event_step_by take_event step step_by deliver unless and_then in_order for_each digits
+unfolding trace_of halt_of calls_of takes_of plan_whole to_the_end events move call_move take_move script_next session_next store_next
+    event_step event_step_by take_event step step_by deliver unless and_then in_order for_each digits
 returns-clause-what_others_see_of_a_sleeper c = (refl, refl, refl, refl)
 
 pub returns-clause-asleep_in_a_called_procedure : goal.returns-clause-asleep_in_a_called_procedure
-unfolding trace_of halt_of calls_of takes_of plan_whole to_the_end events move call_move take_move script_next session_next store_next event_step event_step_by take_event step step_by deliver unless and_then in_order for_each digits
+unfolding trace_of halt_of calls_of takes_of plan_whole to_the_end events move call_move take_move script_next session_next store_next
+    event_step event_step_by take_event step step_by deliver unless and_then in_order for_each digits
 returns-clause-asleep_in_a_called_procedure c = (refl, refl, refl, refl)
 
 pub returns-clause-exits_of_a_sleeper : goal.returns-clause-exits_of_a_sleeper
-unfolding trace_of halt_of calls_of takes_of plan_whole to_the_end events move call_move take_move script_next session_next store_next event_step event_step_by take_event step step_by deliver unless and_then in_order for_each digits
+unfolding trace_of halt_of calls_of takes_of plan_whole to_the_end events move call_move take_move script_next session_next store_next
+    event_step event_step_by take_event step step_by deliver unless and_then in_order for_each digits
 returns-clause-exits_of_a_sleeper c = (refl, refl, refl, refl)

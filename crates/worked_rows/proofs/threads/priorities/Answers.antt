@@ -16,21 +16,26 @@ use Rattle.std.specs.Fmt.{digits}
 use Rattle.worked_rows.proofs.threads.priorities.Goals as goal
 
 pub returns-clause-setpri_is_refused_in_order : goal.returns-clause-setpri_is_refused_in_order
-unfolding trace_of halt_of calls_of takes_of plan_whole to_the_end events move call_move take_move script_next session_next store_next event_step event_step_by take_event step step_by deliver unless and_then in_order for_each digits
+unfolding trace_of halt_of calls_of takes_of plan_whole to_the_end events move call_move take_move script_next session_next store_next
+    event_step event_step_by take_event step step_by deliver unless and_then in_order for_each digits
 returns-clause-setpri_is_refused_in_order c = (refl, refl, refl, refl)
 
 pub returns-clause-setpri_to_the_same : goal.returns-clause-setpri_to_the_same
-unfolding trace_of halt_of calls_of takes_of plan_whole to_the_end events move call_move take_move script_next session_next store_next event_step event_step_by take_event step step_by deliver unless and_then in_order for_each digits
+unfolding trace_of halt_of calls_of takes_of plan_whole to_the_end events move call_move take_move script_next session_next store_next
+    event_step event_step_by take_event step step_by deliver unless and_then in_order for_each digits
 returns-clause-setpri_to_the_same c = (refl, refl, refl, refl)
 
 pub returns-clause-setpri_goes_last : goal.returns-clause-setpri_goes_last
-unfolding trace_of halt_of calls_of takes_of plan_whole to_the_end events move call_move take_move script_next session_next store_next event_step event_step_by take_event step step_by deliver unless and_then in_order for_each digits
+unfolding trace_of halt_of calls_of takes_of plan_whole to_the_end events move call_move take_move script_next session_next store_next
+    event_step event_step_by take_event step step_by deliver unless and_then in_order for_each digits
 returns-clause-setpri_goes_last c = (refl, refl, refl, refl)
 
 pub returns-clause-setpri_of_a_suspended_thread : goal.returns-clause-setpri_of_a_suspended_thread
-unfolding trace_of halt_of calls_of takes_of plan_whole to_the_end events move call_move take_move script_next session_next store_next event_step event_step_by take_event step step_by deliver unless and_then in_order for_each digits
+unfolding trace_of halt_of calls_of takes_of plan_whole to_the_end events move call_move take_move script_next session_next store_next
+    event_step event_step_by take_event step step_by deliver unless and_then in_order for_each digits
 returns-clause-setpri_of_a_suspended_thread c = (refl, refl, refl, refl)
 
 pub returns-clause-the_greatest_priority_only_grows : goal.returns-clause-the_greatest_priority_only_grows
-unfolding trace_of halt_of calls_of takes_of plan_whole to_the_end events move call_move take_move script_next session_next store_next event_step event_step_by take_event step step_by deliver unless and_then in_order for_each digits
+unfolding trace_of halt_of calls_of takes_of plan_whole to_the_end events move call_move take_move script_next session_next store_next
+    event_step event_step_by take_event step step_by deliver unless and_then in_order for_each digits
 returns-clause-the_greatest_priority_only_grows c = (refl, refl, refl, refl)

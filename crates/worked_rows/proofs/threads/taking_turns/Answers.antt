@@ -16,17 +16,21 @@ use Rattle.std.specs.Fmt.{digits}
 use Rattle.worked_rows.proofs.threads.taking_turns.Goals as goal
 
 pub returns-clause-yield_is_refused_in_order : goal.returns-clause-yield_is_refused_in_order
-unfolding trace_of halt_of calls_of takes_of plan_whole to_the_end events move call_move take_move script_next session_next store_next event_step event_step_by take_event step step_by deliver unless and_then in_order for_each digits
+unfolding trace_of halt_of calls_of takes_of plan_whole to_the_end events move call_move take_move script_next session_next store_next
+    event_step event_step_by take_event step step_by deliver unless and_then in_order for_each digits
 returns-clause-yield_is_refused_in_order c = (refl, refl, refl, refl)
 
 pub returns-clause-resched_moves_the_first : goal.returns-clause-resched_moves_the_first
-unfolding trace_of halt_of calls_of takes_of plan_whole to_the_end events move call_move take_move script_next session_next store_next event_step event_step_by take_event step step_by deliver unless and_then in_order for_each digits
+unfolding trace_of halt_of calls_of takes_of plan_whole to_the_end events move call_move take_move script_next session_next store_next
+    event_step event_step_by take_event step step_by deliver unless and_then in_order for_each digits
 returns-clause-resched_moves_the_first c = (refl, refl, refl, refl)
 
 pub returns-clause-resched_lets_an_equal_run : goal.returns-clause-resched_lets_an_equal_run
-unfolding trace_of halt_of calls_of takes_of plan_whole to_the_end events move call_move take_move script_next session_next store_next event_step event_step_by take_event step step_by deliver unless and_then in_order for_each digits
+unfolding trace_of halt_of calls_of takes_of plan_whole to_the_end events move call_move take_move script_next session_next store_next
+    event_step event_step_by take_event step step_by deliver unless and_then in_order for_each digits
 returns-clause-resched_lets_an_equal_run c = (refl, refl, refl, refl)
 
 pub returns-clause-resched_is_refused_in_order : goal.returns-clause-resched_is_refused_in_order
-unfolding trace_of halt_of calls_of takes_of plan_whole to_the_end events move call_move take_move script_next session_next store_next event_step event_step_by take_event step step_by deliver unless and_then in_order for_each digits
+unfolding trace_of halt_of calls_of takes_of plan_whole to_the_end events move call_move take_move script_next session_next store_next
+    event_step event_step_by take_event step step_by deliver unless and_then in_order for_each digits
 returns-clause-resched_is_refused_in_order c = (refl, refl, refl, refl)

@@ -16,21 +16,26 @@ use Rattle.std.specs.Fmt.{digits}
 use Rattle.worked_rows.proofs.time.falling_due.Goals as goal
 
 pub returns-clause-due_at_once : goal.returns-clause-due_at_once
-unfolding trace_of halt_of calls_of takes_of plan_whole to_the_end events move call_move take_move script_next session_next store_next event_step event_step_by take_event step step_by deliver unless and_then in_order for_each digits
+unfolding trace_of halt_of calls_of takes_of plan_whole to_the_end events move call_move take_move script_next session_next store_next
+    event_step event_step_by take_event step step_by deliver unless and_then in_order for_each digits
 returns-clause-due_at_once c = (refl, refl, refl, refl)
 
 pub returns-clause-a_letter_in_time : goal.returns-clause-a_letter_in_time
-unfolding trace_of halt_of calls_of takes_of plan_whole to_the_end events move call_move take_move script_next session_next store_next event_step event_step_by take_event step step_by deliver unless and_then in_order for_each digits
+unfolding trace_of halt_of calls_of takes_of plan_whole to_the_end events move call_move take_move script_next session_next store_next
+    event_step event_step_by take_event step step_by deliver unless and_then in_order for_each digits
 returns-clause-a_letter_in_time c = (refl, refl, refl, refl)
 
 pub returns-clause-a_death_in_time : goal.returns-clause-a_death_in_time
-unfolding trace_of halt_of calls_of takes_of plan_whole to_the_end events move call_move take_move script_next session_next store_next event_step event_step_by take_event step step_by deliver unless and_then in_order for_each digits
+unfolding trace_of halt_of calls_of takes_of plan_whole to_the_end events move call_move take_move script_next session_next store_next
+    event_step event_step_by take_event step step_by deliver unless and_then in_order for_each digits
 returns-clause-a_death_in_time c = (refl, refl, refl, refl)
 
 pub returns-clause-suspended_and_destroyed_asleep : goal.returns-clause-suspended_and_destroyed_asleep
-unfolding trace_of halt_of calls_of takes_of plan_whole to_the_end events move call_move take_move script_next session_next store_next event_step event_step_by take_event step step_by deliver unless and_then in_order for_each digits
+unfolding trace_of halt_of calls_of takes_of plan_whole to_the_end events move call_move take_move script_next session_next store_next
+    event_step event_step_by take_event step step_by deliver unless and_then in_order for_each digits
 returns-clause-suspended_and_destroyed_asleep c = (refl, refl, refl, refl)
 
 pub returns-clause-the_clock_comes_first : goal.returns-clause-the_clock_comes_first
-unfolding trace_of halt_of calls_of takes_of plan_whole to_the_end events move call_move take_move script_next session_next store_next event_step event_step_by take_event step step_by deliver unless and_then in_order for_each digits
+unfolding trace_of halt_of calls_of takes_of plan_whole to_the_end events move call_move take_move script_next session_next store_next
+    event_step event_step_by take_event step step_by deliver unless and_then in_order for_each digits
 returns-clause-the_clock_comes_first c = (refl, refl, refl, refl)

@@ -16,13 +16,16 @@ use Rattle.std.specs.Fmt.{digits}
 use Rattle.worked_rows.proofs.time.waiting_for_ticks.Goals as goal
 
 pub returns-clause-sleep : goal.returns-clause-sleep
-unfolding trace_of halt_of calls_of takes_of plan_whole to_the_end events move call_move take_move script_next session_next store_next event_step event_step_by take_event step step_by deliver unless and_then in_order for_each digits
+unfolding trace_of halt_of calls_of takes_of plan_whole to_the_end events move call_move take_move script_next session_next store_next
+    event_step event_step_by take_event step step_by deliver unless and_then in_order for_each digits
 returns-clause-sleep c = (refl, refl, refl, refl)
 
 pub returns-clause-timed_receive : goal.returns-clause-timed_receive
-unfolding trace_of halt_of calls_of takes_of plan_whole to_the_end events move call_move take_move script_next session_next store_next event_step event_step_by take_event step step_by deliver unless and_then in_order for_each digits
+unfolding trace_of halt_of calls_of takes_of plan_whole to_the_end events move call_move take_move script_next session_next store_next
+    event_step event_step_by take_event step step_by deliver unless and_then in_order for_each digits
 returns-clause-timed_receive c = (refl, refl, refl, refl)
 
 pub returns-clause-no_tick_left : goal.returns-clause-no_tick_left
-unfolding trace_of halt_of calls_of takes_of plan_whole to_the_end events move call_move take_move script_next session_next store_next event_step event_step_by take_event step step_by deliver unless and_then in_order for_each digits
+unfolding trace_of halt_of calls_of takes_of plan_whole to_the_end events move call_move take_move script_next session_next store_next
+    event_step event_step_by take_event step step_by deliver unless and_then in_order for_each digits
 returns-clause-no_tick_left c = (refl, refl, refl, refl)

@@ -5,12 +5,14 @@ use Rattle.lwp_types.specs.declared.rows.AgentRow.{AgentRow}
 pub add-requires-clause-newest : goal.add-requires-clause-newest
 add-requires-clause-newest c =
     rw (c.number_of.ensures, c.from.ensures)
-    (newest_under (λ (row : AgentRow). row.event) c.self.inside.rows.items _ c.self.invariant.events c.args.a c.args.event (rw (← c.self.view_is) at c.requires.newest))
+    (newest_under (λ (row : AgentRow). row.event) c.self.inside.rows.items _ c.self.invariant.events c.args.a c.args.event
+    (rw (← c.self.view_is) at c.requires.newest))
 
 pub add-requires-2-clause-newest : goal.add-requires-2-clause-newest
 add-requires-2-clause-newest c =
     rw (c.number_of-2.ensures, c.number_of-3.ensures)
-    (newest_under (λ (row : AgentRow). row.owner) c.self.inside.rows.items _ c.self.invariant.owners c.args.a c.args.owner (rw (← c.self.view_is) at c.requires.newest))
+    (newest_under (λ (row : AgentRow). row.owner) c.self.inside.rows.items _ c.self.invariant.owners c.args.a c.args.owner
+    (rw (← c.self.view_is) at c.requires.newest))
 
 pub invariant_of-self : goal.invariant_of-self
 invariant_of-self c =

@@ -20,7 +20,8 @@ pub overflow_sub-agents : goal.overflow_sub-agents
 overflow_sub-agents c = agent_counted c.self.invariant c.args.a c.in-Some.row (sym c.in-Some.ensures.value) c.tally-before.result c.tally-before.ensures
 
 pub overflow_sub-others_holding : goal.overflow_sub-others_holding
-overflow_sub-others_holding c = rw c.one_if.ensures (holding_counted c.self.invariant c.args.a c.in-Some.row (sym c.in-Some.ensures.value) c.tally-before.result c.tally-before.ensures)
+overflow_sub-others_holding c =
+    rw c.one_if.ensures (holding_counted c.self.invariant c.args.a c.in-Some.row (sym c.in-Some.ensures.value) c.tally-before.result c.tally-before.ensures)
 
 pub put-requires : goal.put-requires
 put-requires c = low_event c.self.invariant c.args.a c.in-Some.row (sym c.in-Some.ensures.value)
@@ -30,5 +31,6 @@ invariant_of-self c =
     let of_event = rw (c.number_of.ensures, c.from.ensures) at c.take.ensures in
     let of_owner = rw (c.number_of-in-Some.ensures, c.number_of-in-Some-2.ensures) at c.take-in-Some.ensures in
     rw (c.in-Some.ensures.items, c.in-Some.ensures.capacity, c.put.ensures, c.one_if.ensures)
-    (IsKept-destroyed c.self.invariant c.args.a c.in-Some.row (sym c.in-Some.ensures.value) c.tally-before.result c.tally-before.ensures c.take.new.self c.take-in-Some.new.self
+    (IsKept-destroyed c.self.invariant c.args.a c.in-Some.row (sym c.in-Some.ensures.value) c.tally-before.result c.tally-before.ensures
+    c.take.new.self c.take-in-Some.new.self
     of_event.puts of_event.len of_event.room of_owner.puts of_owner.len of_owner.room)

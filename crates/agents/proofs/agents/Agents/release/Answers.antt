@@ -6,7 +6,8 @@ pub tally-before-requires : goal.tally-before-requires
 tally-before-requires c = low_event c.self.invariant c.args.a c.in-Some.row (sym c.in-Some.ensures.value)
 
 pub overflow_sub-holding : goal.overflow_sub-holding
-overflow_sub-holding c = rw c.one_if.ensures (holding_counted c.self.invariant c.args.a c.in-Some.row (sym c.in-Some.ensures.value) c.tally-before.result c.tally-before.ensures)
+overflow_sub-holding c =
+    rw c.one_if.ensures (holding_counted c.self.invariant c.args.a c.in-Some.row (sym c.in-Some.ensures.value) c.tally-before.result c.tally-before.ensures)
 
 pub put-requires : goal.put-requires
 put-requires c = low_event c.self.invariant c.args.a c.in-Some.row (sym c.in-Some.ensures.value)

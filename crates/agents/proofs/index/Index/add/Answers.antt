@@ -7,7 +7,8 @@ invariant_of-self c =
     let at = rw c.deref.ensures.value at c.end_of-end.ensures in
     let room = rw (← c.self.view_is) at c.requires.room in
     rw (c.insert.ensures.items, c.insert.ensures.succeeds (omega (arith, room)))
-    (AreOrdered-added c.args.key c.args.number c.self.inside.entries.items c.end_of-end.result c.self.invariant (rw (← c.self.view_is) at c.requires.newest) at.before at.behind)
+    (AreOrdered-added c.args.key c.args.number c.self.inside.entries.items c.end_of-end.result c.self.invariant
+    (rw (← c.self.view_is) at c.requires.newest) at.before at.behind)
 
 pub returns-clause-puts : goal.returns-clause-puts
 returns-clause-puts c =

@@ -5,7 +5,8 @@ use Rattle.std.proofs.Common.{arith}
 pub remove-requires : goal.remove-requires
 remove-requires c =
     let at = rw c.deref.ensures.value at c.place_of-place.ensures in
-    let stood = stands c.args.key c.args.number c.self.inside.entries.items c.place_of-place.result c.self.invariant at.before at.behind (rw (← c.self.view_is) at c.requires) in
+    let stood = stands c.args.key c.args.number c.self.inside.entries.items c.place_of-place.result c.self.invariant at.before at.behind
+    (rw (← c.self.view_is) at c.requires) in
     omega (arith, stood.within)
 
 pub invariant_of-self : goal.invariant_of-self
@@ -14,4 +15,5 @@ invariant_of-self c = rw c.remove.ensures.items (AreOrdered-taken c.self.inside.
 pub returns-clause-puts : goal.returns-clause-puts
 returns-clause-puts c =
     let at = rw c.deref.ensures.value at c.place_of-place.ensures in
-    rw (c.remove.ensures.items, ← c.self.view_is) (Puts-taken c.args.key c.args.number c.self.inside.entries.items c.place_of-place.result c.self.invariant at (rw (← c.self.view_is) at c.requires))
+    rw (c.remove.ensures.items, ← c.self.view_is)
+    (Puts-taken c.args.key c.args.number c.self.inside.entries.items c.place_of-place.result c.self.invariant at (rw (← c.self.view_is) at c.requires))

@@ -44,4 +44,5 @@ empty_spec 𝓤 𝓛 𝓜 𝓡 wired =
     nothing ! $ feq_i ! Bool false false refl $ fjoin ! $ held_in ! null_ptr false h a none $
     returns ! (look_at ! 0 refl) $ free_all ! refl $ keep ! (0 ∷ []) $
     use0 𝓛 (raw (fact 𝓤 (none ≡ none))) (fact_i 𝓤 (none ≡ none) (emp 𝓤) refl) $ nothing ! $ nothing ! $ fjoin ! $ nothing ! $ move ! (0 ∷ 1 ∷ 3 ∷ 2 ∷ []) $
-    by ! (leaves 𝓛 ended stayed c z (three (ptr_val null_ptr) (vbool false) h) (record { at = null_ptr; made = false; alloc = a; pod = none }) (tt, tt) (tt, tt)))))
+    by ! (leaves 𝓛 ended stayed c z (three (ptr_val null_ptr) (vbool false) h)
+    (record { at = null_ptr; made = false; alloc = a; pod = none }) (tt, tt) (tt, tt)))))

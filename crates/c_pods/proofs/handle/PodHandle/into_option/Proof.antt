@@ -4,7 +4,8 @@ use mir.Val.{Val, vbool, vcons, vnil, has_ty}
 use base.Logic.{SProp, emp}
 use base.Fml.{ftrue}
 use prog.Wp.{WpFn}
-use types.Kit.{‵, raw, ◌⊛◌, some, later, prop, at_ret, ◌$◌, ◌∵◌, !, qed, by, move, keep, drop, split, fsplit, fjoin, pick, await, regoal, rewrite, use0, use1, use2, feq_l}
+use types.Kit.{‵, raw, ◌⊛◌, some, later, prop, at_ret, ◌$◌, ◌∵◌, !, qed, by, move, keep, drop}
+use types.Kit.{split, fsplit, fjoin, pick, await, regoal, rewrite, use0, use1, use2, feq_l}
 use types.Run.{stop, fld, lit, un, of_opd, no_more, and_then, first, blocks, branches, skips, exec, returns, returns_within, enter}
 use types.ByLocal.{alloc_all, pass_all, free_all, look_at, get, get_in, sets, lands_last, env}
 use types.Match.{live}
@@ -51,7 +52,8 @@ into_option_spec 𝓤 𝓛 𝓜 𝓡 wired =
     qed 𝓛 ((‵ ftrue ⊛ ‵ (owns (types_at ended.signature.params z.0.0) z.0.3 z.0.4)) ∷ raw ((c z.0.0 z.0.3).requires z.1) ∷ []) ∵ split ! $ drop ! $ fsplit ! $
     held_out ! d z.0.4.0 (λ h ws fits. fsplit ! $ feq_l ! (λ mark.
     regoal ! (λ (us : List Val). prop (WpFn 𝓤 𝓛.H 𝓣.C 𝓣.Λ fn (us ++ []) Post)) ws refl $
-    enter ! 𝓣.C 𝓣.Λ fn (three (ptr_val p) (vbool d.made) h ∷ []) Post $ alloc_all ! (λ l. pass_all ! refl (three_good p d.made h fits, tt) $ let At = env fn.locals l in
+    enter ! 𝓣.C 𝓣.Λ fn (three (ptr_val p) (vbool d.made) h ∷ []) Post $ alloc_all ! (λ l.
+    pass_all ! refl (three_good p d.made h fits, tt) $ let At = env fn.locals l in
     sets ! (of_opd ! (get_in ! (fld ! refl (stop !)) (sub ! 0 refl (whole !)))) refl (Ptr-Good p) $
     sets ! (of_opd ! (get_in ! (fld ! refl (stop !)) (sub ! 1 refl (whole !)))) refl (tt, tt) $
     sets ! (of_opd ! (get_in ! (fld ! refl (stop !)) (sub ! 2 refl (whole !)))) refl fits $
@@ -75,7 +77,11 @@ into_option_spec 𝓤 𝓛 𝓜 𝓡 wired =
     lands_last ! refl good $ exec ! 𝓣.C 𝓣.Λ At code.Mir.t-8 (at_ret At Post) $
     sets ! (of_opd ! (get ! refl)) refl good $ let one : Out.Denot = Some b in let word : Val = live 1 (vcons u vnil) in
     let P : Type 0 = option_map (λ (e : Boxed.Denot). e.value) one ≡ d.pod in
-    sets ! (agg ! (and_then ! (lit ! tt) (and_then ! (get ! refl) (no_more !)))) refl (last_holds (has_ty (layout Boxed) u) good.0, (record { fits = lit< tt }, (good.1, tt))) $
+    sets ! (agg ! (and_then ! (lit ! tt) (and_then ! (get ! refl) (no_more !)))) refl (
+      last_holds (has_ty (layout Boxed) u) good.0,
+      (record { fits = lit< tt }, (good.1, tt)),
+    )
+    $
     use1 𝓛 (‵ (Out.own_val one (word ∷ []))) (Some-of 𝓛 Boxed b u) $ move ! (1 ∷ []) $ heard ! (b.value ≡ x) (λ same.
     returns ! (look_at ! 0 refl) $ free_all ! refl $ keep ! (0 ∷ []) $
     use0 𝓛 (raw (fact 𝓤 P)) (fact_i 𝓤 P (emp 𝓤) (ap (λ (e : R.Denot). Some e) same ∙ sym there.1)) $ nothing ! $ nothing ! $ fjoin ! $ nothing ! $

@@ -18,4 +18,6 @@ returns-clause-value c =
 pub returns-clause-after : goal.returns-clause-after
 returns-clause-after c =
     let s = c.self.inside in
-    rw (← c.self.view_is, c.leave.ensures, c.rec_of.ensures) (ap (λ us. record { conditions = s.rows.items; births = s.births; limit = s.limit; waits = us; places = s.waits.places }) (left-line c.in_ok-next.next.tid s.waits.waiting))
+    rw (← c.self.view_is, c.leave.ensures, c.rec_of.ensures) (ap (λ us.
+    record { conditions = s.rows.items; births = s.births; limit = s.limit; waits = us; places = s.waits.places })
+    (left-line c.in_ok-next.next.tid s.waits.waiting))

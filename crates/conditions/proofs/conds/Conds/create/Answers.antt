@@ -9,4 +9,5 @@ pub returns-clause-ok : goal.returns-clause-ok
 returns-clause-ok c = search rules
 
 pub invariant_of-self-2 : goal.invariant_of-self-2
-invariant_of-self-2 c = rw c.in_ok-push.ensures.items (IsKept-created c.args.mon c.self.inside.rows.items c.self.inside.births (c.self.inside.births + 1) c.self.invariant (omega arith))
+invariant_of-self-2 c = rw c.in_ok-push.ensures.items
+    (IsKept-created c.args.mon c.self.inside.rows.items c.self.inside.births (c.self.inside.births + 1) c.self.invariant (omega arith))

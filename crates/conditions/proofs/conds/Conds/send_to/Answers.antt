@@ -7,15 +7,19 @@ use Rattle.std.specs.Prelude.{option_map}
 
 pub returns-in_err-next-clause-value : goal.returns-in_err-next-clause-value
 returns-in_err-next-clause-value c =
-    let none = find-line (λ w. is_on c.args.cond w && is_wait_of c.args.tid w) c.self.inside.waits.waiting ∙ ap (λ o. option_map wait_in o) (sym (rw c.cond.view_is at c.in_err-next.ensures)) in
+    let none = find-line (λ w. is_on c.args.cond w && is_wait_of c.args.tid w) c.self.inside.waits.waiting
+    ∙ ap (λ o. option_map wait_in o) (sym (rw c.cond.view_is at c.in_err-next.ensures)) in
     rw (← c.self.view_is) (c.from_residual.ensures ∙ sym none)
 
 pub returns-clause-value : goal.returns-clause-value
 returns-clause-value c =
-    let some = find-line (λ w. is_on c.args.cond w && is_wait_of c.args.tid w) c.self.inside.waits.waiting ∙ ap (λ o. option_map wait_in o) (sym (rw c.cond.view_is at c.in_ok-next.ensures)) in
+    let some = find-line (λ w. is_on c.args.cond w && is_wait_of c.args.tid w) c.self.inside.waits.waiting
+    ∙ ap (λ o. option_map wait_in o) (sym (rw c.cond.view_is at c.in_ok-next.ensures)) in
     rw (← c.self.view_is) (ap (λ w. Some w) c.rec_of.ensures ∙ sym some)
 
 pub returns-clause-after : goal.returns-clause-after
 returns-clause-after c =
     let s = c.self.inside in
-    rw (← c.self.view_is, c.leave.ensures, c.rec_of.ensures) (ap (λ us. record { conditions = s.rows.items; births = s.births; limit = s.limit; waits = us; places = s.waits.places }) (left-line c.in_ok-next.next.tid s.waits.waiting))
+    rw (← c.self.view_is, c.leave.ensures, c.rec_of.ensures) (ap (λ us.
+    record { conditions = s.rows.items; births = s.births; limit = s.limit; waits = us; places = s.waits.places })
+    (left-line c.in_ok-next.next.tid s.waits.waiting))

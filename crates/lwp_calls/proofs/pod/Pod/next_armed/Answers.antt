@@ -4,10 +4,12 @@ use Rattle.lwp_calls.proofs.pod.Pod.next_armed.Goals as goal
 use Rattle.std.proofs.Common.{arith, sym, ◌≡◌}
 
 pub returns-then-from-gt-CLOCK-clause-none : goal.returns-then-from-gt-CLOCK-clause-none
-returns-then-from-gt-CLOCK-clause-none c = rw (← c.self.view_is) (nowhere-armed (state_of c.self.inside.parts) c.if-self.false c.args.from c.if-from-gt-CLOCK.true c.next_armed.result c.next_armed.ensures.none)
+returns-then-from-gt-CLOCK-clause-none c = rw (← c.self.view_is)
+    (nowhere-armed (state_of c.self.inside.parts) c.if-self.false c.args.from c.if-from-gt-CLOCK.true c.next_armed.result c.next_armed.ensures.none)
 
 pub returns-then-from-gt-CLOCK-clause-first : goal.returns-then-from-gt-CLOCK-clause-first
-returns-then-from-gt-CLOCK-clause-first c = rw (← c.self.view_is) (first-armed (state_of c.self.inside.parts) c.if-self.false c.args.from c.if-from-gt-CLOCK.true c.next_armed.result c.next_armed.ensures.first)
+returns-then-from-gt-CLOCK-clause-first c = rw (← c.self.view_is)
+    (first-armed (state_of c.self.inside.parts) c.if-self.false c.args.from c.if-from-gt-CLOCK.true c.next_armed.result c.next_armed.ensures.first)
 
 pub returns-clause-none : goal.returns-clause-none
 returns-clause-none c =

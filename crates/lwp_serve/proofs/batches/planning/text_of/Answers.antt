@@ -9,9 +9,14 @@ counts_of-requires-clause-posted c = is_posted c.args.input.now c.in-Ok.script c
 
 pub returns-in_ok-counts-in-Ok : goal.returns-in_ok-counts-in-Ok
 returns-in_ok-counts-in-Ok c =
-    rw (said-counts c.args.turns c.args.input.now c.in-Ok.script c.in_ok-counts-in-Ok.counts c.in-Ok.ensures.exact c.in_ok-counts-in-Ok.ensures) c.counts_text.ensures
+    rw
+    (said-counts c.args.turns c.args.input.now c.in-Ok.script c.in_ok-counts-in-Ok.counts c.in-Ok.ensures.exact c.in_ok-counts-in-Ok.ensures)
+    c.counts_text.ensures
 
 pub returns-in-Err-Bad : goal.returns-in-Err-Bad
 returns-in-Err-Bad c =
     let bad : c.read_script.result ≡ Err (err.Bad c.in-Err-Bad.line c.in-Err-Bad.reason) = search rules in
-    rw (said-bad c.args.turns c.args.input.now c.in-Err-Bad.line c.in-Err-Bad.reason (bad-so c.args.input.now c.read_script.result c.in-Err-Bad.line c.in-Err-Bad.reason bad c.read_script.ensures.exact)) c.bad_text.ensures
+    rw
+    (said-bad c.args.turns c.args.input.now c.in-Err-Bad.line c.in-Err-Bad.reason
+    (bad-so c.args.input.now c.read_script.result c.in-Err-Bad.line c.in-Err-Bad.reason bad c.read_script.ensures.exact))
+    c.bad_text.ensures

@@ -1,4 +1,5 @@
-use Rattle.std.proofs.Common.{◌≡◌, ℕ, suc, ◌+◌, ◌-◌, ◌*◌, ◌^◌, ◌<◌, ◌≤◌, Bool, true, false, ◌&&◌, ltb, List, [], ◌∷◌, length, get_or, drop, None, refl, ap, arith, drop-cons}
+use Rattle.std.proofs.Common.{◌≡◌, ℕ, suc, ◌+◌, ◌-◌, ◌*◌, ◌^◌, ◌<◌, ◌≤◌, Bool, true, false, ◌&&◌, ltb}
+use Rattle.std.proofs.Common.{List, [], ◌∷◌, length, get_or, drop, None, refl, ap, arith, drop-cons}
 use Rattle.std.specs.Str.{all_ascii_digits}
 use Rattle.std.proofs.lemmas.Bool.{le-ltb}
 use Rattle.script_lines.specs.Words.{value_after}
@@ -14,7 +15,8 @@ and_false : (a : Bool) → (a && false) ≡ false
 and_false true = refl
 and_false false = refl
 
-too_large : (n i : ℕ) (ds : List ℕ) → i < length ds → value_after n (drop i ds) ≡ value_after 0 ds → 2 ^ 64 ≤ 10 * n + (get_or ds i 0 - 48) → None ≡ long_value_of ds
+too_large : (n i : ℕ) (ds : List ℕ) → i < length ds → value_after n (drop i ds) ≡ value_after 0 ds → 2 ^ 64 ≤ 10 * n + (get_or ds i 0 - 48)
+    → None ≡ long_value_of ds
 too_large n i ds lt e big =
     let step : value_after n (drop i ds) ≡ value_after (10 * n + (get_or ds i 0 - 48)) (drop (suc i) ds) = ap (value_after n) (drop-cons ds i 0 lt) in
     let all : 2 ^ 64 ≤ value_after 0 ds = omega (arith, value_ge (10 * n + (get_or ds i 0 - 48)) (drop (suc i) ds)) in

@@ -22,5 +22,7 @@ returns c =
     let clients = each (client_line line.Client) c.args.threads in
     let sessions = each (client_line line.Native) c.args.threads in
     on_ok c.add_client_lines-2.result _ _
-    (four c.args.out.now.items (codes "lwp 1\npod 2\n") clients (codes "native db store\n") sessions c.add_text.new.out.items c.add_client_lines.new.out.items c.add_text-2.new.out.items c.add_client_lines-2.new.out.items c.in_ok-add_text.ensures c.in_ok-add_client_lines.ensures c.in_ok-add_text-2.ensures)
+    (four c.args.out.now.items (codes "lwp 1\npod 2\n") clients (codes "native db store\n") sessions c.add_text.new.out.items
+    c.add_client_lines.new.out.items c.add_text-2.new.out.items c.add_client_lines-2.new.out.items c.in_ok-add_text.ensures
+    c.in_ok-add_client_lines.ensures c.in_ok-add_text-2.ensures)
     c.add_client_lines-2.ensures

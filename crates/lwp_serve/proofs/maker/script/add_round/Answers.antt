@@ -5,8 +5,10 @@ use Rattle.lwp_serve.proofs.maker.script.add_round.Goals as goal
 
 pub loop-client-preserved : goal.loop-client-preserved
 loop-client-preserved c = record {
-  state = past_one c.args.draws.now.state c.loop-client.client c.loop-client.draws.state c.add_post.new.draws.state c.loop-client.invariant.state c.in_ok-add_post.ensures.draws;
-  text = round_post c.args.draws.now.state c.args.i c.loop-client.client c.from.result c.loop-client.draws.state c.args.out.now.items c.loop-client.out.items c.add_post.new.out.items c.loop-client.invariant.state c.from.ensures c.loop-client.invariant.text c.in_ok-add_post.ensures.text;
+  state = past_one c.args.draws.now.state c.loop-client.client c.loop-client.draws.state c.add_post.new.draws.state
+      c.loop-client.invariant.state c.in_ok-add_post.ensures.draws;
+  text = round_post c.args.draws.now.state c.args.i c.loop-client.client c.from.result c.loop-client.draws.state c.args.out.now.items
+      c.loop-client.out.items c.add_post.new.out.items c.loop-client.invariant.state c.from.ensures c.loop-client.invariant.text c.in_ok-add_post.ensures.text;
 }
 
 pub returns-clause-text : goal.returns-clause-text

@@ -6,8 +6,18 @@ use Rattle.lwp_serve.proofs.replaying.checked.replay_main.Goals as goal
 
 pub returns-in-Ok-write_all : goal.returns-in-Ok-write_all
 returns-in-Ok-write_all g c =
-    let source : Stream = record { old = g.S.Source.left c.args.source.now; new = g.S.Source.left c.read_input.new.source; faults_old = g.S.Source.faults c.args.source.now; faults_new = g.S.Source.faults c.read_input.new.source } in
-    let sink : Stream = record { old = g.K.Sink.written c.args.sink.now; new = g.K.Sink.written c.write_all.new.sink; faults_old = g.K.Sink.faults c.args.sink.now; faults_new = g.K.Sink.faults c.write_all.new.sink } in
+    let source : Stream = record {
+      old = g.S.Source.left c.args.source.now;
+      new = g.S.Source.left c.read_input.new.source;
+      faults_old = g.S.Source.faults c.args.source.now;
+      faults_new = g.S.Source.faults c.read_input.new.source;
+    } in
+    let sink : Stream = record {
+      old = g.K.Sink.written c.args.sink.now;
+      new = g.K.Sink.written c.write_all.new.sink;
+      faults_old = g.K.Sink.faults c.args.sink.now;
+      faults_new = g.K.Sink.faults c.write_all.new.sink;
+    } in
     let text = c.in-Ok.input.text.items in
     let part = c.in-Ok.input.part in
     let e = c.in-Ok-told_of.told.end in
@@ -22,8 +32,18 @@ returns-in-Ok-write_all g c =
 
 pub returns : goal.returns
 returns g c =
-    let source : Stream = record { old = g.S.Source.left c.args.source.now; new = g.S.Source.left c.read_input.new.source; faults_old = g.S.Source.faults c.args.source.now; faults_new = g.S.Source.faults c.read_input.new.source } in
-    let sink : Stream = record { old = g.K.Sink.written c.args.sink.now; new = g.K.Sink.written c.write_all.new.sink; faults_old = g.K.Sink.faults c.args.sink.now; faults_new = g.K.Sink.faults c.write_all.new.sink } in
+    let source : Stream = record {
+      old = g.S.Source.left c.args.source.now;
+      new = g.S.Source.left c.read_input.new.source;
+      faults_old = g.S.Source.faults c.args.source.now;
+      faults_new = g.S.Source.faults c.read_input.new.source;
+    } in
+    let sink : Stream = record {
+      old = g.K.Sink.written c.args.sink.now;
+      new = g.K.Sink.written c.write_all.new.sink;
+      faults_old = g.K.Sink.faults c.args.sink.now;
+      faults_new = g.K.Sink.faults c.write_all.new.sink;
+    } in
     let text = c.in-Ok.input.text.items in
     let part = c.in-Ok.input.part in
     let e = c.in-Ok-told_of.told.end in

@@ -10,7 +10,8 @@ pub put-requires-clause-new : goal.put-requires-clause-new
 put-requires-clause-new c =
     let l = c.make_slot.new.self in
     let mon = c.args.lock.now.mon in
-    rw c.key_of.ensures (unheld l.slots.items l.held c.make_slot.ensures.tied.by_monitor mon (ap (λ ls. locks_on ls mon) c.make_slot.ensures.locks ∙ c.requires.free))
+    rw c.key_of.ensures (unheld l.slots.items l.held c.make_slot.ensures.tied.by_monitor mon
+    (ap (λ ls. locks_on ls mon) c.make_slot.ensures.locks ∙ c.requires.free))
 
 pub returns-clause-tied : goal.returns-clause-tied
 returns-clause-tied c =
@@ -20,7 +21,8 @@ returns-clause-tied c =
     let lock = c.args.lock.now in
     let pushed = c.push_reserved.ensures.items in
     record {
-      by_monitor = rw pushed (monitor_pushed slots l.held was.by_monitor c.put.new.self lock c.len-slot.result lock.mon refl (omega (arith, c.len-slot.ensures)) (rw c.key_of.ensures at c.put.ensures.puts) c.put.ensures.count);
+      by_monitor = rw pushed (monitor_pushed slots l.held was.by_monitor c.put.new.self lock c.len-slot.result lock.mon refl
+          (omega (arith, c.len-slot.ensures)) (rw c.key_of.ensures at c.put.ensures.puts) c.put.ensures.count);
       by_owner = rw pushed (rw c.deref.ensures.value at c.file_owner.ensures.owners);
       within = omega (arith, ap length pushed, length_push slots (Some lock), c.make_slot.ensures.slot);
       places = record {

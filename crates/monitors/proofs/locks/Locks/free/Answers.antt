@@ -27,9 +27,11 @@ returns-then-slot-len-clause-tied c =
     let is : get_or slots i None ≡ Some lock = sym (rw c.deref.ensures.value at c.in-Some-lock_at.ensures) in
     let its = eqb-true lock.mon c.args.mon (sym (ap (passes (is_lock c.args.mon)) is) ∙ passed) in
     let last : suc i ≡ length slots = omega (arith, c.len.ensures) in
-    let emptied = monitor_emptied slots l.held was.by_monitor c.take.new.self i c.args.mon lock is its (c.requires.once c.args.mon) (rw c.key_of-2.ensures at c.take.ensures.puts) c.take.ensures.count in
+    let emptied = monitor_emptied slots l.held was.by_monitor c.take.new.self i c.args.mon lock is its (c.requires.once c.args.mon)
+    (rw c.key_of-2.ensures at c.take.ensures.puts) c.take.ensures.count in
     record {
-      by_monitor = rw c.cut.ensures.items (monitor_as (set slots i None) (take i slots) c.take.new.self (λ k. has_cut (is_lock k) slots i last) (λ k. ap (λ ls. locks_on ls k) (living-cut slots i last)) (ap length (living-cut slots i last)) emptied);
+      by_monitor = rw c.cut.ensures.items (monitor_as (set slots i None) (take i slots) c.take.new.self
+          (λ k. has_cut (is_lock k) slots i last) (λ k. ap (λ ls. locks_on ls k) (living-cut slots i last)) (ap length (living-cut slots i last)) emptied);
       by_owner = c.cut.ensures.owners;
       within = omega (arith, ap length c.cut.ensures.items, length-take-le i slots (omega (arith, last)), last, was.within);
       places = record {
@@ -64,7 +66,8 @@ returns-else-slot-len-clause-tied c =
     let is : get_or slots i None ≡ Some lock = sym (rw c.deref.ensures.value at c.in-Some-lock_at.ensures) in
     let its = eqb-true lock.mon c.args.mon (sym (ap (passes (is_lock c.args.mon)) is) ∙ passed) in
     record {
-      by_monitor = rw c.empty.ensures.items (monitor_emptied slots l.held was.by_monitor c.take.new.self i c.args.mon lock is its (c.requires.once c.args.mon) (rw c.key_of-2.ensures at c.take.ensures.puts) c.take.ensures.count);
+      by_monitor = rw c.empty.ensures.items (monitor_emptied slots l.held was.by_monitor c.take.new.self i c.args.mon lock is its
+          (c.requires.once c.args.mon) (rw c.key_of-2.ensures at c.take.ensures.puts) c.take.ensures.count);
       by_owner = rw c.deref-else-slot-len.ensures.value at c.empty.ensures.owners;
       within = omega (arith, ap length c.empty.ensures.items, length-set slots i None, was.within);
       places = record {

@@ -10,13 +10,34 @@ pub refile-requires-clause-once : goal.refile-requires-clause-once
 refile-requires-clause-once c = rw (c.deref.ensures.value, c.close_up.ensures.items, living-closed c.args.self.now.slots.items) c.requires.once
 
 pub refile-requires-clause-links_fit : goal.refile-requires-clause-links_fit
-refile-requires-clause-links_fit c = rw c.deref.ensures.value (omega (arith, ap length c.close_up.ensures.items, length-closed c.args.self.now.slots.items, c.requires.few, c.requires.places.links_fit, c.clear.ensures.capacity))
+refile-requires-clause-links_fit c = rw c.deref.ensures.value (omega (
+  arith,
+  ap length c.close_up.ensures.items,
+  length-closed c.args.self.now.slots.items,
+  c.requires.few,
+  c.requires.places.links_fit,
+  c.clear.ensures.capacity,
+))
 
 pub refile-requires-clause-held_cells : goal.refile-requires-clause-held_cells
-refile-requires-clause-held_cells c = rw c.deref.ensures.value (omega (arith, ap length c.close_up.ensures.items, length-closed c.args.self.now.slots.items, c.requires.few, c.requires.places.held_cells, c.clear-2.ensures.width))
+refile-requires-clause-held_cells c = rw c.deref.ensures.value (omega (
+  arith,
+  ap length c.close_up.ensures.items,
+  length-closed c.args.self.now.slots.items,
+  c.requires.few,
+  c.requires.places.held_cells,
+  c.clear-2.ensures.width,
+))
 
 pub refile-requires-clause-last_cells : goal.refile-requires-clause-last_cells
-refile-requires-clause-last_cells c = rw c.deref.ensures.value (omega (arith, ap length c.close_up.ensures.items, length-closed c.args.self.now.slots.items, c.requires.few, c.requires.places.last_cells, c.clear-3.ensures.width))
+refile-requires-clause-last_cells c = rw c.deref.ensures.value (omega (
+  arith,
+  ap length c.close_up.ensures.items,
+  length-closed c.args.self.now.slots.items,
+  c.requires.few,
+  c.requires.places.last_cells,
+  c.clear-3.ensures.width,
+))
 
 pub returns-clause-tied : goal.returns-clause-tied
 returns-clause-tied c =

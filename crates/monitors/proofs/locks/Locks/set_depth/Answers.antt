@@ -16,8 +16,10 @@ returns-in-Some-clause-tied c =
     let deep = option_map (deeper c.args.depth) (get_or slots i None) in
     let len = length-set slots i deep in
     record {
-      by_monitor = rw c.deepen.ensures.items (monitor_as slots (set slots i deep) l.held (λ k j. has_deepened (is_lock k) (λ d x. refl) c.args.depth slots i j) (λ k. count_deepened (is_lock k) (λ d x. refl) c.args.depth slots i) (length_deepened c.args.depth slots i) was.by_monitor);
-      by_owner = rw c.deepen.ensures.items (owner_as slots (set slots i deep) l.links.items l.last len (λ t j. has_deepened (is_owned_by t) (λ d x. refl) c.args.depth slots i j) was.by_owner);
+      by_monitor = rw c.deepen.ensures.items (monitor_as slots (set slots i deep) l.held (λ k j. has_deepened (is_lock k) (λ d x. refl)
+          c.args.depth slots i j) (λ k. count_deepened (is_lock k) (λ d x. refl) c.args.depth slots i) (length_deepened c.args.depth slots i) was.by_monitor);
+      by_owner = rw c.deepen.ensures.items
+          (owner_as slots (set slots i deep) l.links.items l.last len (λ t j. has_deepened (is_owned_by t) (λ d x. refl) c.args.depth slots i j) was.by_owner);
       within = omega (arith, ap length c.deepen.ensures.items, len, was.within);
       places = record {
         slots_fit = omega (arith, c.deepen.ensures.capacity, was.places.slots_fit);
@@ -41,4 +43,5 @@ pub returns-in_default-clause-locks : goal.returns-in_default-clause-locks
 returns-in_default-clause-locks c =
     let l = c.args.self.now in
     let place = rw c.key_of.ensures at c.in_default.ensures in
-    sym (deep_none c.args.mon c.args.depth (living l.slots.items) (subst (IsSlotOf l.slots.items c.args.mon) (sym place) (c.requires.tied.by_monitor.each c.args.mon)))
+    sym (deep_none c.args.mon c.args.depth (living l.slots.items)
+    (subst (IsSlotOf l.slots.items c.args.mon) (sym place) (c.requires.tied.by_monitor.each c.args.mon)))

@@ -11,6 +11,9 @@ returns g c =
     let pod = c.args.self.now.pod in
     let event = c.args.took.now.event in
     on_ok c.settle.result
-    (λ settled. taken_moves (g.P.Program.bodies c.args.program.now) c.args.names.now (live_of c.args.self.now) c.args.took.now c.deliver.new.self c.deliver.new.effects c.settle.new.rows.rows c.set_step.new.self
-    (c.deliver.ensures.after ∙ ap (λ text. (take_event pod event text).after) c.again.ensures) (c.deliver.ensures.effects ∙ ap (λ text. (take_event pod event text).effects) c.again.ensures) (ap (λ (kept : Rows _). kept.rows) settled) c.in_ok-set_step.ensures)
+    (λ settled. taken_moves (g.P.Program.bodies c.args.program.now) c.args.names.now (live_of c.args.self.now) c.args.took.now
+    c.deliver.new.self c.deliver.new.effects c.settle.new.rows.rows c.set_step.new.self
+    (c.deliver.ensures.after ∙ ap (λ text. (take_event pod event text).after) c.again.ensures)
+    (c.deliver.ensures.effects ∙ ap (λ text. (take_event pod event text).effects) c.again.ensures)
+    (ap (λ (kept : Rows _). kept.rows) settled) c.in_ok-set_step.ensures)
     c.settle.ensures

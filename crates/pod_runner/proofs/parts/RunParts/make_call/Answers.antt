@@ -15,11 +15,13 @@ use Rattle.pod_runner.proofs.parts.RunParts.make_call.Goals as goal
 use Rattle.std.proofs.Common.{List, None, Option, Some, ap, refl, subst, sym, ◌++◌, ◌∙◌, ◌≡◌, ℕ}
 
 -- of whose turn it is the call is told first, unless a trap is raised before it
-first_told : (es : EventState) (t : ℕ) (call : Call) (effects : List Effect) → choice es.state ≡ Some t → leads es call ++ effects ≡ (event_step es call).effects → lead es.pending t call ++ effects ≡ (event_step es call).effects
+first_told : (es : EventState) (t : ℕ) (call : Call) (effects : List Effect) → choice es.state ≡ Some t
+    → leads es call ++ effects ≡ (event_step es call).effects → lead es.pending t call ++ effects ≡ (event_step es call).effects
 first_told es t call effects turn told = subst (λ (who : Option ℕ). leads_if es.pending call who ++ effects ≡ (event_step es call).effects) turn told
 
 -- the call itself settles nothing
-settled-lead : {B : Type 0} (bodies : List B) (born : Option ℕ) (pending : Option ℕ) (t : ℕ) (call : Call) (effects : List Effect) (rows : List (Row B)) → after_settle bodies born effects rows ≡ after_settle bodies born (lead pending t call ++ effects) rows
+settled-lead : {B : Type 0} (bodies : List B) (born : Option ℕ) (pending : Option ℕ) (t : ℕ) (call : Call) (effects : List Effect) (rows : List (Row B))
+    → after_settle bodies born effects rows ≡ after_settle bodies born (lead pending t call ++ effects) rows
 settled-lead bodies born None t call effects rows = refl
 settled-lead bodies born (Some e) t call effects rows = refl
 
@@ -40,14 +42,18 @@ returns g c =
     let effects = lead es.pending c.args.tid seen ++ c.carry_out.new.effects in
     on_ok c.settle.result
     (λ settled.
-    let rows = ap (λ (r : Rows _). r.rows) settled ∙ settled-lead bodies c.proc_of-born.result es.pending c.args.tid seen c.carry_out.new.effects c.poll_at.new.self.rows in
+    let rows = ap (λ (r : Rows _). r.rows) settled
+    ∙ settled-lead bodies c.proc_of-born.result es.pending c.args.tid seen c.carry_out.new.effects c.poll_at.new.self.rows in
     let kept : c.settle.new.rows.call ≡ seen = ap (λ (r : Rows _). r.call) settled ∙ sym is in
-    let m = moves_at g.B.Body.next bodies c.args.names.now (live_of c.args.self.now) c.args.tid c.args.i c.set_me.new.self call c.carry_out.new.pod effects c.poll_at.new.self.rows c.settle.new.rows.rows c.poll_at.new.env c.carry_out.new.out c.proc_of-born.result
-    chosen c.requires.place c.requires.within c.set_me.ensures c.in_ok-poll_at.ensures.polls (c.in_ok-caller.ensures.after ∙ ap (λ k. (event_step es k).after) is) (told ∙ ap (λ k. (event_step es k).effects) is)
+    let m = moves_at g.B.Body.next bodies c.args.names.now (live_of c.args.self.now) c.args.tid c.args.i c.set_me.new.self call
+    c.carry_out.new.pod effects c.poll_at.new.self.rows c.settle.new.rows.rows c.poll_at.new.env c.carry_out.new.out c.proc_of-born.result
+    chosen c.requires.place c.requires.within c.set_me.ensures c.in_ok-poll_at.ensures.polls
+    (c.in_ok-caller.ensures.after ∙ ap (λ k. (event_step es k).after) is) (told ∙ ap (λ k. (event_step es k).effects) is)
     (c.proc_of-born.ensures ∙ ap proc_of is) rows c.in_ok-caller.ensures.lines in
     record {
       live = m.live;
-      effects = ap (λ who. with_call_by who c.settle.new.rows.call c.carry_out.new.effects) c.in_ok-caller.ensures.caller ∙ ap (λ k. with_call_by (caller_of es.pending c.args.tid) k c.carry_out.new.effects) kept
+      effects = ap (λ who. with_call_by who c.settle.new.rows.call c.carry_out.new.effects) c.in_ok-caller.ensures.caller
+          ∙ ap (λ k. with_call_by (caller_of es.pending c.args.tid) k c.carry_out.new.effects) kept
           ∙ led es.pending c.args.tid seen c.carry_out.new.effects ∙ m.effects;
       lines = m.lines;
     })

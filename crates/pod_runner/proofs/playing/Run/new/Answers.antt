@@ -6,8 +6,15 @@ use Rattle.pod_runner.proofs.playing.Run.new.Goals as goal
 
 pub invariant_of-result : goal.invariant_of-result
 invariant_of-result g c =
-    let same : c.args.env ≡ null_names c.thread_count-threads.result c.mon_count-mons.result c.cond_count-conds.result = c.requires.names ∙ rw (← c.thread_count-threads.ensures, ← c.mon_count-mons.ensures, ← c.cond_count-conds.ensures) refl in
-    let setting : Setting _ = record { next = g.B.Body.next; bodies = g.P.Program.bodies c.args.program; params = c.args.params; names = null_names c.thread_count-threads.result c.mon_count-mons.result c.cond_count-conds.result } in
+    let same : c.args.env
+    ≡ null_names c.thread_count-threads.result c.mon_count-mons.result c.cond_count-conds.result = c.requires.names
+    ∙ rw (← c.thread_count-threads.ensures, ← c.mon_count-mons.ensures, ← c.cond_count-conds.ensures) refl in
+    let setting : Setting _ = record {
+      next = g.B.Body.next;
+      bodies = g.P.Program.bodies c.args.program;
+      params = c.args.params;
+      names = null_names c.thread_count-threads.result c.mon_count-mons.result c.cond_count-conds.result;
+    } in
     rw c.new-2.ensures (record {
       named = c.in_ok-procs.ensures;
       made = IsDefined-zero setting;

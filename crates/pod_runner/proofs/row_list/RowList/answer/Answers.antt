@@ -14,7 +14,8 @@ invariant_of-self g c = λ up. c.put_answer.ensures.rising (c.self.invariant up)
 
 pub returns-then-i-len : goal.returns-then-i-len
 returns-then-i-len g c = rw (← c.self.view_is) (on_ok c.put_answer.result
-    (λ set. kept_rows _ _ _ _ set (ap (λ (rs : List (Row _)). call_at c.self.inside.gone rs c.self.inside.last) set ∙ call_answered c.self.inside.gone c.args.tid c.args.answer.now c.self.inside.rows.items c.self.inside.last))
+    (λ set. kept_rows _ _ _ _ set (ap (λ (rs : List (Row _)). call_at c.self.inside.gone rs c.self.inside.last) set
+    ∙ call_answered c.self.inside.gone c.args.tid c.args.answer.now c.self.inside.rows.items c.self.inside.last))
     c.put_answer.ensures.after)
 
 pub returns : goal.returns

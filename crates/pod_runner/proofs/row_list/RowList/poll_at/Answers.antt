@@ -17,4 +17,5 @@ returns-clause-call g c =
 pub returns-clause-polls : goal.returns-clause-polls
 returns-clause-polls g c =
     let within : c.args.i < length c.self.inside.rows.items = rw (← c.self.view_is) at c.requires in
-    rw (← c.self.view_is) (on_ok c.poll_in.result (λ h. polled g.B.Body.next c.args.env.now c.self.inside.gone c.args.i c.self.inside.rows.items c.poll_in.new.rows.items c.poll_in.new.env within h) c.poll_in.ensures.polls)
+    rw (← c.self.view_is) (on_ok c.poll_in.result (λ h. polled g.B.Body.next c.args.env.now c.self.inside.gone c.args.i
+    c.self.inside.rows.items c.poll_in.new.rows.items c.poll_in.new.env within h) c.poll_in.ensures.polls)

@@ -26,8 +26,12 @@ loop-level-preserved c =
     let was = rw one_more at c.loop-level.invariant in
     let twice : c.loop-level.at * 2 ≡ 2 * c.loop-level.at = omega arith in
     elim c.if-node-now.branch [
-      | then-node-now w ↦ rw (w.at-is, twice) (goes_right c.args.nodes.now.items c.args.width c.args.now c.requires.mended _ c.loop-level.at was (rw (c.node.ensures, twice) at w.if-node-now.true))
-      | else-node-now w ↦ rw (w.at-is, twice) (goes_left c.args.nodes.now.items c.args.width c.args.now c.requires.mended _ c.loop-level.at was (rw (c.node.ensures, twice) at w.if-node-now.false))
+      | then-node-now w
+          ↦ rw (w.at-is, twice) (goes_right c.args.nodes.now.items c.args.width c.args.now c.requires.mended _ c.loop-level.at was
+          (rw (c.node.ensures, twice) at w.if-node-now.true))
+      | else-node-now w
+          ↦ rw (w.at-is, twice) (goes_left c.args.nodes.now.items c.args.width c.args.now c.requires.mended _ c.loop-level.at was
+          (rw (c.node.ensures, twice) at w.if-node-now.false))
     ]
 
 pub returns-clause-value : goal.returns-clause-value

@@ -3,27 +3,37 @@ use Rattle.pod_sched.proofs.turns.Turns.put_back.Goals as goal
 use Rattle.std.proofs.Common.{arith}
 
 pub known_place-slot-requires-clause-known : goal.known_place-slot-requires-clause-known
-known_place-slot-requires-clause-known c = known_at c.self.inside.slots c.self.inside.order c.self.inside.rows.items _ _ _ _ c.self.inside.maxpri c.self.inside.places c.self.invariant c.args.tid (rw (← c.self.view_is) at c.requires.known)
+known_place-slot-requires-clause-known c = known_at c.self.inside.slots c.self.inside.order c.self.inside.rows.items _ _ _ _
+    c.self.inside.maxpri c.self.inside.places c.self.invariant c.args.tid (rw (← c.self.view_is) at c.requires.known)
 
 pub put_row-requires-clause-is_slot : goal.put_row-requires-clause-is_slot
-put_row-requires-clause-is_slot c = is_slot c.self.inside.slots c.self.inside.order c.self.inside.rows.items _ _ _ _ c.self.inside.maxpri c.self.inside.places c.self.invariant c.args.tid _ c.known_place-slot.ensures
+put_row-requires-clause-is_slot c = is_slot c.self.inside.slots c.self.inside.order c.self.inside.rows.items _ _ _ _ c.self.inside.maxpri
+    c.self.inside.places c.self.invariant c.args.tid _ c.known_place-slot.ensures
 
 pub put_row-requires-clause-in_range : goal.put_row-requires-clause-in_range
-put_row-requires-clause-in_range c = in_rows c.self.inside.slots c.self.inside.order c.self.inside.rows.items _ _ _ _ c.self.inside.maxpri c.self.inside.places c.self.invariant c.args.tid _ c.known_place-slot.ensures
+put_row-requires-clause-in_range c = in_rows c.self.inside.slots c.self.inside.order c.self.inside.rows.items _ _ _ _ c.self.inside.maxpri
+    c.self.inside.places c.self.invariant c.args.tid _ c.known_place-slot.ensures
 
 pub put_last-requires-clause-is_key : goal.put_last-requires-clause-is_key
-put_last-requires-clause-is_key c = is_key c.self.inside.slots c.self.inside.order c.self.inside.rows.items _ _ _ _ c.self.inside.maxpri c.self.inside.places c.self.invariant c.args.tid _ c.known_place-slot.ensures
+put_last-requires-clause-is_key c = is_key c.self.inside.slots c.self.inside.order c.self.inside.rows.items _ _ _ _ c.self.inside.maxpri
+    c.self.inside.places c.self.invariant c.args.tid _ c.known_place-slot.ensures
 
 pub put_last-requires-clause-in_limit : goal.put_last-requires-clause-in_limit
-put_last-requires-clause-in_limit c = in_limit c.self.inside.slots c.self.inside.order c.self.inside.rows.items _ _ _ _ c.self.inside.maxpri c.self.inside.places c.self.invariant c.args.tid _ c.known_place-slot.ensures
+put_last-requires-clause-in_limit c = in_limit c.self.inside.slots c.self.inside.order c.self.inside.rows.items _ _ _ _ c.self.inside.maxpri
+    c.self.inside.places c.self.invariant c.args.tid _ c.known_place-slot.ensures
 
 pub put_last-requires-clause-low : goal.put_last-requires-clause-low
 put_last-requires-clause-low c = rw c.self.invariant.levels (omega (arith, rw (← c.self.view_is) at c.requires.most, c.self.invariant.most))
 
 pub invariant_of-self : goal.invariant_of-self
 invariant_of-self c =
-    rw c.put_last.ensures (IsHeld-back c.self.inside.slots c.self.inside.order c.self.inside.rows.items _ _ _ _ c.self.inside.maxpri c.self.inside.places c.self.invariant c.args.tid _ c.known_place-slot.ensures c.put_row.new.rows.items c.put_row.ensures.len c.args.row c.put_row.ensures.changes c.requires.same (record { least = c.requires.least; most = rw (← c.self.view_is) at c.requires.most }) c.requires.in_order)
+    rw c.put_last.ensures (IsHeld-back c.self.inside.slots c.self.inside.order c.self.inside.rows.items _ _ _ _ c.self.inside.maxpri
+    c.self.inside.places c.self.invariant c.args.tid _ c.known_place-slot.ensures c.put_row.new.rows.items c.put_row.ensures.len
+    c.args.row c.put_row.ensures.changes c.requires.same
+    (record { least = c.requires.least; most = rw (← c.self.view_is) at c.requires.most }) c.requires.in_order)
 
 pub returns : goal.returns
 returns c =
-    rw (c.put_last.ensures, ← c.self.view_is) (view_back c.self.inside.slots c.self.inside.order c.self.inside.rows.items _ _ _ _ c.self.inside.maxpri c.self.inside.places c.self.invariant c.args.tid _ c.known_place-slot.ensures c.put_row.new.rows.items c.put_row.ensures.len c.args.row c.put_row.ensures.changes c.requires.same)
+    rw (c.put_last.ensures, ← c.self.view_is) (view_back c.self.inside.slots c.self.inside.order c.self.inside.rows.items _ _ _ _
+    c.self.inside.maxpri c.self.inside.places c.self.invariant c.args.tid _ c.known_place-slot.ensures c.put_row.new.rows.items
+    c.put_row.ensures.len c.args.row c.put_row.ensures.changes c.requires.same)

@@ -1,4 +1,5 @@
-use Rattle.pod_sched.proofs.HeldLemmas.{IsHeld-back, IsHeld-out, has_priority, in_limit, in_rows, is_key, is_slot, known_at, of_thread, prio_low, thread, view_back, view_out}
+use Rattle.pod_sched.proofs.HeldLemmas.{IsHeld-back, IsHeld-out, has_priority, in_limit, in_rows, is_key, is_slot}
+use Rattle.pod_sched.proofs.HeldLemmas.{known_at, of_thread, prio_low, thread, view_back, view_out}
 use Rattle.pod_sched.proofs.OpLemmas.{unblock_free, unblock_held}
 use Rattle.pod_sched.proofs.RequeueLemmas.{blocked_known, free_in, held_out}
 use Rattle.pod_sched.proofs.turns.Turns.unblock.Goals as goal
@@ -7,61 +8,105 @@ use Rattle.pod_sched.specs.declared.rows.Known.{Known}
 use Rattle.std.proofs.Common.{Some, ap, false, refl, sym, ◌∙◌, ◌≡◌}
 
 pub known_place-slot-requires-clause-known : goal.known_place-slot-requires-clause-known
-known_place-slot-requires-clause-known c = known_at c.self.inside.slots c.self.inside.order c.self.inside.rows.items _ _ _ _ c.self.inside.maxpri c.self.inside.places c.self.invariant c.args.tid (blocked_known (schedule_of c.self.inside.slots c.self.inside.order c.self.inside.rows.items c.self.inside.maxpri c.self.inside.places) c.args.tid (rw (← c.self.view_is) at c.requires))
+known_place-slot-requires-clause-known c = known_at c.self.inside.slots c.self.inside.order c.self.inside.rows.items _ _ _ _
+    c.self.inside.maxpri c.self.inside.places c.self.invariant c.args.tid
+    (blocked_known (schedule_of c.self.inside.slots c.self.inside.order c.self.inside.rows.items c.self.inside.maxpri c.self.inside.places)
+    c.args.tid (rw (← c.self.view_is) at c.requires))
 
 pub row_at-row-requires-clause-is_slot : goal.row_at-row-requires-clause-is_slot
-row_at-row-requires-clause-is_slot c = is_slot c.self.inside.slots c.self.inside.order c.self.inside.rows.items _ _ _ _ c.self.inside.maxpri c.self.inside.places c.self.invariant c.args.tid _ c.known_place-slot.ensures
+row_at-row-requires-clause-is_slot c = is_slot c.self.inside.slots c.self.inside.order c.self.inside.rows.items _ _ _ _ c.self.inside.maxpri
+    c.self.inside.places c.self.invariant c.args.tid _ c.known_place-slot.ensures
 
 pub row_at-row-requires-clause-in_range : goal.row_at-row-requires-clause-in_range
-row_at-row-requires-clause-in_range c = in_rows c.self.inside.slots c.self.inside.order c.self.inside.rows.items _ _ _ _ c.self.inside.maxpri c.self.inside.places c.self.invariant c.args.tid _ c.known_place-slot.ensures
+row_at-row-requires-clause-in_range c = in_rows c.self.inside.slots c.self.inside.order c.self.inside.rows.items _ _ _ _
+    c.self.inside.maxpri c.self.inside.places c.self.invariant c.args.tid _ c.known_place-slot.ensures
 
 pub put_row-requires-clause-is_slot : goal.put_row-requires-clause-is_slot
-put_row-requires-clause-is_slot c = is_slot c.self.inside.slots c.self.inside.order c.self.inside.rows.items _ _ _ _ c.self.inside.maxpri c.self.inside.places c.self.invariant c.args.tid _ c.known_place-slot.ensures
+put_row-requires-clause-is_slot c = is_slot c.self.inside.slots c.self.inside.order c.self.inside.rows.items _ _ _ _ c.self.inside.maxpri
+    c.self.inside.places c.self.invariant c.args.tid _ c.known_place-slot.ensures
 
 pub put_row-requires-clause-in_range : goal.put_row-requires-clause-in_range
-put_row-requires-clause-in_range c = in_rows c.self.inside.slots c.self.inside.order c.self.inside.rows.items _ _ _ _ c.self.inside.maxpri c.self.inside.places c.self.invariant c.args.tid _ c.known_place-slot.ensures
+put_row-requires-clause-in_range c = in_rows c.self.inside.slots c.self.inside.order c.self.inside.rows.items _ _ _ _ c.self.inside.maxpri
+    c.self.inside.places c.self.invariant c.args.tid _ c.known_place-slot.ensures
 
 pub take-requires-clause-is_key : goal.take-requires-clause-is_key
-take-requires-clause-is_key c = is_key c.self.inside.slots c.self.inside.order c.self.inside.rows.items _ _ _ _ c.self.inside.maxpri c.self.inside.places c.self.invariant c.args.tid _ c.known_place-slot.ensures
+take-requires-clause-is_key c = is_key c.self.inside.slots c.self.inside.order c.self.inside.rows.items _ _ _ _ c.self.inside.maxpri
+    c.self.inside.places c.self.invariant c.args.tid _ c.known_place-slot.ensures
 
 pub take-requires-clause-in_limit : goal.take-requires-clause-in_limit
-take-requires-clause-in_limit c = in_limit c.self.inside.slots c.self.inside.order c.self.inside.rows.items _ _ _ _ c.self.inside.maxpri c.self.inside.places c.self.invariant c.args.tid _ c.known_place-slot.ensures
+take-requires-clause-in_limit c = in_limit c.self.inside.slots c.self.inside.order c.self.inside.rows.items _ _ _ _ c.self.inside.maxpri
+    c.self.inside.places c.self.invariant c.args.tid _ c.known_place-slot.ensures
 
 pub put_last-requires-clause-is_key : goal.put_last-requires-clause-is_key
-put_last-requires-clause-is_key c = is_key c.self.inside.slots c.self.inside.order c.self.inside.rows.items _ _ _ _ c.self.inside.maxpri c.self.inside.places c.self.invariant c.args.tid _ c.known_place-slot.ensures
+put_last-requires-clause-is_key c = is_key c.self.inside.slots c.self.inside.order c.self.inside.rows.items _ _ _ _ c.self.inside.maxpri
+    c.self.inside.places c.self.invariant c.args.tid _ c.known_place-slot.ensures
 
 pub put_last-requires-clause-in_limit : goal.put_last-requires-clause-in_limit
-put_last-requires-clause-in_limit c = in_limit c.self.inside.slots c.self.inside.order c.self.inside.rows.items _ _ _ _ c.self.inside.maxpri c.self.inside.places c.self.invariant c.args.tid _ c.known_place-slot.ensures
+put_last-requires-clause-in_limit c = in_limit c.self.inside.slots c.self.inside.order c.self.inside.rows.items _ _ _ _ c.self.inside.maxpri
+    c.self.inside.places c.self.invariant c.args.tid _ c.known_place-slot.ensures
 
 pub put_last-requires-clause-low : goal.put_last-requires-clause-low
-put_last-requires-clause-low c = rw (c.row_at-row.ensures, c.self.invariant.levels) (prio_low c.self.inside.slots c.self.inside.order c.self.inside.rows.items _ _ _ _ c.self.inside.maxpri c.self.inside.places c.self.invariant c.args.tid _ c.known_place-slot.ensures)
+put_last-requires-clause-low c = rw (c.row_at-row.ensures, c.self.invariant.levels) (prio_low c.self.inside.slots c.self.inside.order
+    c.self.inside.rows.items _ _ _ _ c.self.inside.maxpri c.self.inside.places c.self.invariant c.args.tid _ c.known_place-slot.ensures)
 
 pub invariant_of-self : goal.invariant_of-self
 invariant_of-self c =
     let row = c.row_at-row.result in
-    let same : row.tid ≡ c.args.tid = rw c.row_at-row.ensures (of_thread c.self.inside.slots c.self.inside.order c.self.inside.rows.items _ _ _ _ c.self.inside.maxpri c.self.inside.places c.self.invariant c.args.tid _ c.known_place-slot.ensures) in
-    let in_range : IsPriority c.self.inside.maxpri row.prio = rw c.row_at-row.ensures (has_priority c.self.inside.slots c.self.inside.order c.self.inside.rows.items _ _ _ _ c.self.inside.maxpri c.self.inside.places c.self.invariant c.args.tid _ c.known_place-slot.ensures) in
+    let same : row.tid
+    ≡ c.args.tid = rw c.row_at-row.ensures (of_thread c.self.inside.slots c.self.inside.order c.self.inside.rows.items _ _ _ _
+    c.self.inside.maxpri c.self.inside.places c.self.invariant c.args.tid _ c.known_place-slot.ensures) in
+    let in_range : IsPriority c.self.inside.maxpri row.prio = rw c.row_at-row.ensures (has_priority c.self.inside.slots c.self.inside.order
+    c.self.inside.rows.items _ _ _ _ c.self.inside.maxpri c.self.inside.places c.self.invariant c.args.tid _ c.known_place-slot.ensures) in
     let now : Known = record row { blocked = false } in
-    rw c.take.ensures (IsHeld-out c.self.inside.slots c.self.inside.order c.self.inside.rows.items _ _ _ _ c.self.inside.maxpri c.self.inside.places c.self.invariant c.args.tid _ c.known_place-slot.ensures c.put_row.new.rows.items c.put_row.ensures.len now c.put_row.ensures.changes same in_range (held_out row c.if-row.true))
+    rw c.take.ensures (IsHeld-out c.self.inside.slots c.self.inside.order c.self.inside.rows.items _ _ _ _ c.self.inside.maxpri
+    c.self.inside.places c.self.invariant c.args.tid _ c.known_place-slot.ensures c.put_row.new.rows.items c.put_row.ensures.len now
+    c.put_row.ensures.changes same in_range (held_out row c.if-row.true))
 
 pub invariant_of-self-else-row : goal.invariant_of-self-else-row
 invariant_of-self-else-row c =
     let row = c.row_at-row.result in
-    let same : row.tid ≡ c.args.tid = rw c.row_at-row.ensures (of_thread c.self.inside.slots c.self.inside.order c.self.inside.rows.items _ _ _ _ c.self.inside.maxpri c.self.inside.places c.self.invariant c.args.tid _ c.known_place-slot.ensures) in
-    let in_range : IsPriority c.self.inside.maxpri row.prio = rw c.row_at-row.ensures (has_priority c.self.inside.slots c.self.inside.order c.self.inside.rows.items _ _ _ _ c.self.inside.maxpri c.self.inside.places c.self.invariant c.args.tid _ c.known_place-slot.ensures) in
+    let same : row.tid
+    ≡ c.args.tid = rw c.row_at-row.ensures (of_thread c.self.inside.slots c.self.inside.order c.self.inside.rows.items _ _ _ _
+    c.self.inside.maxpri c.self.inside.places c.self.invariant c.args.tid _ c.known_place-slot.ensures) in
+    let in_range : IsPriority c.self.inside.maxpri row.prio = rw c.row_at-row.ensures (has_priority c.self.inside.slots c.self.inside.order
+    c.self.inside.rows.items _ _ _ _ c.self.inside.maxpri c.self.inside.places c.self.invariant c.args.tid _ c.known_place-slot.ensures) in
     let now : Known = record row { blocked = false } in
-    rw c.put_last.ensures (IsHeld-back c.self.inside.slots c.self.inside.order c.self.inside.rows.items _ _ _ _ c.self.inside.maxpri c.self.inside.places c.self.invariant c.args.tid _ c.known_place-slot.ensures c.put_row.new.rows.items c.put_row.ensures.len now c.put_row.ensures.changes same in_range (free_in row c.if-row.false))
+    rw c.put_last.ensures (IsHeld-back c.self.inside.slots c.self.inside.order c.self.inside.rows.items _ _ _ _ c.self.inside.maxpri
+    c.self.inside.places c.self.invariant c.args.tid _ c.known_place-slot.ensures c.put_row.new.rows.items c.put_row.ensures.len now
+    c.put_row.ensures.changes same in_range (free_in row c.if-row.false))
 
 pub returns-then-row : goal.returns-then-row
 returns-then-row c =
     let row = c.row_at-row.result in
-    let same : row.tid ≡ c.args.tid = rw c.row_at-row.ensures (of_thread c.self.inside.slots c.self.inside.order c.self.inside.rows.items _ _ _ _ c.self.inside.maxpri c.self.inside.places c.self.invariant c.args.tid _ c.known_place-slot.ensures) in
+    let same : row.tid
+    ≡ c.args.tid = rw c.row_at-row.ensures (of_thread c.self.inside.slots c.self.inside.order c.self.inside.rows.items _ _ _ _
+    c.self.inside.maxpri c.self.inside.places c.self.invariant c.args.tid _ c.known_place-slot.ensures) in
     let now : Known = record row { blocked = false } in
-    rw (c.take.ensures, ← c.self.view_is) (view_out c.self.inside.slots c.self.inside.order c.self.inside.rows.items _ _ _ _ c.self.inside.maxpri c.self.inside.places c.self.invariant c.args.tid _ c.known_place-slot.ensures c.put_row.new.rows.items c.put_row.ensures.len now c.put_row.ensures.changes same ∙ unblock_held (schedule_of c.self.inside.slots c.self.inside.order c.self.inside.rows.items c.self.inside.maxpri c.self.inside.places) c.args.tid row c.self.invariant.ordered (thread c.self.inside.slots c.self.inside.order c.self.inside.rows.items _ _ _ _ c.self.inside.maxpri c.self.inside.places c.self.invariant c.args.tid _ c.known_place-slot.ensures ∙ ap Some (sym c.row_at-row.ensures)) refl c.if-row.true)
+    rw (c.take.ensures, ← c.self.view_is)
+    (view_out c.self.inside.slots c.self.inside.order c.self.inside.rows.items _ _ _ _ c.self.inside.maxpri c.self.inside.places
+    c.self.invariant c.args.tid _ c.known_place-slot.ensures c.put_row.new.rows.items c.put_row.ensures.len now c.put_row.ensures.changes same
+    ∙ unblock_held
+    (schedule_of c.self.inside.slots c.self.inside.order c.self.inside.rows.items c.self.inside.maxpri c.self.inside.places) c.args.tid
+    row c.self.invariant.ordered
+    (thread c.self.inside.slots c.self.inside.order c.self.inside.rows.items _ _ _ _ c.self.inside.maxpri c.self.inside.places
+    c.self.invariant c.args.tid _ c.known_place-slot.ensures
+    ∙ ap Some (sym c.row_at-row.ensures))
+    refl c.if-row.true)
 
 pub returns-else-row : goal.returns-else-row
 returns-else-row c =
     let row = c.row_at-row.result in
-    let same : row.tid ≡ c.args.tid = rw c.row_at-row.ensures (of_thread c.self.inside.slots c.self.inside.order c.self.inside.rows.items _ _ _ _ c.self.inside.maxpri c.self.inside.places c.self.invariant c.args.tid _ c.known_place-slot.ensures) in
+    let same : row.tid
+    ≡ c.args.tid = rw c.row_at-row.ensures (of_thread c.self.inside.slots c.self.inside.order c.self.inside.rows.items _ _ _ _
+    c.self.inside.maxpri c.self.inside.places c.self.invariant c.args.tid _ c.known_place-slot.ensures) in
     let now : Known = record row { blocked = false } in
-    rw (c.put_last.ensures, ← c.self.view_is) (view_back c.self.inside.slots c.self.inside.order c.self.inside.rows.items _ _ _ _ c.self.inside.maxpri c.self.inside.places c.self.invariant c.args.tid _ c.known_place-slot.ensures c.put_row.new.rows.items c.put_row.ensures.len now c.put_row.ensures.changes same ∙ unblock_free (schedule_of c.self.inside.slots c.self.inside.order c.self.inside.rows.items c.self.inside.maxpri c.self.inside.places) c.args.tid row c.self.invariant.ordered (thread c.self.inside.slots c.self.inside.order c.self.inside.rows.items _ _ _ _ c.self.inside.maxpri c.self.inside.places c.self.invariant c.args.tid _ c.known_place-slot.ensures ∙ ap Some (sym c.row_at-row.ensures)) refl (rw (← c.self.view_is) at c.requires) c.if-row.false)
+    rw (c.put_last.ensures, ← c.self.view_is)
+    (view_back c.self.inside.slots c.self.inside.order c.self.inside.rows.items _ _ _ _ c.self.inside.maxpri c.self.inside.places
+    c.self.invariant c.args.tid _ c.known_place-slot.ensures c.put_row.new.rows.items c.put_row.ensures.len now c.put_row.ensures.changes same
+    ∙ unblock_free
+    (schedule_of c.self.inside.slots c.self.inside.order c.self.inside.rows.items c.self.inside.maxpri c.self.inside.places) c.args.tid
+    row c.self.invariant.ordered
+    (thread c.self.inside.slots c.self.inside.order c.self.inside.rows.items _ _ _ _ c.self.inside.maxpri c.self.inside.places
+    c.self.invariant c.args.tid _ c.known_place-slot.ensures
+    ∙ ap Some (sym c.row_at-row.ensures))
+    refl (rw (← c.self.view_is) at c.requires) c.if-row.false)

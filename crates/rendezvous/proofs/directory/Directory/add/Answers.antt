@@ -28,7 +28,9 @@ returns-then-not-letter-clause-filed c slots last was =
     let new = ap (λ s. place_of s c.args.letter.now.from) c.box_for-list.ensures.senders ∙ c.requires.new in
     rw (c.move_to_back.ensures, c.move_to_back-then-not-letter.ensures)
     (IsFiled-added d sound c.args.slot c.box_for-list.result c.args.letter.now its c.put.new.self c.put.ensures.puts c.put.ensures.count _ slots last new filed
-    (keys_moved d sound c.box_for-list.result (d.width + c.args.slot) c.args.letter.now.to its d.unread sound.unread_lists is_unread_by slots c.args.letter.now (omega (arith, last)) (others_unread c.args.letter.now) filed.unread (unread_is c.args.letter.now ∙ ap not c.if-not-letter.true)))
+    (keys_moved d sound c.box_for-list.result (d.width + c.args.slot) c.args.letter.now.to its d.unread sound.unread_lists is_unread_by
+    slots c.args.letter.now (omega (arith, last)) (others_unread c.args.letter.now) filed.unread
+    (unread_is c.args.letter.now ∙ ap not c.if-not-letter.true)))
 
 pub returns-else-not-letter-clause-sound : goal.returns-else-not-letter-clause-sound
 returns-else-not-letter-clause-sound c =
@@ -47,5 +49,8 @@ returns-else-not-letter-clause-filed c slots last was =
     let filed = c.box_for-list.ensures.filed slots was in
     let new = ap (λ s. place_of s c.args.letter.now.from) c.box_for-list.ensures.senders ∙ c.requires.new in
     rw c.move_to_back.ensures
-    (IsFiled-added d sound c.args.slot c.box_for-list.result c.args.letter.now its c.put.new.self c.put.ensures.puts c.put.ensures.count d.unread slots last new filed
-    (keys_unmoved d sound c.box_for-list.result (d.width + c.args.slot) c.args.letter.now.to its d.unread sound.unread_lists is_unread_by slots c.args.letter.now (omega (arith, last)) (others_unread c.args.letter.now) filed.unread (unread_is c.args.letter.now ∙ ap not c.if-not-letter.false)))
+    (IsFiled-added d sound c.args.slot c.box_for-list.result c.args.letter.now its c.put.new.self c.put.ensures.puts c.put.ensures.count
+    d.unread slots last new filed
+    (keys_unmoved d sound c.box_for-list.result (d.width + c.args.slot) c.args.letter.now.to its d.unread sound.unread_lists is_unread_by
+    slots c.args.letter.now (omega (arith, last)) (others_unread c.args.letter.now) filed.unread
+    (unread_is c.args.letter.now ∙ ap not c.if-not-letter.false)))

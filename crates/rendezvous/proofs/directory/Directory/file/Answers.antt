@@ -13,7 +13,13 @@ add-requires-clause-new c =
 pub add-requires-clause-few : goal.add-requires-clause-few
 add-requires-clause-few c =
     let within : c.loop-slot.slot < length c.args.slots.now.items = omega arith in
-    omega (arith, few_filed c.args.slots.now.items c.requires.once c.loop-slot.self c.loop-slot.slot within c.loop-slot.invariant.filed, within, c.requires.fits, c.loop-slot.invariant.width)
+    omega (
+      arith,
+      few_filed c.args.slots.now.items c.requires.once c.loop-slot.self c.loop-slot.slot within c.loop-slot.invariant.filed,
+      within,
+      c.requires.fits,
+      c.loop-slot.invariant.width,
+    )
 
 pub loop-slot-preserved : goal.loop-slot-preserved
 loop-slot-preserved c =
@@ -28,7 +34,8 @@ loop-slot-preserved c =
           rw w.self-is
           (record {
             sound = w.add.ensures.sound;
-            filed = next_some slots c.requires.once c.loop-slot.self i within was.filed w.in-Some.letter is _ (w.add.ensures.filed (take i slots) length_is was.filed);
+            filed = next_some slots c.requires.once c.loop-slot.self i within was.filed w.in-Some.letter is _
+                (w.add.ensures.filed (take i slots) length_is was.filed);
             used = omega (arith, w.add.ensures.used, was.used);
             width = w.add.ensures.width ∙ was.width;
           })

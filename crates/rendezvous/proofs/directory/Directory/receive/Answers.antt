@@ -9,4 +9,5 @@ pub returns-clause-sound : goal.returns-clause-sound
 returns-clause-sound c = rw c.remove.ensures (IsSound-received c.args.self.now c.requires.sound _)
 
 pub returns-clause-filed : goal.returns-clause-filed
-returns-clause-filed c slots letter once is was = rw c.remove.ensures (IsFiled-received c.args.self.now c.requires.sound _ slots c.args.slot letter refl is once was)
+returns-clause-filed c slots letter once is was =
+    rw c.remove.ensures (IsFiled-received c.args.self.now c.requires.sound _ slots c.args.slot letter refl is once was)

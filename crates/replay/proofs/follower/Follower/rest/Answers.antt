@@ -7,4 +7,11 @@ pub returns-clause-small : goal.returns-clause-small
 returns-clause-small c =
     let recorded = c.self.inside.recorded.now in
     let at = c.self.inside.at in
-    omega (arith, ap (λ (f : Following). f.lines) c.self.view_is, count-front recorded at, length-take (length recorded - at) (drop at recorded), length-drop at recorded, c.self.invariant.0)
+    omega (
+      arith,
+      ap (λ (f : Following). f.lines) c.self.view_is,
+      count-front recorded at,
+      length-take (length recorded - at) (drop at recorded),
+      length-drop at recorded,
+      c.self.invariant.0,
+    )

@@ -12,7 +12,8 @@ returns-then-begins_with-clause-ok c =
     let f = c.self.inside in
     let empty = c.if-is_empty.ensures in
     let none = nil_from_length f.unlike.items (grind (arith, common_steps)) in
-    ap Some (told-ahead c.args.self.now f.recorded.now f.unlike.items c.args.bytes.now f.at f.ahead f.ticks f.faults c.self.view_is none c.self.invariant.0 c.if-begins_with.ensures)
+    ap Some (told-ahead c.args.self.now f.recorded.now f.unlike.items c.args.bytes.now f.at f.ahead f.ticks f.faults c.self.view_is none
+    c.self.invariant.0 c.if-begins_with.ensures)
 
 pub invariant_of-self-in-Ok : goal.invariant_of-self-in-Ok
 invariant_of-self-in-Ok c =
@@ -20,7 +21,12 @@ invariant_of-self-in-Ok c =
       c.self.invariant.0,
       c.self.invariant.1,
       elim c.else-is_empty.branch [
-        | else-is_empty-via-then-is_empty+else-begins_with w ↦ unlike-more f.recorded.now f.unlike.items c.args.bytes.now _ f.at f.ahead c.self.invariant.2 c.in-Ok.ensures.items (λ none. MatchBool-at_false _ _ w.if-begins_with.false w.begins_with.ensures)
-        | else-is_empty-via-else-is_empty w ↦ let some = w.if-is_empty.false in unlike-more f.recorded.now f.unlike.items c.args.bytes.now _ f.at f.ahead c.self.invariant.2 c.in-Ok.ensures.items (λ none. grind (arith, common_steps))
+        | else-is_empty-via-then-is_empty+else-begins_with w
+            ↦ unlike-more f.recorded.now f.unlike.items c.args.bytes.now _ f.at f.ahead c.self.invariant.2 c.in-Ok.ensures.items
+            (λ none. MatchBool-at_false _ _ w.if-begins_with.false w.begins_with.ensures)
+        | else-is_empty-via-else-is_empty w
+            ↦ let some = w.if-is_empty.false in
+            unlike-more f.recorded.now f.unlike.items c.args.bytes.now _ f.at f.ahead c.self.invariant.2 c.in-Ok.ensures.items
+            (λ none. grind (arith, common_steps))
       ],
     )

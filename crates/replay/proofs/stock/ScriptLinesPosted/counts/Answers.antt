@@ -10,6 +10,7 @@ pub returns : goal.returns
 returns c =
     let all = c.self.inside.places.items in
     c.loop-client.invariant
-    ∙ ap (λ (l : List (List ℕ)). map (λ (places : List ℕ). length places) l) (take_all c.loop-client.client all (omega (arith, c.loop-client-test.false, c.len-client-end.ensures)))
+    ∙ ap (λ (l : List (List ℕ)). map (λ (places : List ℕ). length places) l)
+    (take_all c.loop-client.client all (omega (arith, c.loop-client-test.false, c.len-client-end.ensures)))
     ∙ sym (counts-are (lines_posted c.self.inside.script.now) all)
     ∙ ap (λ (s : Stock). map (λ (l : List Line). length l) s.lines.left) c.self.view_is

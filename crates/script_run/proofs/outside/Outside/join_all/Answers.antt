@@ -35,7 +35,8 @@ same_rest before after e = e ∙ append-nil after
 pub returns-clause-tied : goal.returns-clause-tied
 returns-clause-tied g c =
     let o = c.loop-client.self in
-    subst (λ (out : List Client). AreTied (events_of o) (all_texts o) o.all out (intakes o)) (same_rest o.out.items c.pop.new.self.items c.in_default.ensures.items) c.loop-client.invariant.0
+    subst (λ (out : List Client). AreTied (events_of o) (all_texts o) o.all out (intakes o))
+    (same_rest o.out.items c.pop.new.self.items c.in_default.ensures.items) c.loop-client.invariant.0
 
 pub returns-clause-closed : goal.returns-clause-closed
 returns-clause-closed g c =

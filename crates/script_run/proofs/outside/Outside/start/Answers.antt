@@ -18,7 +18,8 @@ unreachable-requires g c =
     let inlets : List Intake = map any_intake c.in_ok-inlets.field-0.inlets.items in
     let n : ℕ = vec_len c.loop-seat.out in
     let seats = subst (HaveSeatsFrom events texts inlets n) c.in-Some.ensures.steps.0 c.loop-seat.invariant.2 in
-    no_vacant events texts inlets n (subst (HasSeat events texts inlets n) c.in_default.is (first_seat events texts inlets n c.in-Some.seat c.next.new.self.rest.items seats))
+    no_vacant events texts inlets n
+    (subst (HasSeat events texts inlets n) c.in_default.is (first_seat events texts inlets n c.in-Some.seat c.next.new.self.rest.items seats))
 
 pub start_client-requires-after_bounds : goal.start_client-requires-after_bounds
 start_client-requires-after_bounds g c κs within =
@@ -34,8 +35,12 @@ start_client-requires-after_bounds g c κs within =
     let as_many = c.requires.texts in
     let len = c.len.ensures in
     let at : texts_of texts n ≡ c.index-texts-len.result.items =
-    ap (texts_of texts) (sym len) ∙ get_or-map (λ v. v.items) c.args.texts.now c.len.result _ [] (omega (arith, h3, rest, as_many, len)) ∙ ap (λ v. v.items) (sym c.index-texts-len.is) in
-    subst (λ (ts : List (List ℕ)). IsReady (posting_of c.in-Some-seat.seat.poster).place (posting_of c.in-Some-seat.seat.poster).client ts (posting_of c.in-Some-seat.seat.poster)) at
+    ap (texts_of texts) (sym len) ∙ get_or-map (λ v. v.items) c.args.texts.now c.len.result _ [] (omega (arith, h3, rest, as_many, len))
+    ∙ ap (λ v. v.items) (sym c.index-texts-len.is) in
+    subst
+    (λ (ts : List (List ℕ)).
+    IsReady (posting_of c.in-Some-seat.seat.poster).place (posting_of c.in-Some-seat.seat.poster).client ts (posting_of c.in-Some-seat.seat.poster))
+    at
     (seat_ready events texts inlets n c.in-Some-seat.seat seat)
 
 pub loop-seat-preserved : goal.loop-seat-preserved
@@ -58,9 +63,12 @@ loop-seat-preserved g c =
     let room = c.push_reserved.ensures.capacity in
     let size = c.loop-seat.out.ok.0 in
     let at : texts_of texts n ≡ c.index-texts-len.result.items =
-    ap (texts_of texts) (sym len) ∙ get_or-map (λ v. v.items) c.args.texts.now c.len.result _ [] (omega (arith, h3, rest, as_many, len)) ∙ ap (λ v. v.items) (sym c.index-texts-len.is) in
+    ap (texts_of texts) (sym len) ∙ get_or-map (λ v. v.items) c.args.texts.now c.len.result _ [] (omega (arith, h3, rest, as_many, len))
+    ∙ ap (λ v. v.items) (sym c.index-texts-len.is) in
     let client : Client = c.start_client.result in
-    let work = subst (λ (ts : List (List ℕ)). IsWork (posting_of c.in-Some-seat.seat.poster).place (posting_of c.in-Some-seat.seat.poster).client ts client.work) (sym at) c.start_client.ensures.work in
+    let work = subst
+    (λ (ts : List (List ℕ)). IsWork (posting_of c.in-Some-seat.seat.poster).place (posting_of c.in-Some-seat.seat.poster).client ts client.work)
+    (sym at) c.start_client.ensures.work in
     let last : IsOut events texts inlets n client = out_of_seat events texts inlets n c.in-Some-seat.seat client seat c.start_client.ensures.inlet work in (
       tt,
       tt,
@@ -68,7 +76,8 @@ loop-seat-preserved g c =
       omega (arith, h3, rest, more),
       omega (arith, h4, rest, gates),
       omega (arith, h5, room),
-      out_more events texts inlets n (vec_len c.push_reserved.new.self) c.loop-seat.out.items c.push_reserved.new.self.items client size more c.push_reserved.ensures.items h.6 last,
+      out_more events texts inlets n (vec_len c.push_reserved.new.self) c.loop-seat.out.items c.push_reserved.new.self.items client size
+          more c.push_reserved.ensures.items h.6 last,
     )
 
 pub returns-clause-tied : goal.returns-clause-tied
@@ -142,9 +151,11 @@ loop-seat-init g c =
     let gates = c.requires.gates in (
       tt,
       tt,
-      all_seats c.args.events.now (map (λ v. v.items) c.args.texts.now) (map any_intake opened.inlets.items) opened.seats.items c.into_iter-seat-iterator.result.rest.items (vec_len c.in_ok-out.out) c.in_ok-inlets.ensures c.requires.events rest none,
+      all_seats c.args.events.now (map (λ v. v.items) c.args.texts.now) (map any_intake opened.inlets.items) opened.seats.items
+          c.into_iter-seat-iterator.result.rest.items (vec_len c.in_ok-out.out) c.in_ok-inlets.ensures c.requires.events rest none,
       omega (arith, size, as_many, none),
       omega (arith, size, as_many, given, gates),
       omega (arith, room),
-      none_out c.args.events.now (map (λ v. v.items) c.args.texts.now) (map any_intake opened.inlets.items) c.in_ok-out.out.items (vec_len c.in_ok-out.out) none,
+      none_out c.args.events.now (map (λ v. v.items) c.args.texts.now) (map any_intake opened.inlets.items) c.in_ok-out.out.items
+          (vec_len c.in_ok-out.out) none,
     )

@@ -12,4 +12,5 @@ invariant-loop-seat g l =
     × (vec_len l.out + length l.seat-iterator.rest.items ≡ length l.fn.events)
     × (length l.seat-iterator.rest.items ≤ length l.gates.rest.items)
     × (length l.fn.events ≤ vec_capacity l.out)
-    × ((c : ℕ) (d : Client) → c < vec_len l.out → IsOut l.fn.events (map (λ v. v.items) l.fn.texts) (map any_intake l.inlets.items) c (slice_index_or l.out.items c d))
+    × ((c : ℕ) (d : Client) → c < vec_len l.out
+    → IsOut l.fn.events (map (λ v. v.items) l.fn.texts) (map any_intake l.inlets.items) c (slice_index_or l.out.items c d))

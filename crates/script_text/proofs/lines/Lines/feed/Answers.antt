@@ -8,7 +8,8 @@ loop-line-preserved c = λ t.
     let k = c.loop-line.invariant t in
     let r = c.loop-line.self in (
       rw c.in_ok-line.ensures.tail refl,
-      rw (c.in_ok-line.ensures.tail, c.in_ok-line.ensures.reader) (line_lines r.reader r.tail.items c.loop-line.rest.now c.in-Some.line.now c.in-Some.after.now k.0 c.in-Some.ensures.some ∙ k.1),
+      rw (c.in_ok-line.ensures.tail, c.in_ok-line.ensures.reader)
+          (line_lines r.reader r.tail.items c.loop-line.rest.now c.in-Some.line.now c.in-Some.after.now k.0 c.in-Some.ensures.some ∙ k.1),
       rw c.in_ok-line.ensures.tail (line_tail r.tail.items c.loop-line.rest.now c.in-Some.line.now c.in-Some.after.now k.0 c.in-Some.ensures.some ∙ k.2),
     )
 

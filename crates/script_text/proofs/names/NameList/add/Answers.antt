@@ -10,7 +10,8 @@ invariant_of-self-in-Ok c =
     let names = c.self.inside.names in
     let new : contains_name names w ≡ false = ap (λ l. contains_name l w) c.self.view_is ∙ c.requires.new in
     subst (λ l. IsIndexed l c.put.new.self) (sym c.in-Ok.ensures.ok)
-    (put_indexed names w c.self.inside.index c.put.new.self c.in_ok-number.number c.self.invariant new (c.in_ok-number.ensures.value ∙ c.len.ensures) c.in_ok-put.ensures.ok)
+    (put_indexed names w c.self.inside.index c.put.new.self c.in_ok-number.number c.self.invariant new
+    (c.in_ok-number.ensures.value ∙ c.len.ensures) c.in_ok-put.ensures.ok)
 
 pub invariant_of-self-in_default : goal.invariant_of-self-in_default
 invariant_of-self-in_default c =
@@ -18,4 +19,5 @@ invariant_of-self-in_default c =
     let names = c.self.inside.names in
     let new : contains_name names w ≡ false = ap (λ l. contains_name l w) c.self.view_is ∙ c.requires.new in
     subst (λ l. IsIndexed l c.take.new.self) (sym c.in_default.ensures.err)
-    (back_indexed names w c.self.inside.index c.put.new.self c.take.new.self (Some c.in_ok-number.number) c.self.invariant new c.in_ok-put.ensures.ok c.take.ensures)
+    (back_indexed names w c.self.inside.index c.put.new.self c.take.new.self (Some c.in_ok-number.number) c.self.invariant new
+    c.in_ok-put.ensures.ok c.take.ensures)

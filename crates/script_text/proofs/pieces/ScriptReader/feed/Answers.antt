@@ -14,6 +14,9 @@ pub returns-then-self-2-clause-ok : goal.returns-then-self-2-clause-ok
 returns-then-self-2-clause-ok c = λ text h.
     let r = c.self.inside in
     reads_large r.failed _ _ c.if-self.false (elim c.then-self-2.branch [
-      | then-self-2-via-then-self-2 w ↦ feeds_more c.args.piece.now text (read_large r.failed r.is_large _ c.args.self.now text c.self.view_is c.if-self.false w.if-self-2.true h)
-      | then-self-2-via-else-self-2+then-piece-saturating_sub w ↦ feeds_over _ c.args.piece.now (omega (arith, w.if-piece-saturating_sub.true, w.saturating_sub.ensures)) text (read_small r.failed r.is_large _ c.args.self.now text c.self.view_is c.if-self.false w.if-self-2.false h)
+      | then-self-2-via-then-self-2 w
+          ↦ feeds_more c.args.piece.now text (read_large r.failed r.is_large _ c.args.self.now text c.self.view_is c.if-self.false w.if-self-2.true h)
+      | then-self-2-via-else-self-2+then-piece-saturating_sub w
+          ↦ feeds_over _ c.args.piece.now (omega (arith, w.if-piece-saturating_sub.true, w.saturating_sub.ensures)) text
+          (read_small r.failed r.is_large _ c.args.self.now text c.self.view_is c.if-self.false w.if-self-2.false h)
     ])

@@ -11,7 +11,8 @@ returns-then-allows c =
     let r = c.args.self.now in
     let text = c.in-Some.text.now in
     let stands = may_say r.stage r.declared r.draft.posted text (sym c.allows.ensures ∙ c.if-allows.true) in
-    subst (λ (x : Reader). OnOk c.say.result (c.say.new.self ≡ x)) (sym (judged_good r c.args.line.now (saying text) c.in-Some.ensures.said stands)) c.say.ensures
+    subst (λ (x : Reader). OnOk c.say.result (c.say.new.self ≡ x))
+    (sym (judged_good r c.args.line.now (saying text) c.in-Some.ensures.said stands)) c.say.ensures
 
 pub returns-then-may_post : goal.returns-then-may_post
 returns-then-may_post c =
@@ -19,4 +20,5 @@ returns-then-may_post c =
     let client = c.in-Some-posted_at.client in
     let text = c.in-Some-posted_at.text.now in
     let stands = may_post r.stage r.declared r.draft.posted client text (sym c.may_post.ensures ∙ c.if-may_post.true) in
-    subst (λ (x : Reader). OnOk c.post.result (c.post.new.self ≡ x)) (sym (judged_good r c.args.line.now (posting client text) c.in-Some-posted_at.ensures.said stands)) c.post.ensures
+    subst (λ (x : Reader). OnOk c.post.result (c.post.new.self ≡ x))
+    (sym (judged_good r c.args.line.now (posting client text) c.in-Some-posted_at.ensures.said stands)) c.post.ensures

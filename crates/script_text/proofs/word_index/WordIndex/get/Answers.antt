@@ -13,7 +13,8 @@ returns c =
     let word = c.args.word.now in
     let old : Numbered = record { short = c.self.inside.short.entries; wide = c.self.inside.wide.entries; long = entries_by_key c.self.inside.long.entries } in
     elim c.match-packed.branch [
-      | in-Some w ↦ c.copied.ensures ∙ ap option_copied w.found-is ∙ w.get-found.ensures.value ∙ ap (λ k. lookup (λ key. is_eq (nat_cmp k key)) old.short) w.new.ensures
+      | in-Some w
+          ↦ c.copied.ensures ∙ ap option_copied w.found-is ∙ w.get-found.ensures.value ∙ ap (λ k. lookup (λ key. is_eq (nat_cmp k key)) old.short) w.new.ensures
           ∙ sym (λ i. cond (le-leb w.in-Some.digits 18446744073709551615 w.if-digits-le-SHORT.true i)
           (lookup (λ key. is_eq (nat_cmp w.in-Some.digits key)) old.short) (lookup (λ key. is_eq (nat_cmp w.in-Some.digits key)) old.wide))
           ∙ ap (entry_under old word) (sym w.in-Some.is ∙ c.packed.ensures) ∙ ap (λ i. number_of i word) c.self.view_is

@@ -7,9 +7,11 @@ use Rattle.trace_page.specs.Frame.{name_text}
 pub loop-lane-preserved : goal.loop-lane-preserved
 loop-lane-preserved c =
     let same : c.as_slice-lane-items.result.now ≡ c.args.self.now.lanes = c.as_slice-lane-items.ensures.value ∙ ap (λ (s : Seen). s.lanes) c.self.view_is in
-    one_more (name_text c.args.self.now) c.loop-lane.out.items _ c.args.self.now.lanes c.loop-lane.lane-index c.loop-lane.invariant c.add_name.new.out.items _ (rw same at c.loop-lane-test.true) (rw same at c.in_ok-add_name.ensures)
+    one_more (name_text c.args.self.now) c.loop-lane.out.items _ c.args.self.now.lanes c.loop-lane.lane-index c.loop-lane.invariant
+    c.add_name.new.out.items _ (rw same at c.loop-lane-test.true) (rw same at c.in_ok-add_name.ensures)
 
 pub returns : goal.returns
 returns c =
     let same : c.as_slice-lane-items.result.now ≡ c.args.self.now.lanes = c.as_slice-lane-items.ensures.value ∙ ap (λ (s : Seen). s.lanes) c.self.view_is in
-    no_more (name_text c.args.self.now) c.loop-lane.out.items _ c.args.self.now.lanes c.loop-lane.lane-index c.loop-lane.invariant (rw same at c.loop-lane-test.false)
+    no_more (name_text c.args.self.now) c.loop-lane.out.items _ c.args.self.now.lanes c.loop-lane.lane-index c.loop-lane.invariant
+    (rw same at c.loop-lane-test.false)

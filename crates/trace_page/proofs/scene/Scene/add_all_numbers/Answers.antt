@@ -10,7 +10,8 @@ loop-n-init c =
     ap (λ k. c.args.out.now.items ++ each_from (number_text c.args.self.now) 0 k) same
 
 pub loop-n-preserved : goal.loop-n-preserved
-loop-n-preserved c = one_number _ c.loop-n.out.items _ c.loop-n.n c.tenths-count.result c.loop-n.invariant c.loop-n-test.true c.add_call_number.new.out.items c.in_ok-add_call_number.ensures
+loop-n-preserved c = one_number _ c.loop-n.out.items _ c.loop-n.n c.tenths-count.result c.loop-n.invariant c.loop-n-test.true
+    c.add_call_number.new.out.items c.in_ok-add_call_number.ensures
 
 pub returns : goal.returns
 returns c = no_number _ c.loop-n.out.items _ c.loop-n.n c.tenths-count.result c.loop-n.invariant c.loop-n-test.false

@@ -4,4 +4,6 @@ use Rattle.std.proofs.Common.{◌∙◌}
 
 pub returns : goal.returns
 returns c =
-    rw (← c.self.view_is) (c.first.ensures.value ∙ first_sorted c.self.inside.order c.self.inside.ready c.self.inside.prios.items c.self.inside.marks c.self.inside.levels c.self.invariant c.args.prio (rw (← c.self.view_is) at c.requires.low))
+    rw (← c.self.view_is) (c.first.ensures.value
+    ∙ first_sorted c.self.inside.order c.self.inside.ready c.self.inside.prios.items c.self.inside.marks c.self.inside.levels
+    c.self.invariant c.args.prio (rw (← c.self.view_is) at c.requires.low))

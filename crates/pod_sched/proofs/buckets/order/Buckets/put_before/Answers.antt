@@ -7,4 +7,5 @@ invariant_of-self c =
     let alike = rw (← c.self.view_is) at c.requires.same_prio in
     let marked = rw (c.is_some-some.ensures, c.first.ensures.value, c.read-prio.ensures, c.move_before-2.ensures) at c.mark.ensures in
     rw (c.move_before.ensures, c.move_before-2.ensures)
-    (IsKept-before c.self.inside.order c.self.inside.ready c.self.inside.prios.items c.self.inside.marks c.self.inside.levels c.self.invariant c.args.key is_key c.args.other alike c.mark.new.words c.mark.array_long marked)
+    (IsKept-before c.self.inside.order c.self.inside.ready c.self.inside.prios.items c.self.inside.marks c.self.inside.levels
+    c.self.invariant c.args.key is_key c.args.other alike c.mark.new.words c.mark.array_long marked)

@@ -6,6 +6,8 @@ use Rattle.std.proofs.Common.{ap, ◌∙◌}
 
 pub returns : goal.returns
 returns c = elim c.if-read-prio.branch [
-  | then-read-prio w ↦ c.requeue.ensures ∙ ap (λ (v : Order). after_put_last v c.args.key c.args.prio) (w.self-is ∙ w.reassign.ensures) ∙ last_reassigned c.args.self.now c.args.key c.args.prio
+  | then-read-prio w
+      ↦ c.requeue.ensures ∙ ap (λ (v : Order). after_put_last v c.args.key c.args.prio) (w.self-is ∙ w.reassign.ensures)
+      ∙ last_reassigned c.args.self.now c.args.key c.args.prio
   | else-read-prio w ↦ c.requeue.ensures ∙ ap (λ (v : Order). after_put_last v c.args.key c.args.prio) w.self-is
 ]

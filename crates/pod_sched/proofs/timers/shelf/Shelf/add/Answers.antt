@@ -21,4 +21,5 @@ invariant_of-self c =
     let last : c.len-leaf.result ≡ length c.self.inside.leaves.items = omega arith in
     let puts = c.put.ensures in
     rw (c.push_leaf.ensures.items, c.push_leaf.ensures.capacity, c.set.ensures, last)
-    (IsShelved-push c.self.inside.leaves.items c.self.inside.dues c.self.inside.index _ c.self.invariant (record { tid = c.args.tid; due = c.args.due }) new room c.put.new.self (rw last at puts.puts) puts.count puts.width puts.room)
+    (IsShelved-push c.self.inside.leaves.items c.self.inside.dues c.self.inside.index _ c.self.invariant
+    (record { tid = c.args.tid; due = c.args.due }) new room c.put.new.self (rw last at puts.puts) puts.count puts.width puts.room)

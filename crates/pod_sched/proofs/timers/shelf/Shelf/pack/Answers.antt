@@ -15,8 +15,11 @@ file-requires-clause-fits c =
 pub invariant_of-self : goal.invariant_of-self
 invariant_of-self c =
     let was = c.self.invariant in
-    let kept : length c.file.new.dues ≡ length c.self.inside.dues = omega (arith, c.file.ensures.len, ap length c.clear.ensures, length-replicate (length c.self.inside.dues) never) in
-    let fits : length c.close_up.new.leaves.items ≤ length c.file.new.dues = rw c.close_up.ensures.items (omega (arith, kept, closed_fits c.self.inside.leaves.items c.self.inside.dues c.self.inside.index _ c.self.invariant)) in
+    let kept : length c.file.new.dues
+    ≡ length c.self.inside.dues = omega (arith, c.file.ensures.len, ap length c.clear.ensures, length-replicate (length c.self.inside.dues) never) in
+    let fits : length c.close_up.new.leaves.items
+    ≤ length c.file.new.dues =
+    rw c.close_up.ensures.items (omega (arith, kept, closed_fits c.self.inside.leaves.items c.self.inside.dues c.self.inside.index _ c.self.invariant)) in
     IsShelved-filed c.self.inside.leaves.items c.self.inside.dues c.self.inside.index _ was c.close_up.new.leaves.items c.file.new.dues c.file.new.index _
     (rw c.close_up.ensures.items (IsOnce-closed c.self.inside.leaves.items c.self.inside.dues c.self.inside.index _ c.self.invariant))
     c.file.ensures.filed fits

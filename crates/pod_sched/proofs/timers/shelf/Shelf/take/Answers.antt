@@ -17,7 +17,8 @@ invariant_of-self c =
     let within = rw (← c.self.view_is) at c.requires in
     let puts = c.take.ensures in
     rw (c.empty_leaf.ensures.items, c.empty_leaf.ensures.capacity, c.set.ensures)
-    (IsShelved-emptied c.self.inside.leaves.items c.self.inside.dues c.self.inside.index _ c.self.invariant c.args.leaf c.in_ok-row.row within is c.take.new.self puts.puts puts.count puts.width puts.room)
+    (IsShelved-emptied c.self.inside.leaves.items c.self.inside.dues c.self.inside.index _ c.self.invariant c.args.leaf c.in_ok-row.row
+    within is c.take.new.self puts.puts puts.count puts.width puts.room)
 
 pub returns-clause-once : goal.returns-clause-once
 returns-clause-once c = rw (← c.self.view_is) c.self.invariant.once

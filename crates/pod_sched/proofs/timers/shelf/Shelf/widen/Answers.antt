@@ -11,7 +11,8 @@ invariant_of-self-2 c =
     let kept = c.file.ensures.len in
     let more : length c.self.inside.dues < c.args.least = rw (← c.self.view_is) at c.requires.more in
     let wide = c.in_ok-dues.ensures in
-    let fits : length c.reserve.new.self.items ≤ length c.file.new.dues = rw c.in_ok-reserve.ensures.items (omega (arith, kept, was.fits, more, c.in_ok-dues.ensures.0)) in
+    let fits : length c.reserve.new.self.items
+    ≤ length c.file.new.dues = rw c.in_ok-reserve.ensures.items (omega (arith, kept, was.fits, more, c.in_ok-dues.ensures.0)) in
     IsShelved-filed c.self.inside.leaves.items c.self.inside.dues c.self.inside.index _ was c.reserve.new.self.items c.file.new.dues c.file.new.index _
     (rw c.in_ok-reserve.ensures.items c.self.invariant.once)
     c.file.ensures.filed fits
