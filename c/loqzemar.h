@@ -208,6 +208,11 @@ uint32_t loq_name(loq_pod *pod, const uint8_t *name, size_t name_len);
 // LOQ_NO_POD, LOQ_NO_MEMORY: the buffer and the number are as they were.
 uint32_t loq_lines(loq_pod *pod, uint8_t *out, size_t room, size_t *len);
 
+// The text of the pod's state, as lwpstate prints it with no clients, and how many bytes it is: who waits for whom, who holds what, and
+// who waits in a cycle. Procedures have the names that loq_name gave them. It reads the whole pod, and changes nothing. LOQ_TOO_SMALL: the
+// first bytes are in the buffer. LOQ_NO_POD, LOQ_NO_MEMORY: the buffer and the number are as they were.
+uint32_t loq_state(loq_pod *pod, uint8_t *out, size_t room, size_t *len);
+
 // The lines of the last call or delivery, compared with a recorded trace from its byte *at on, where its line *line begins: 0 and 1 before
 // the first step. Where they are the trace's, both then tell where its next line begins. LOQ_DIFFERS: both tell where the first line begins
 // that differs; a trace that ends before it differs too. LOQ_NO_POD, LOQ_NO_MEMORY: both are as they were. Lines are counted up to

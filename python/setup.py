@@ -31,9 +31,9 @@ def heap():
 
 
 def macros(header):
-    """What the library has besides the first eleven functions."""
+    """What the library has besides the functions that the extension can't do without."""
     text = header.read_text()
-    return [(macro, "1") for macro, word in (("LOQ_HAS_STATE", "loq_state("), ("LOQ_HAS_FOLLOW", "loq_follow(")) if word in text]
+    return [(macro, "1") for macro, word in (("LOQ_HAS_FOLLOW", "loq_follow("),) if word in text]
 
 
 HEADERS = pathlib.Path(os.environ.get("LOQZEMAR_HEADER_DIR", TOP / "c"))

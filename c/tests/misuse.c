@@ -72,6 +72,7 @@ static void on_no_pod(loq_pod *pod) {
     CHECK(effect.kind == UINT32_MAX && text[0] == 10 && ids[0] == 6);
     CHECK(name(pod, "main") == LOQ_NO_POD);
     CHECK(loq_lines(pod, text, 1, &count) == LOQ_NO_POD && count == 9 && text[0] == 10);
+    CHECK(loq_state(pod, text, 1, &count) == LOQ_NO_POD && count == 9 && text[0] == 10);
     size_t at = 11, line = 12;
     CHECK(loq_follow(pod, text, 1, &at, &line) == LOQ_NO_POD && at == 11 && line == 12);
     loq_pod_free(pod);
@@ -156,6 +157,42 @@ static void small_buffers(loq_pod *pod) {
     CHECK(loq_effect(pod, SIZE_MAX, &effect, out, 0, ids, 3) == LOQ_NO_EFFECT);
 }
 
+// The text of the state, for each room there may be, and with each allocation refused in turn.
+static void states(loq_pod *pod, const char *state) {
+    uint8_t out[512];
+    size_t whole = strlen(state), len;
+    for (size_t room = 0; room <= whole + 1; room++) {
+        memset(out, '.', sizeof out);
+        len = 0;
+        CHECK(loq_state(pod, out, room, &len) == (room < whole ? LOQ_TOO_SMALL : LOQ_DONE) && len == whole);
+        size_t front = room < whole ? room : whole;
+        CHECK(memcmp(out, state, front) == 0 && out[front] == '.');
+    }
+    for (long n = 0;; n++) {
+        memset(out, '.', sizeof out);
+        len = 7;
+        granted = n;
+        uint32_t status = loq_state(pod, out, sizeof out, &len);
+        granted = -1;
+        if (status == LOQ_DONE) break;
+        CHECK(status == LOQ_NO_MEMORY && len == 7 && out[0] == '.');
+    }
+    CHECK(len == whole && memcmp(out, state, whole) == 0);
+}
+
+// Threads that are born and die: the procedure of each that lives is told, however many came before it.
+static void many_births(loq_pod *pod) {
+    CHECK(name(pod, "main") == LOQ_DONE && name(pod, "sitter") == LOQ_DONE && name(pod, "mayfly") == LOQ_DONE);
+    CHECK(call(pod, (loq_call_t){.kind = LOQ_CREATE, .number = 1, .prio = 1, .suspended = true}, "") == LOQ_DONE);
+    for (uint64_t n = 2; n < 5002; n++) {
+        CHECK(call(pod, (loq_call_t){.kind = LOQ_CREATE, .number = 2, .prio = 1, .suspended = true}, "") == LOQ_DONE);
+        CHECK(call(pod, (loq_call_t){.kind = LOQ_DESTROY, .target = n}, "") == LOQ_DONE);
+    }
+    CHECK(call(pod, (loq_call_t){.kind = LOQ_CREATE, .number = 3, .prio = 1}, "") == LOQ_DONE);
+    CHECK(call(pod, (loq_call_t){.kind = LOQ_CREATE, .number = 2, .prio = 1, .suspended = true}, "") == LOQ_DONE);
+    states(pod, "calls 10003 now 0 maxpri 1 exit 0\nt0 main prio 1 next\nt1 sitter prio 1 suspended\nt5002 mayfly prio 1 suspended\norder t0\n");
+}
+
 // The lines of a step beside a recorded trace, from a place of it on.
 static void follows(loq_pod *pod, const char *trace, size_t at, size_t line, uint32_t status, size_t then, size_t then_line) {
     CHECK(loq_follow(pod, (const uint8_t *)trace, strlen(trace), &at, &line) == status);
@@ -236,6 +273,8 @@ int main(void) {
     insist(&pod, (loq_call_t){.kind = LOQ_ONEXIT, .exit = LOQ_SAY}, "at the end");
     small_buffers(&pod);
     bad_traces(&pod);
+    states(&pod, "calls 8 now 0 maxpri 3 exit 0\nt0 main prio 3 next\n  handler all give 3\n  exit x0 note at the end\nt1 worker prio 1 ready\n"
+                 "order t0 t1\nm0 free\n");
     trapped(&pod);
     uint64_t tid = 0;
     uint32_t why = 9, status = 9;
@@ -244,7 +283,9 @@ int main(void) {
         CHECK(call(&pod, (loq_call_t){.kind = LOQ_PODEXIT, .number = 42}, "") == LOQ_DONE);
     CHECK(call(&pod, (loq_call_t){.kind = LOQ_ME}, "") == LOQ_NOBODY);
     CHECK(loq_ending(&pod, &why, &status) == LOQ_DONE && why == 1 && status == 42);
-    make(&pod, 1, 1, 1);
+    make(&pod, 1, 9000, 3);
+    states(&pod, "calls 0 now 0 maxpri 1 exit 0\nt0 none prio 1 next\norder t0\n");
+    many_births(&pod);
     loq_pod_free(&pod);
     on_no_pod(&pod);
     printf("%d failures, %ld allocations refused\n", failures, refused);

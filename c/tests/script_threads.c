@@ -1,6 +1,8 @@
-// A script whose threads are threads of C, with all lines of its clients in place: writes the trace, as `lwpserve plan` does.
+// A script whose threads are threads of C, with all lines of its clients in place: writes the trace, as `lwpserve plan` does; or the state
+// that it comes to, as `lwpstate plan` does, but for the lines of the clients.
 //
 //     script_threads SCRIPT [TURNS]
+//     script_threads --state SCRIPT [TURNS]
 //
 // The script is one that lwpserve takes, without `native`. The status is that of the pod, 104 stuck, 105 spent, 2 for anything else.
 #include "../loqzemar.h"
@@ -305,12 +307,15 @@ static loq_call_t call_of(line *l, int first, uint64_t me, word *text) {
 
 static const uint8_t *bytes(word w) { return (const uint8_t *)(w.len ? w.at : ""); }
 
-static void write_lines(loq_pod *pod) {
+static bool state_alone; // the state is written, and not the trace
+
+// Writes what a function says of the pod.
+static void write_told(loq_pod *pod, uint32_t (*tell)(loq_pod *, uint8_t *, size_t, size_t *)) {
     static uint8_t *out;
     static size_t room;
     size_t len;
     uint32_t status;
-    while ((status = loq_lines(pod, out ? out : (uint8_t *)"", room, &len)) == LOQ_TOO_SMALL) {
+    while ((status = tell(pod, out ? out : (uint8_t *)"", room, &len)) == LOQ_TOO_SMALL) {
         room = len;
         if (!(out = realloc(out, room))) exit(2);
     }
@@ -334,7 +339,7 @@ static void take_effects(loq_pod *pod, uint64_t me) {
             begin(thread_at(effect.id), procedure);
         }
     }
-    write_lines(pod);
+    if (!state_alone) write_told(pod, loq_lines);
 }
 
 static void one_call(loq_pod *pod, uint64_t me) {
@@ -374,7 +379,7 @@ static int run(loq_pod *pod, uint64_t turns) {
         if (loq_ending(pod, &why, &status) != LOQ_DONE) return 2;
         if (why == 1) return (int)status;
         if (why == 0 && calls == turns) {
-            printf("spent %llu\n", (unsigned long long)turns);
+            if (!state_alone) printf("spent %llu\n", (unsigned long long)turns);
             return 105;
         }
         bool some = boundary(pod);
@@ -383,7 +388,7 @@ static int run(loq_pod *pod, uint64_t turns) {
             one_call(pod, me);
             calls++;
         } else if (!some) {
-            printf("stuck\n");
+            if (!state_alone) printf("stuck\n");
             return 104;
         }
     }
@@ -400,6 +405,8 @@ static char *read_file(const char *path, size_t *len) {
 
 int main(int argc, char **argv) {
     size_t len;
+    state_alone = argc > 1 && strcmp(argv[1], "--state") == 0;
+    if (state_alone) argc--, argv++;
     if (argc < 2) return 2;
     char *text = read_file(argv[1], &len);
     for (size_t at = 0; at < len;) {
@@ -414,7 +421,8 @@ int main(int argc, char **argv) {
         if (loq_name(&pod, bytes(procedures[i].name), procedures[i].name.len) != LOQ_DONE) return 2;
     begin(thread_at(0), 0);
     int status = run(&pod, argc > 2 ? strtoull(argv[2], NULL, 10) : 100000);
-    for (uint32_t client = 0; client < client_count; client++)
+    if (state_alone) write_told(&pod, loq_state);
+    for (uint32_t client = 0; client < client_count && !state_alone; client++)
         if (client_posts[client] != client_taken[client])
             printf("left client %u %u\n", client, client_posts[client] - client_taken[client]);
     loq_pod_free(&pod);

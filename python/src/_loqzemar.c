@@ -536,12 +536,10 @@ static PyObject *lines(PyObject *self, PyObject *unused) {
     return written((core_object *)self, loq_lines);
 }
 
-#ifdef LOQ_HAS_STATE
 static PyObject *state(PyObject *self, PyObject *unused) {
     (void)unused;
     return written((core_object *)self, loq_state);
 }
-#endif
 
 #ifdef LOQ_HAS_FOLLOW
 static PyObject *follow(PyObject *self, PyObject *args) {
@@ -563,9 +561,7 @@ static PyMethodDef core_methods[] = {
     {"deliver", deliver, METH_VARARGS, "Takes a line of an event (event, client, number of the line, text): what it did."},
     {"name", name, METH_O, "Names the next procedure."},
     {"lines", lines, METH_NOARGS, "The lines of the trace of the last call or delivery."},
-#ifdef LOQ_HAS_STATE
     {"state", state, METH_NOARGS, "The state of the pod as a text."},
-#endif
 #ifdef LOQ_HAS_FOLLOW
     {"follow", follow, METH_VARARGS, "Whether the lines of the last step are a trace's from this byte on, which begins this line; and the next ones."},
 #endif

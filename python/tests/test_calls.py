@@ -654,11 +654,7 @@ def test_memory_that_is_refused() -> None:
 def test_state() -> None:
     pod = Pod(idler)
     pod.run()
-    if hasattr(Core, "state"):
-        assert "t0 idler prio 1 sleeps until 1\n" in pod.state()
-    else:
-        with pytest.raises(NotImplementedError):
-            pod.state()
+    assert pod.state() == "calls 1 now 0 maxpri 1 exit 0\nt0 idler prio 1 sleeps until 1\nstuck\n"
 
 
 def test_a_pod_is_freed() -> None:
@@ -715,7 +711,7 @@ def test_every_call_of_the_manual_is_there() -> None:
     doc = TOP / "docs" / "calls.md"
     if not doc.is_file():
         pytest.skip("the repository's pages aren't here")
-    named = re.findall(r"^\*\*NAME\*\* (\w+):", doc.read_text(), re.M)
+    named = re.findall(r"^### (\w+)$", doc.read_text(), re.M)
     assert len(named) == 50
     for name in named:
         assert callable(getattr(loqzemar, "return_" if name == "return" else name))

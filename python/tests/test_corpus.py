@@ -26,6 +26,12 @@ def chosen() -> List[pathlib.Path]:
 CHOSEN = chosen()
 
 
+def states() -> List[Tuple[str, str, int]]:
+    """The states that scripts are planned to: a script, the stored text, and how many calls are made."""
+    rows = [row.split() for row in (CORPUS / "state_rows").read_text().splitlines()]
+    return [(row[1], row[2], int(row[5]) if row[5:] else 100000) for row in rows if row[4:5] == ["plan"] and row[2].endswith(".state")]
+
+
 def planned(trace: str, script: str) -> Tuple[Pod, End]:
     spent = re.search(r"^spent (\d+)$", trace, re.M)
     pod = Script(script).pod()
@@ -42,6 +48,14 @@ def test_trace(path: pathlib.Path) -> None:
     pod, end = planned(stored, path.with_suffix(".script").read_text())
     assert pod.trace == stored
     assert (end is End.ENDED) == (pod.status is not None) == bool(re.search(r"^pod ends \d+$", stored, re.M))
+
+
+@pytest.mark.parametrize("script, stored, turns", states())
+def test_state(script: str, stored: str, turns: int) -> None:
+    pod = Script((CORPUS / script).read_text()).pod()
+    pod.run(turns)
+    wanted = (CORPUS / stored).read_text().splitlines(True)
+    assert pod.state() == "".join(line for line in wanted if not line.startswith("client "))
 
 
 @pytest.mark.parametrize("path", CHOSEN, ids=lambda path: path.stem)

@@ -384,6 +384,24 @@ impl<'t> Pod<'t> {
         trace
     }
 
+    /// How the pod stands, as `lwpstate` writes it: who waits for whom, who holds what, and who is in a deadlock. It has no lines of clients.
+    ///
+    /// # Errors
+    ///
+    /// `NoMemory`.
+    pub fn state(&mut self) -> Result<String, Fault> {
+        let (mut text, mut len) = (vec![0; 256], 0);
+        loop {
+            // SAFETY: the handle holds a pod, and the buffer is as long as is said.
+            let status = unsafe { sys::loq_state(&mut *self.raw, text.as_mut_ptr(), text.len(), &mut len) };
+            text.resize(len.max(1), 0);
+            if status != sys::TOO_SMALL {
+                done(status)?;
+                return Ok(text[..len].iter().map(|&byte| char::from(byte)).collect());
+            }
+        }
+    }
+
     // A text as the library is to have it: it lasts as long as the pod.
     #[inline(always)]
     fn lend(texts: &mut Vec<Box<str>>, text: Cow<'t, str>) -> (*const u8, usize) {

@@ -86,4 +86,5 @@ extern "C" {
     ) -> u32;
     pub fn loq_name(pod: *mut loq_pod, name: *const u8, name_len: usize) -> u32;
     pub fn loq_lines(pod: *mut loq_pod, out: *mut u8, room: usize, len: *mut usize) -> u32;
+    pub fn loq_state(pod: *mut loq_pod, out: *mut u8, room: usize, len: *mut usize) -> u32;
 }

@@ -38,6 +38,27 @@ fn traces_are_those_of_the_corpus() -> Result<(), Fault> {
 }
 
 #[test]
+fn states_are_those_of_the_corpus() -> Result<(), Fault> {
+    let rows = chosen().pop().unwrap().with_file_name("state_rows");
+    let mut count = 0;
+    for row in fs::read_to_string(&rows).unwrap().lines() {
+        let words: Vec<&str> = row.split_whitespace().collect();
+        if words.get(4) != Some(&"plan") || !words[2].ends_with(".state") {
+            continue;
+        }
+        let script = Script::new(&fs::read_to_string(rows.with_file_name(words[1])).unwrap());
+        let mut pod = script.pod()?;
+        pod.run_for(words.get(5).map_or(100_000, |calls| calls.parse().unwrap()))?;
+        let stored = fs::read_to_string(rows.with_file_name(words[2])).unwrap();
+        let wanted: String = stored.split_inclusive('\n').filter(|line| !line.starts_with("client ")).collect();
+        assert_eq!(pod.state()?, wanted, "{row}");
+        count += 1;
+    }
+    assert!(count >= 30, "there are {count}");
+    Ok(())
+}
+
+#[test]
 fn traces_of_the_corpus_are_followed() -> Result<(), Unfollowed> {
     for path in chosen() {
         let stored = fs::read_to_string(&path).unwrap();

@@ -4,3 +4,5 @@ pub mod Effects
 pub mod Follow
 pub mod Handle
 pub mod Held
+pub mod Origins
+pub mod Standing

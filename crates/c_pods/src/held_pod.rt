@@ -1,13 +1,16 @@
 // A pod, and what its last call or delivery did.
-ghost use Rattle.std.specs.Prelude.{◌≡◌, ◌≤◌, ◌<◌, ◌^◌, ◌++◌, ◌∷◌, [], IfOk, IsErr, IsTrue, OnOk, OnErr, Some, false, option_copied, slice_get};
+ghost use Rattle.std.specs.Prelude.{◌≡◌, ◌≤◌, ◌<◌, ◌^◌, ◌++◌, ◌∷◌, [], IfOk, IsErr, IsSome, IsTrue, OnOk, OnErr, Some, false, length, option_copied, slice_get};
 ghost use Rattle.lwp_types.specs.State.{opening};
 ghost use Rattle.lwp_types.specs.TextFields.{is_text};
+ghost use Rattle.c_pods.specs.Follow.{counted};
 ghost use Rattle.c_pods.specs.Held.{Tells, last_called, last_lines};
+ghost use Rattle.c_pods.specs.Origins.{entries_after, entries_after_by, first_entries};
 ghost use Rattle.c_pods.specs.declared.held_pod.Last.TheVariants as last;
 ghost use Rattle.pod_events.specs.Events.{is_takeable, quiet_events, take_event};
 ghost use Rattle.pod_events.specs.Machine.{asks_memory, current_of};
 ghost use Rattle.pod_events.specs.Step.{event_step};
 
+use crate::origins::{Origins, proc_of};
 use lists::TextList;
 use lwp_calls::Pod;
 use lwp_types::{Call, Effect, Effects, Line, NoMemory, PodParams, Tid};
@@ -35,6 +38,17 @@ pub struct HeldPod {
     pub last: Last,
     /// The lines that were asked for last.
     pub lines: StepLines,
+    /// The procedures that the threads began in.
+    pub origins: Origins,
+    /// How many calls were made.
+    pub calls: u64,
+}
+
+// One more call, as far as they can be counted.
+fn counted(calls: u64) -> u64
+    ensures { result ≡ counted calls }
+{
+    if calls == u64::MAX { calls } else { calls + 1 }
 }
 
 impl HeldPod {
@@ -49,6 +63,8 @@ impl HeldPod {
         ensures effects { IfOk result (λ held. held.effects ≡ []) }
         ensures names { IfOk result (λ held. held.names ≡ []) }
         ensures last { IfOk result (λ held. held.last ≡ last.Nothing) }
+        ensures began { IfOk result (λ held. held.origins.entries ≡ first_entries) }
+        ensures calls { IfOk result (λ held. held.calls ≡ 0) }
     {
         let pod = Pod::new(alloc, params)?;
         let pod = EventPod::new(alloc, pod)?;
@@ -59,7 +75,31 @@ impl HeldPod {
             names: TextList::new(alloc),
             last: Last::Nothing,
             lines: StepLines::new(alloc),
+            origins: Origins::new(alloc)?,
+            calls: 0,
         })
+    }
+
+    // Nothing was done last.
+    fn forget_step(&mut self)
+        ensures { self.new ≡ record self.old { effects = []; last = last.Nothing } }
+    {
+        self.effects.clear();
+        self.last = Last::Nothing;
+    }
+
+    // A call was made, by which a thread was born in this procedure, if one was.
+    #[inline(always)]
+    fn note_call(&mut self, born: Option<u32>)
+        requires { IsSome born → length self.old.origins.entries < self.old.origins.places }
+        ensures began { self.new.origins.entries ≡ entries_after_by born self.old.effects self.old.pod.state self.old.origins.entries }
+        ensures calls { self.new.calls ≡ counted self.old.calls }
+        ensures other { self.new ≡ record self.old { origins = self.new.origins; calls = self.new.calls } }
+    {
+        self.calls = counted(self.calls);
+        if let Some(proc) = born {
+            self.origins.add(proc, &self.effects, &self.pod);
+        }
     }
 
     /// The call of the thread whose turn it is.
@@ -74,7 +114,18 @@ impl HeldPod {
         ensures err_last { OnErr result (self.new.last ≡ last.Nothing) }
         ensures memory { IsErr result → IsTrue (asks_memory call.entry) }
         ensures names { self.new.names ≡ self.old.names }
+        ensures began { OnOk result
+            (self.new.origins.entries ≡ entries_after call.entry self.new.effects self.new.pod.state self.old.origins.entries) }
+        ensures calls { OnOk result (self.new.calls ≡ counted self.old.calls) }
+        ensures err_began { OnErr result (self.new.origins.entries ≡ self.old.origins.entries) }
+        ensures err_calls { OnErr result (self.new.calls ≡ self.old.calls) }
     {
+        let born = proc_of(&call);
+        // The room for its procedure first: a create that was carried out isn't answered with no memory.
+        if let Err(no_memory) = self.origins.make_room(born) {
+            self.forget_step();
+            return Err(no_memory);
+        }
         let pending = self.pod.pending();
         let done = self.pod.call(&call, &mut self.effects);
         self.last = match done {
@@ -84,6 +135,9 @@ impl HeldPod {
                 None => Last::Called { tid, call },
             },
         };
+        if done.is_ok() {
+            self.note_call(born);
+        }
         done
     }
 
@@ -94,6 +148,8 @@ impl HeldPod {
         ensures effects { IsTrue result → self.new.effects ≡ (take_event self.old.pod event line.entry.text).effects }
         ensures last { IsTrue result → self.new.last ≡ last.Took line.entry }
         ensures names { self.new.names ≡ self.old.names }
+        ensures began { self.new.origins ≡ self.old.origins }
+        ensures calls { self.new.calls ≡ self.old.calls }
         ensures same { result ≡ false → self.new ≡ self.old }
     {
         if !self.pod.armed(event) {

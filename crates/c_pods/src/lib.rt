@@ -7,7 +7,12 @@
 //! each effect that there is (`specs/Calls.antt`, `specs/Records.antt`, `specs/Effects.antt`). `follow` goes along a recorded trace as
 //! far as it has the lines of a step (`specs/Follow.antt`).
 //!
-//! The crate stands on the pods of `lwp_calls` with the events of `pod_events`, and on the lines of `trace_text`.
+//! The pod also knows how many calls were made and which procedure each live thread began in (`specs/Origins.antt`). Room for the entry of
+//! a thread is made before its create, and the dead are dropped once there are more entries than two for each thread that may live: so the
+//! memory doesn't grow with births. `state_text` writes the state of the pod as text (`specs/Standing.antt`).
+//!
+//! The crate stands on the pods of `lwp_calls` with the events of `pod_events`, on the lines of `trace_text`, and on `snapshots` and
+//! `state_text`.
 #![tactic(auto)]
 
 mod calls;
@@ -15,11 +20,14 @@ mod effects;
 mod following;
 mod handle;
 mod held_pod;
+mod origins;
 mod records;
+mod standing;
 
 pub use calls::{CallRecord, call_of};
 pub use effects::{EffectRecord, NO_EFFECT, effect_text, put_bytes, put_ids, put_text, set_effect};
 pub use following::{Followed, Place, follow};
 pub use handle::PodHandle;
 pub use held_pod::{HeldPod, Last};
+pub use origins::{Began, Origins};
 pub use records::{call_record, call_text, exit_record, exit_text};

@@ -1,21 +1,33 @@
 -- What is asked of a handle, and why it is refused.
 use Rattle.c_pods.specs.Effects.{effect_ids, effect_record, effect_text, no_effect}
-use Rattle.c_pods.specs.Follow.{follow_from}
+use Rattle.c_pods.specs.Follow.{counted, follow_from}
 use Rattle.c_pods.specs.Held.{lines_of}
+use Rattle.c_pods.specs.Origins.{entries_after}
 use Rattle.c_pods.specs.declared.effects.EffectRecord.{EffectRecord}
 use Rattle.c_pods.specs.declared.following.Followed.{Followed}
 use Rattle.c_pods.specs.declared.held_pod.HeldPod.{HeldPod}
+use Rattle.c_pods.specs.declared.origins.Began.{Began}
 use Rattle.loqzemar.specs.Status.{bad_call, bad_text, differs, done, no_pod, no_such_effect, nobody, not_armed, too_small}
+use Rattle.lwp_types.specs.declared.call.Call.{Call}
 use Rattle.lwp_types.specs.declared.call.Effect.{Effect}
 use Rattle.lwp_types.specs.declared.call.PodEnd.{PodEnd}
 use Rattle.lwp_types.specs.declared.call.PodEnd.TheVariants.{Ended, Idle}
 use Rattle.pod_events.specs.Events.{EventState, is_takeable}
 use Rattle.pod_events.specs.Machine.{current_of, ending_of}
-use Rattle.std.specs.Prelude.{Bool, List, None, Option, Some, [], if◌then◌else◌, length, nat_lt, option_map, slice_get, ℕ, ◌++◌, ◌==◌, ◌||◌, ◌∷◌}
+use Rattle.std.specs.Prelude.{Bool, List, None, Option, Some, [], if◌then◌else◌, length, nat_lt, option_map, slice_get, ℕ, ◌++◌, ◌==◌, ◌||◌, ◌∷◌, ◌≡◌}
 
 -- the pod in a handle, with the events that it keeps for itself
 abbrev pub pod_in : Option HeldPod → Option EventState
 pod_in held = option_map (λ h. h.pod) held
+
+-- which procedure each of its threads began in, and how many calls were made
+abbrev pub counts_in : Option HeldPod → Option (List Began × ℕ)
+counts_in held = option_map (λ h. (h.origins.entries, h.calls)) held
+
+-- after a call a thread that it made has its procedure, and one call more was made
+abbrev pub HasCalled : Call → HeldPod → HeldPod → Type 0
+HasCalled c held new = (new.origins.entries ≡ entries_after c new.effects new.pod.state held.origins.entries)
+    × (new.calls ≡ counted held.calls)
 
 -- a pod, with a name for the next procedure
 abbrev pub with_name : List ℕ → HeldPod → HeldPod

@@ -2,8 +2,8 @@
 //!
 //! A C program keeps a `PodHandle`. `loq_pod_new` puts a pod into it, and `loq_pod_free` takes it away. The library never calls back:
 //! `loq_current` says whose turn it is, `loq_call` makes that thread's next call, `loq_effect` tells one by one what the call did, and
-//! `loq_deliver` takes a line of an event. `loq_lines` writes the trace of the last step, and `loq_follow` compares it with a recorded
-//! one. Each contract says which number is answered for which cause, and what is written where; nothing is required of the caller but
+//! `loq_deliver` takes a line of an event. `loq_lines` writes the trace of the last step, `loq_follow` compares it with a recorded
+//! one, and `loq_state` writes how the pod stands. Each contract says which number is answered for which cause, and what is written where; nothing is required of the caller but
 //! what its header says of pointers. Bytes that a call or a delivery carries are lent until the pod is freed.
 //!
 //! The crate stands on `c_pods`.
@@ -12,8 +12,9 @@
 ghost use Rattle.c_pods.specs.Calls.{call_of};
 ghost use Rattle.c_pods.specs.Effects.{put_front};
 ghost use Rattle.c_pods.specs.Held.{Tells, last_called};
+ghost use Rattle.c_pods.specs.Origins.{first_entries};
 ghost use Rattle.c_pods.specs.declared.held_pod.Last.TheVariants as last;
-ghost use Rattle.loqzemar.specs.Asked.{armed_or, asked, call_refusal, count_or, current_or, current_status, delivery_status, effect_at, effect_status, effect_status_if, end_numbers_or, ids_or_none, is_out_of_range, line_status, pod_in, record_or_none, text_or_none, with_name};
+ghost use Rattle.loqzemar.specs.Asked.{HasCalled, armed_or, asked, call_refusal, count_or, counts_in, current_or, current_status, delivery_status, effect_at, effect_status, effect_status_if, end_numbers_or, ids_or_none, is_out_of_range, line_status, pod_in, record_or_none, text_or_none, with_name};
 ghost use Rattle.lwp_types.specs.State.{opening};
 ghost use Rattle.lwp_types.specs.TextFields.{is_text};
 ghost use Rattle.pod_events.specs.Events.{quiet_events, take_event};
@@ -21,6 +22,7 @@ ghost use Rattle.pod_events.specs.Machine.{asks_memory};
 ghost use Rattle.pod_events.specs.Step.{event_step};
 ghost use Rattle.std.specs.Prelude.{◌≡◌, ◌≢◌, ◌≤◌, ◌<◌, ◌^◌, [], false, IfSome, IsTrue, None, Some, is_some, length, nat_lt, option_copied, option_map, true};
 
+mod standing;
 mod status;
 mod traces;
 
@@ -63,6 +65,8 @@ pub extern "C" fn loq_pod_new(
         ≡ Some (quiet_events (opening (record { maxpri = maxpri; births = births; procs = procs }))) }
     ensures quiet { result ≡ 0 → IfSome handle.new.pod
         (λ held. (held.last ≡ last.Nothing) × (held.effects ≡ []) × (held.names ≡ [])) }
+    ensures began { result ≡ 0 → IfSome handle.new.pod
+        (λ held. (held.origins.entries ≡ first_entries) × (held.calls ≡ 0)) }
     ensures same { result ≢ 0 → handle.new.pod ≡ handle.old.pod }
 {
     if is_out_of_range(maxpri, births, procs) {
@@ -169,6 +173,9 @@ fn make_call(alloc: Global, handle: &mut PodHandle, call: Call<'static>) -> u32
         (λ held. result ≡ 0 → IfSome handle.new.pod (λ new. Tells held.pod call.entry new.effects)) }
     ensures last { IfSome handle.old.pod
         (λ held. result ≡ 0 → IfSome handle.new.pod (λ new. new.last ≡ last_called held.pod call.entry)) }
+    ensures counts { IfSome handle.old.pod
+        (λ held. result ≡ 0 → IfSome handle.new.pod (λ new. HasCalled call.entry held new)) }
+    ensures counts_same { result ≢ 0 → counts_in handle.new.pod ≡ counts_in handle.old.pod }
     ensures memory { result ≡ 1 → IsTrue (asks_memory call.entry) }
     ensures forgotten { result ≡ 1 → IfSome handle.new.pod (λ new. (new.effects ≡ []) × (new.last ≡ last.Nothing)) }
     ensures other { result ≢ 0 → pod_in handle.new.pod ≡ pod_in handle.old.pod }
@@ -208,6 +215,9 @@ pub extern "C" fn loq_call(
         (λ held. result ≡ 0 → IfSome handle.new.pod (λ new. Tells held.pod c new.effects))) }
     ensures last { IfSome (call_of call.now text.now) (λ c. IfSome handle.old.pod
         (λ held. result ≡ 0 → IfSome handle.new.pod (λ new. new.last ≡ last_called held.pod c))) }
+    ensures counts { IfSome (call_of call.now text.now) (λ c. IfSome handle.old.pod
+        (λ held. result ≡ 0 → IfSome handle.new.pod (λ new. HasCalled c held new))) }
+    ensures counts_same { result ≢ 0 → counts_in handle.new.pod ≡ counts_in handle.old.pod }
     ensures memory { IfSome (call_of call.now text.now) (λ c. result ≡ 1 → IsTrue (asks_memory c)) }
     ensures forgotten { result ≡ 1 → IfSome handle.new.pod (λ new. (new.effects ≡ []) × (new.last ≡ last.Nothing)) }
     ensures other { result ≢ 0 → pod_in handle.new.pod ≡ pod_in handle.old.pod }
@@ -232,6 +242,7 @@ fn take_line(alloc: Global, handle: &mut PodHandle, event: u8, line: Line<'stati
         ≡ option_map (λ held. (take_event held.pod event line.entry.text).effects) handle.old.pod }
     ensures last { result ≡ 0 → IfSome handle.new.pod (λ held. held.last ≡ last.Took line.entry) }
     ensures names { option_map (λ held. held.names) handle.new.pod ≡ option_map (λ held. held.names) handle.old.pod }
+    ensures counts { counts_in handle.new.pod ≡ counts_in handle.old.pod }
     ensures other { result ≢ 0 → handle.new.pod ≡ handle.old.pod }
 {
     let Some(mut held) = handle.take(alloc) else {
@@ -260,6 +271,7 @@ pub extern "C" fn loq_deliver(
     ensures last { result ≡ 0 → IfSome handle.new.pod
         (λ held. held.last ≡ last.Took (record { client = client; seq = seq; text = text.now })) }
     ensures names { option_map (λ held. held.names) handle.new.pod ≡ option_map (λ held. held.names) handle.old.pod }
+    ensures counts { counts_in handle.new.pod ≡ counts_in handle.old.pod }
     ensures other { result ≢ 0 → handle.new.pod ≡ handle.old.pod }
 {
     if !is_text(text) {

@@ -186,9 +186,8 @@ class Pod:
         return lines
 
     def state(self) -> str:
-        """The state of the pod as a text, as `lwpstate` writes it: who waits for whom, and who holds what."""
-        if not hasattr(self._core, "state"):
-            raise NotImplementedError("this package was built with a library that has no loq_state")
+        """The state of the pod as a text, as `lwpstate` writes it: who waits for whom, who holds what, and who is in a deadlock. It has no
+        lines of clients."""
         return self._core.state()
 
     def post(self, event: int, text: str = "", client: Optional[int] = None) -> None:

@@ -1,0 +1,9 @@
+use Rattle.c_pods.proofs.held_pod.HeldPod.state_text.Goals as goal
+use Rattle.snapshots.specs.declared.session.Snapshot.{Snapshot}
+use Rattle.state_text.specs.Text.{state_text}
+use Rattle.std.proofs.Common.{IfOk, [], subst, true, ◌≡◌}
+
+pub returns : goal.returns
+returns c =
+    subst (λ (snap : Snapshot). IfOk c.state_text.result (λ text. text.items ≡ state_text true c.args.self.now.names [] snap))
+    c.in_ok-snap.ensures c.state_text.ensures
