@@ -22,6 +22,7 @@ pub mod Sleeping
 pub mod Stacks
 pub mod Tables
 pub mod Ticking
+pub mod Passing
 pub mod Unwound
 pub mod WaitMoves
 pub mod Waiting

@@ -100,7 +100,7 @@ popped-none rows now h = by_found (first_due rows now) h
     by_found (Some row) h = absurd (cc)
 
 -- other timers, and another time, change nothing that the parts agree on
-InStep-clock : (parts : Parts) (timers : List TimerRow) (now : ℕ) → InStep parts
+pub InStep-clock : (parts : Parts) (timers : List TimerRow) (now : ℕ) → InStep parts
     → InStep (record parts { sched = record parts.sched { timers = timers; now = now } })
 InStep-clock parts timers now step = record {
   tied = record { known = step.tied.known; waits = step.tied.waits };

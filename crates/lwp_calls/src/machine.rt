@@ -1,7 +1,7 @@
 // A pod as a machine, around which events of the pod's own may lie.
 use crate::Pod;
 use lwp_types::{Again, Call, Effects, Flags, NoMemory, PodEnd, Text, Tid};
-use pod_events::{Copied, Driven, Machine};
+use pod_events::{Copied, Driven, Machine, Timed};
 use snapshots::StateCopy;
 
 impl<'s> Machine for Pod<'s> {
@@ -51,6 +51,20 @@ impl<'s> Driven<'s> for Pod<'s> {
     #[inline(always)]
     fn deliver(&mut self, event: u8, text: Text<'s>, effects: &mut Effects<'s>) {
         Pod::deliver(self, event, text, effects)
+    }
+}
+
+impl<'s> Timed for Pod<'s> {
+    fn now(&self) -> u64 {
+        Pod::now(self)
+    }
+
+    fn next_due(&self) -> u64 {
+        Pod::next_due(self)
+    }
+
+    fn pass(&mut self, ticks: u64) {
+        Pod::pass(self, ticks);
     }
 }
 

@@ -16,6 +16,7 @@ ghost use Rattle.lwp_types.specs.Step.{case_of, step, end_effects, ends};
 ghost use Rattle.pod_events.specs.Events.{has_agent};
 ghost use Rattle.pod_events.specs.Machine.{asks_memory, call_effects, current_of, ending_of};
 ghost use Rattle.pod_events.specs.Rites.{flags_of};
+ghost use Rattle.pod_events.specs.Ticks.{after_ticks, next_due};
 ghost use Rattle.snapshots.specs.Copies.{state_in};
 ghost use Rattle.lwp_calls.specs.Comes.{IsAsBefore, Told};
 ghost use Rattle.lwp_calls.specs.Opening.{no_thread};
@@ -215,6 +216,22 @@ impl<'s> Pod<'s> {
         ensures { result ≡ self.entry.now.now }
     {
         self.parts.sched.now()
+    }
+
+    /// The tick at which the first timer falls due, or the greatest u64 where there is no timer. One look.
+    pub fn next_due(&self) -> u64
+        ensures { result ≡ next_due self.now }
+    {
+        self.parts.sched.next_due()
+    }
+
+    /// The clock ticks so many times, none of which makes a timer due: what so many deliveries to it come to, in one step.
+    pub fn pass(&mut self, ticks: u64)
+        requires quiet { self.old.now + ticks < next_due self.old }
+        requires room { self.old.now + ticks ≤ 4294967295 }
+        ensures { self.new ≡ after_ticks ticks self.old }
+    {
+        self.parts.sched.pass(ticks);
     }
 
     /// Whether an event can be delivered: the clock can tick, or the event has an agent and none of its agents holds a message; and

@@ -1,5 +1,5 @@
 // A machine of threads that knows no events of its own.
-ghost use Rattle.std.specs.Prelude.{◌≡◌, ◌≤◌, ◌++◌, [], ◌<◌, length, None, IfNone, IfOk, IfSome, OnOk, OnErr, IsErr, IsSome, IsTrue};
+ghost use Rattle.std.specs.Prelude.{◌≡◌, ◌≤◌, ◌+◌, ◌++◌, [], ◌<◌, length, None, IfNone, IfOk, IfSome, OnOk, OnErr, IsErr, IsSome, IsTrue};
 ghost use Rattle.std.specs.Slice.Scan.{HoldsNowhere, IsFirstPlace};
 ghost use Rattle.lwp_types.specs.Agents.{deliver, is_event_armed};
 ghost use Rattle.lwp_types.specs.Choice.{is_eligible_in};
@@ -10,6 +10,7 @@ ghost use Rattle.lwp_types.specs.Step.{step};
 ghost use Rattle.pod_events.specs.Events.{has_agent};
 ghost use Rattle.pod_events.specs.Machine.{asks_memory, call_effects, current_of, ending_of};
 ghost use Rattle.pod_events.specs.Rites.{flags_of};
+ghost use Rattle.pod_events.specs.Ticks.{after_ticks, next_due};
 ghost use Rattle.pod_events.specs.Traps.{trap_of};
 ghost use Rattle.snapshots.specs.Copies.{state_in};
 
@@ -91,4 +92,21 @@ pub trait Copied<'s>: Machine {
     /// The state. NoMemory where there is none for it.
     fn copy(&self) -> Result<StateCopy<'s>, NoMemory>
         ensures { IfOk result (λ copy. state_in copy ≡ Self.state self.now) };
+}
+
+/// A machine that tells when its next timer falls due, and whose clock can be moved up to there in one step.
+pub trait Timed: Machine {
+    /// How often the clock has ticked.
+    fn now(&self) -> u64
+        ensures { result ≡ (Self.state self.now).now };
+
+    /// The tick at which the first timer falls due, or the greatest u64 where there is no timer.
+    fn next_due(&self) -> u64
+        ensures { result ≡ next_due (Self.state self.now) };
+
+    /// The clock ticks so many times, none of which makes a timer due.
+    fn pass(&mut self, ticks: u64)
+        requires quiet { (Self.state self.old).now + ticks < next_due (Self.state self.old) }
+        requires room { (Self.state self.old).now + ticks ≤ 4294967295 }
+        ensures { Self.state self.new ≡ after_ticks ticks (Self.state self.old) };
 }

@@ -5,7 +5,7 @@ use Rattle.lwp_types.specs.State.{passes}
 use Rattle.lwp_types.specs.Unblock.{is_timer_of, without_timer}
 use Rattle.lwp_types.specs.declared.rows.TimerRow.{TimerRow}
 use Rattle.pod_sched.specs.Clock.{IsTimed}
-use Rattle.pod_sched.specs.Timers.Clock.{Clock, after_drop, after_pop, after_reserve, after_set, after_tick, first_due, without_found}
+use Rattle.pod_sched.specs.Timers.Clock.{Clock, after_drop, after_pass, after_pop, after_reserve, after_set, after_tick, first_due, without_found}
 use Rattle.pod_sched.specs.Schedule as sched
 use Rattle.pod_sched.specs.Schedule.{Schedule, is_of, without_row}
 use Rattle.pod_sched.specs.declared.rows.Known.{Known}
@@ -104,6 +104,9 @@ module _ {threads : List Known} {c : Clock} {places : ℕ} (was : IsTimed thread
 
   pub IsTimed-ticked : IsTimed threads (after_tick c) places
   IsTimed-ticked = record { owned = was.owned; roomy = was.roomy }
+
+  pub IsTimed-passed : (n : ℕ) → IsTimed threads (after_pass c n) places
+  IsTimed-passed n = record { owned = was.owned; roomy = was.roomy }
 
   pub IsTimed-found : (o : Option TimerRow) → IsTimed threads (record c { timers = without_found o c.timers }) places
   IsTimed-found None = was

@@ -2,7 +2,7 @@
 ghost use Rattle.std.specs.Prelude.{◌≡◌, ◌+◌, ◌<◌, ◌≤◌, Some, false, length, option_map, IsTrue, IsOk, IfOk, OnOk, OnErr};
 ghost use Rattle.std.specs.List.{find};
 ghost use Rattle.lwp_types.specs.First.{FindsBest};
-ghost use Rattle.pod_sched.specs.Schedule.{IsOrdered, after_admit, after_block, after_leave, after_pop, after_resched, after_reserve, after_resume, after_set_priority, after_set_timer, after_suspend, after_tick, after_unblock, after_yield, choice, empty_schedule, first_due, first_of, has_timer, is_blocked_in, is_eligible_in, is_of, knows, prio_in, priority_in, with_maxpri};
+ghost use Rattle.pod_sched.specs.Schedule.{IsOrdered, after_admit, after_block, after_leave, after_pass, after_pop, after_resched, after_reserve, after_resume, after_set_priority, after_set_timer, after_suspend, after_tick, after_unblock, after_yield, choice, empty_schedule, first_due, first_of, has_timer, is_blocked_in, is_eligible_in, is_of, knows, next_due, prio_in, priority_in, with_maxpri};
 
 use crate::buckets::Steps;
 use crate::timers::Timers;
@@ -106,6 +106,21 @@ impl Sched {
         ensures { self.new ≡ after_tick self.old }
     {
         self.timers.tick();
+    }
+
+    /// The clock ticks so many times. Whose timers that makes due is for `pop_due` to tell.
+    pub fn pass(&mut self, ticks: u64)
+        requires { self.old.now + ticks ≤ 4294967295 }
+        ensures { self.new ≡ after_pass self.old ticks }
+    {
+        self.timers.pass(ticks);
+    }
+
+    /// The tick at which the first timer falls due, or the greatest u64 where there is no timer. One look.
+    pub fn next_due(&self) -> u64
+        ensures { result ≡ next_due self.now.timers }
+    {
+        self.timers.next_due()
     }
 
     /// A thread that waits is to wait no longer than until this tick.

@@ -6,12 +6,13 @@ use Rattle.lwp_types.specs.Time.{is_due}
 use Rattle.lwp_types.specs.Unblock.{is_timer_of, without_timer}
 use Rattle.lwp_types.specs.declared.rows.TimerRow.{TimerRow}
 use Rattle.std.proofs.Common.{Bool, List, None, Option, Some, [], ap, arith, cond, eqb, false, get_or, get_or-set_other, get_or-set_same, inl, inr}
-use Rattle.std.proofs.Common.{is_some, length, not, option_map, refl, set, suc, sym, true, zero, ℕ, ◌++◌, ◌+◌, ◌<◌, ◌∙◌, ◌∷◌, ◌≡◌, ◌≢◌, ◌≤◌}
+use Rattle.std.proofs.Common.{is_some, length, min, not, option_map, refl, set, suc, sym, true, zero, ℕ, ◌++◌, ◌+◌, ◌<◌, ◌∙◌, ◌∷◌, ◌≡◌, ◌≢◌, ◌≤◌}
 use Rattle.std.proofs.lemmas.Bool.{cases_eq, eq-eqb, lt-leb, ne_eqb}
-use Rattle.std.specs.List.{filter, find, list_any}
+use Rattle.std.specs.List.{filter, find, fold, list_any}
 use Rattle.pod_sched.specs.Timers.Leaves.{IsOnce, due_of, first_of, never}
 use Rattle.lists.specs.Living.{living}
-use Rattle.pod_sched.specs.Timers.Minima.{first_within}
+use Rattle.pod_sched.specs.Timers.Clock.{next_due}
+use Rattle.pod_sched.specs.Timers.Minima.{first_within, least}
 
 -- it, where there is one
 abbrev pub as_list : {A : Type 0} → Option A → List A
@@ -241,6 +242,23 @@ first_come now early (None ∷ xs) (d ∷ dues) fits tied =
 first_come now early (Some x ∷ xs) (d ∷ dues) fits tied =
     let same : d ≡ x.due = tied 0 in
     rw (same, first_come now early xs dues (omega arith) (λ i. tied (suc i))) refl
+
+-- the least tick of the timers, counted from one that is given
+fold-least : (n : ℕ) → n ≤ never → (xs : List (Option TimerRow)) (dues : List ℕ) → length xs ≤ length dues → IsTied xs dues
+    → fold (λ m row. min m row.due) n (living xs) ≡ min n (least dues)
+fold-least n most [] dues fits tied = rw (none_least dues tied) (omega (arith, most))
+  where
+    none_least : (dues : List ℕ) → IsTied [] dues → least dues ≡ never
+    none_least [] tied = refl
+    none_least (d ∷ dues) tied = omega (arith, tied 0, none_least dues (λ i. tied (suc i)))
+fold-least n most (o ∷ xs) [] fits tied = absurd (omega arith)
+fold-least n most (None ∷ xs) (d ∷ dues) fits tied = omega (arith, most, tied 0, fold-least n most xs dues (omega (arith, fits)) (λ i. tied (suc i)))
+fold-least n most (Some x ∷ xs) (d ∷ dues) fits tied =
+    omega (arith, tied 0, fold-least (min n x.due) (omega (arith, most)) xs dues (omega (arith, fits)) (λ i. tied (suc i)))
+
+pub least_tied : (xs : List (Option TimerRow)) (dues : List ℕ) → length xs ≤ length dues → IsTied xs dues → least dues ≤ never
+    → least dues ≡ next_due (living xs)
+least_tied xs dues fits tied most = omega (arith, most, fold-least never (omega arith) xs dues fits tied)
 
 module _ (xs : List (Option TimerRow)) (dues : List ℕ) (tied : IsTied xs dues) where
   pub IsTied-emptied : (j : ℕ) → j < length xs → length xs ≤ length dues → IsTied (set xs j None) (set dues j never)

@@ -3,7 +3,7 @@ use Rattle.std.proofs.Common.{List, None, Some, [], add-one, ap, arith, get_or, 
 use Rattle.std.proofs.Common.{length, length-set, min, refl, set, suc, zero, drop, ℕ, ◌*◌, ◌+◌, ◌-◌, ◌<◌, ◌∙◌, ◌∷◌, ◌≡◌, ◌≢◌, ◌≤◌}
 use Rattle.std.proofs.lemmas.Bool.{cases_eq, cases_lt, le-leb, lt-leb}
 use Rattle.std.proofs.lemmas.List.{drop-set-add, drop-set-lt, length-drop}
-use Rattle.pod_sched.specs.Timers.Minima.{IsLesser, IsMended, first_within, leaf_under, node}
+use Rattle.pod_sched.specs.Timers.Minima.{IsLesser, IsMended, first_within, leaf_under, least, node}
 
 -- ---- the leaves under a node
 
@@ -114,6 +114,83 @@ module _ (nodes : List ℕ) (width now : ℕ) (mended : IsMended nodes width) wh
           rw (get_or-drop width nodes i 0)
           (above height 1 (omega arith) (omega (arith, full, doubles height 1)) late (width + i) (omega (arith, full))
           (omega (arith, less, length-drop width nodes, halves, full, doubles height 1))))
+
+-- ---- the least
+
+-- a number that each has at least is at most the least
+least_from : (r : ℕ) → r ≤ 18446744073709551615 → (xs : List ℕ) → ((i : ℕ) → i < length xs → r ≤ get_or xs i 0) → r ≤ least xs
+least_from r most [] low = most
+least_from r most (x ∷ xs) low = omega (arith, low 0 (omega arith), least_from r most xs (λ i less. low (suc i) (omega (arith, less))))
+
+-- a number that each has at least, and one has, is the least
+least_is : (r : ℕ) → r ≤ 18446744073709551615 → (xs : List ℕ) → ((i : ℕ) → i < length xs → r ≤ get_or xs i 0)
+    → (j : ℕ) → j < length xs → get_or xs j 0 ≡ r → least xs ≡ r
+least_is r most [] low j within here = absurd (omega arith)
+least_is r most (x ∷ xs) low zero within here = omega (arith, here, least_from r most xs (λ i less. low (suc i) (omega (arith, less))))
+least_is r most (x ∷ xs) low (suc j) within here =
+    omega (arith, low 0 (omega arith), least_is r most xs (λ i less. low (suc i) (omega (arith, less))) j (omega (arith, within)) here)
+
+-- a leaf that has what the node has over it, which no leaf below has less
+record Under (nodes : List ℕ) (r from to : ℕ) : Type 0 where
+  leaf : ℕ
+  from_on : from ≤ leaf
+  before : leaf < to
+  has : node nodes leaf ≡ r
+  low : (x : ℕ) → from ≤ x → x < to → r ≤ node nodes x
+
+module _ (nodes : List ℕ) (width : ℕ) (mended : IsMended nodes width) where
+  -- so it is under each node
+  under : (k i : ℕ) → 1 ≤ i → leaf_under k (i + 1) ≤ 2 * width → Under nodes (node nodes i) (leaf_under k i) (leaf_under k (i + 1))
+  under zero i some inside = record {
+    leaf = i;
+    from_on = omega arith;
+    before = omega arith;
+    has = refl;
+    low = λ x from to. (let same : x ≡ i = omega (arith, from, to) in rw same (omega arith));
+  }
+  under (suc k) i some inside =
+      let even : leaf_under k (2 * (i + 1)) ≡ leaf_under k (2 * i + 1 + 1) = ap (leaf_under k) (omega arith) in
+      let low : i < width = omega (arith, at_least k (2 * (i + 1)), inside) in
+      let lesser = mended i some low in
+      let first = rises k (2 * i) (2 * i + 1) (omega arith) in
+      let second = rises k (2 * i + 1) (2 * i + 1 + 1) (omega arith) in
+      let left = under k (2 * i) (omega arith) (omega (arith, second, even, inside)) in
+      let right = under k (2 * i + 1) (omega arith) (omega (arith, even, inside)) in
+      let all : (x : ℕ) → leaf_under k (2 * i) ≤ x → x < leaf_under k (2 * (i + 1)) → node nodes i ≤ node nodes x =
+      λ x from to. elim (cases_lt x (leaf_under k (2 * i + 1))) [
+        | inl less ↦ omega (arith, lesser, left.low x from less)
+        | inr more ↦ omega (arith, lesser, right.low x more (omega (arith, even, to)))
+      ] in
+      elim (cases_lt (node nodes (2 * i)) (node nodes (2 * i + 1))) [
+        | inl less
+            ↦ record {
+              leaf = left.leaf;
+              from_on = left.from_on;
+              before = omega (arith, left.before, second, even);
+              has = omega (arith, left.has, lesser, less);
+              low = all;
+            }
+        | inr more
+            ↦ record {
+              leaf = right.leaf;
+              from_on = omega (arith, right.from_on, first);
+              before = omega (arith, right.before, even);
+              has = omega (arith, right.has, lesser, more);
+              low = all;
+            }
+      ]
+
+  pub least_of : length nodes ≡ 2 * width → (height : ℕ) → width ≡ leaf_under height 1 → node nodes 1 ≤ 18446744073709551615
+      → least (drop width nodes) ≡ node nodes 1
+  least_of halves height full most =
+      let top = under height 1 (omega arith) (omega (arith, full, doubles height 1)) in
+      let long = length-drop width nodes in
+      least_is (node nodes 1) most (drop width nodes)
+      (λ i less. rw (get_or-drop width nodes i 0) (top.low (width + i) (omega (arith, full)) (omega (arith, less, long, halves, full, doubles height 1))))
+      (top.leaf - width)
+      (omega (arith, top.from_on, top.before, long, halves, full, doubles height 1))
+      (rw (get_or-drop width nodes (top.leaf - width) 0)
+      (let same : width + (top.leaf - width) ≡ top.leaf = omega (arith, top.from_on, full) in rw same top.has))
 
 -- ---- the way up
 

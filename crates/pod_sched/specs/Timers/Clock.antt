@@ -2,8 +2,8 @@
 use Rattle.lwp_types.specs.Time.{is_due}
 use Rattle.lwp_types.specs.Unblock.{is_timer_of, without_timer}
 use Rattle.lwp_types.specs.declared.rows.TimerRow.{TimerRow}
-use Rattle.std.specs.List.{find, list_any}
-use Rattle.std.specs.Prelude.{Bool, List, None, Option, Some, [], max, ℕ, ◌++◌, ◌+◌, ◌∷◌}
+use Rattle.std.specs.List.{find, fold, list_any}
+use Rattle.std.specs.Prelude.{Bool, List, None, Option, Some, [], max, min, ℕ, ◌++◌, ◌+◌, ◌∷◌}
 
 -- all that is kept of the time
 pub record Clock : Type 0 where
@@ -17,6 +17,10 @@ pub record Clock : Type 0 where
 -- of the timers whose tick has come, the first to have been set
 abbrev pub first_due : List TimerRow → ℕ → Option TimerRow
 first_due timers now = find (is_due now) timers
+
+-- the tick at which the first of these timers falls due; without one, the greatest u64
+abbrev pub next_due : List TimerRow → ℕ
+next_due timers = fold (λ n row. min n row.due) 18446744073709551615 timers
 
 -- the timer that was found is gone
 abbrev pub without_found : Option TimerRow → List TimerRow → List TimerRow
@@ -40,6 +44,10 @@ after_reserve c n = record c { places = max c.places n }
 -- it has ticked once more
 abbrev pub after_tick : Clock → Clock
 after_tick c = record c { now = c.now + 1 }
+
+-- it has ticked so many times more
+abbrev pub after_pass : Clock → ℕ → Clock
+after_pass c n = record c { now = c.now + n }
 
 -- one timer more
 abbrev pub after_set : Clock → ℕ → ℕ → Clock

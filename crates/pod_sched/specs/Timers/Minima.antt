@@ -7,6 +7,11 @@ abbrev pub first_within : ℕ → List ℕ → Option ℕ
 first_within most [] = None
 first_within most (x ∷ xs) = if nat_le x most then Some 0 else option_map suc (first_within most xs)
 
+-- the least of these numbers, each of which a u64 can be
+abbrev pub least : List ℕ → ℕ
+least [] = 18446744073709551615
+least (x ∷ xs) = min x (least xs)
+
 -- a node's number
 abbrev pub node : List ℕ → ℕ → ℕ
 node nodes i = slice_index_or nodes i 0

@@ -1,6 +1,6 @@
 // The clock, and the threads that wait for it.
-ghost use Rattle.std.specs.Prelude.{◌≡◌, ◌<◌, ◌≤◌, false, length, option_map, IfOk, IsOk, OnOk, OnErr};
-ghost use Rattle.pod_sched.specs.Timers.Clock.{after_drop, after_pop, after_reserve, after_set, after_tick, first_clock, first_due, has_timer};
+ghost use Rattle.std.specs.Prelude.{◌≡◌, ◌<◌, ◌≤◌, ◌+◌, false, length, option_map, IfOk, IsOk, OnOk, OnErr};
+ghost use Rattle.pod_sched.specs.Timers.Clock.{after_drop, after_pass, after_pop, after_reserve, after_set, after_tick, first_clock, first_due, has_timer, next_due};
 
 use crate::timers::shelf::Shelf;
 use lwp_types::{NoMemory, Sequence, Tid, TimerRow};
@@ -99,6 +99,21 @@ impl Timers {
         ensures { self.new ≡ after_tick self.old }
     {
         self.now += 1;
+    }
+
+    /// The clock ticks so many times.
+    pub fn pass(&mut self, ticks: u64)
+        requires { self.old.now + ticks ≤ 4294967295 }
+        ensures { self.new ≡ after_pass self.old ticks }
+    {
+        self.now += ticks;
+    }
+
+    /// The tick at which the first timer falls due, or the greatest u64 where there is no timer. One look.
+    pub fn next_due(&self) -> u64
+        ensures { result ≡ next_due self.entry.now.timers }
+    {
+        self.shelf.next_due()
     }
 
     /// One timer more, the last.

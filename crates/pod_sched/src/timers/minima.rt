@@ -1,7 +1,7 @@
 // The least of many ticks, and the first of those that have come.
 ghost use Rattle.std.specs.Prelude.{[], Some, ◌≡◌, ◌-◌, ◌*◌, ◌^◌, ◌<◌, ◌≤◌, drop, length, replicate, slice_set, IfOk};
 ghost use Rattle.pod_sched.specs.Timers.Leaves.{never};
-ghost use Rattle.pod_sched.specs.Timers.Minima.{IsMended, first_within, leaf_under, node};
+ghost use Rattle.pod_sched.specs.Timers.Minima.{IsMended, first_within, leaf_under, least, node};
 
 use lists::cloned;
 use lwp_types::NoMemory;
@@ -177,6 +177,16 @@ impl Minima {
         ensures { self.new ≡ replicate (length self.old) never }
     {
         strip(&mut self.nodes);
+    }
+
+    /// The least of all ticks.
+    pub fn least(&self) -> u64
+        ensures { result ≡ least self.now }
+    {
+        if self.width == 0 {
+            return NEVER;
+        }
+        node(&self.nodes, 1)
     }
 
     /// The first leaf whose tick has come.

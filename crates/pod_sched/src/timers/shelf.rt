@@ -7,6 +7,7 @@ ghost use Rattle.lists.specs.ThreadIndex.{IsEmpty, width_of};
 ghost use Rattle.pod_sched.specs.Timers.Kept.{IsFiled};
 ghost use Rattle.pod_sched.specs.Timers.Leaves.{IsOnce, after_pack, after_take, bare, first_of, leaf_at, never, timer_leaf, with_leaf};
 ghost use Rattle.lists.specs.Living.{living};
+ghost use Rattle.pod_sched.specs.Timers.Clock.{next_due};
 
 use crate::timers::minima::{Minima, NEVER};
 use lists::{self, Index, cloned_exactly};
@@ -130,6 +131,13 @@ impl Shelf {
         ensures { result ≡ self.now.width }
     {
         self.dues.len()
+    }
+
+    /// The tick at which the first timer falls due. One look.
+    pub fn next_due(&self) -> u64
+        ensures { result ≡ next_due (living self.now.leaves) }
+    {
+        self.dues.least()
     }
 
     /// The first leaf whose tick has come.
