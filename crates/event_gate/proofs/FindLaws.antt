@@ -6,13 +6,13 @@ use Rattle.event_gate.specs.declared.gauge_rule.GaugeView.{GaugeView}
 use Rattle.event_gate.specs.Gauge.{tickets_of, total, Glimpse, FindsAreWhole}
 
 -- what one seat has is a part of what all have
-part : (f : GaugeView → ℕ) (views : List GaugeView) (i : ℕ) (v : GaugeView) → get_elem? views i ≡ some v → f v ≤ total f views
+pub part : (f : GaugeView → ℕ) (views : List GaugeView) (i : ℕ) (v : GaugeView) → get_elem? views i ≡ some v → f v ≤ total f views
 part f [] i v e = absurd (some-ne-none v (sym e))
 part f (x ∷ xs) zero v e = let same : f x ≡ f v = ap f (some-injective x v e) in omega arith
 part f (x ∷ xs) (suc i) v e = let r = part f xs i v e in omega arith
 
 -- and so is what two of them have
-two_parts : (f : GaugeView → ℕ) (views : List GaugeView) (i j : ℕ) (v w : GaugeView) → i ≢ j → get_elem? views i ≡ some v
+pub two_parts : (f : GaugeView → ℕ) (views : List GaugeView) (i j : ℕ) (v w : GaugeView) → i ≢ j → get_elem? views i ≡ some v
     → get_elem? views j ≡ some w → f v + f w ≤ total f views
 two_parts f [] i j v w n e d = absurd (some-ne-none v (sym e))
 two_parts f (x ∷ xs) zero zero v w n e d = absurd (n refl)

@@ -4,7 +4,7 @@ ghost use Rattle.std.specs.Arc.{arc_value};
 ghost use Rattle.crossbeam_queue.specs.SegTies.{IsSegPassOf};
 ghost use Rattle.event_gate.specs.Port.{poster, after_post, name_of, IsTicketed};
 ghost use Rattle.event_gate.specs.Gauge.{IsAtGauge, posting_seat};
-ghost use Rattle.event_gate.specs.Ends.{port_id, posting, posting_with};
+ghost use Rattle.event_gate.specs.Ends.{once_refused, port_id, posting, posting_with};
 
 use crate::gauge::{GaugeSeat, announce, withdraw};
 use crate::port::{Pass, Port};
@@ -21,8 +21,8 @@ pub struct PostRefused<'s> {
     pub line: Line<'s>,
 }
 
-/// The end of a port that one client posts to. Contracts see the client, the lines that it has posted, and how many posts it
-/// has announced and not taken back.
+/// The end of a port that one client posts to. Contracts see the client, the lines that it has posted, how many posts it has
+/// announced and not taken back, and how many were refused.
 pub struct Poster<'s> {
     client: u8,
     count: u32,
@@ -46,11 +46,11 @@ impl<'s> Drop for Poster<'s> {
 
 impl<'s> Model for Poster<'s> {
     ghost use Rattle.event_gate.specs.Ends.{Posting};
-    ghost use Rattle.std.specs.Prelude.{◌≡◌, []};
+    ghost use Rattle.std.specs.Prelude.{◌≡◌, ◌+◌, [], length};
     ghost use Rattle.std.specs.Arc.{arc_value};
     ghost use Rattle.crossbeam_queue.specs.SegTies.{IsSegPassOf};
     ghost use Rattle.event_gate.specs.Ends.{IsPostersView, port_id};
-    ghost use Rattle.event_gate.specs.Gauge.{IsAtGauge, at_work};
+    ghost use Rattle.event_gate.specs.Gauge.{IsAtGauge, at_work, posts_each};
 
     ghost Value = { Posting };
 
@@ -59,15 +59,18 @@ impl<'s> Model for Poster<'s> {
       client = s.client;
       posted = s.pass.me.view.client.posted;
       announced = s.seat.me.0.announced;
+      refused = s.seat.me.0.marks.refused;
     } };
 
     // The pass is of the port's queue, and its view is this client's poster's, of which the field holds the count. The
-    // seat is of the port's gauge, has announced what the view posted and carries nothing; and the view names this gauge.
+    // seat is of the port's gauge, has announced what the view posted and carries nothing, and has room for the rest; and the
+    // view names this gauge.
     ghost invariant = { λ s. IsSegPassOf (arc_value s.port).queue s.pass
         × IsPostersView s.pass.me.view.client s.client s.count
         × IsAtGauge (arc_value s.port).gauge.shared.table_id s.seat.table_id
-        × (s.seat.me ≡ (at_work s.client s.pass.me.view.client.posted, []))
-        × (s.pass.me.view.client.gauge.table ≡ s.seat.table_id) };
+        × (s.seat.me ≡ (at_work s.client s.pass.me.view.client.posted s.seat.me.0.marks, []))
+        × (s.pass.me.view.client.gauge.table ≡ s.seat.table_id)
+        × (s.seat.me.0.marks.room + length s.pass.me.view.client.posted ≡ posts_each) };
 }
 
 impl<'s> Poster<'s> {
@@ -108,13 +111,13 @@ impl<'s> Poster<'s> {
     }
 
     /// Announces the client's next post, and then posts its line. A line that was refused is not posted, and its announcement
-    /// is taken back.
+    /// is taken back. Nothing else counts as refused.
     pub fn post<R: Wait>(&mut self, rt: &R, line: Line<'s>) -> Result<(), PostRefused<'s>>
         requires client { line.client ≡ self.old.client }
         requires next { line.seq ≡ length self.old.posted }
         requires room { length self.old.posted < 4294967295 }
         ensures posted { OnOk result (self.new ≡ posting_with self.old line.entry) }
-        ensures refused { IfErr result (λ e. (e.line ≡ line.entry) × (self.new ≡ self.old)) }
+        ensures refused { IfErr result (λ e. (e.line ≡ line.entry) × (self.new ≡ once_refused self.old)) }
     {
         let ticket = announce(&self.port.gauge, &mut self.seat, &line);
         if let Err(sent) = push_announced(rt, &self.port, &mut self.pass, Sent { line, ticket }) {
@@ -189,6 +192,7 @@ impl<'s> Model for PostPass<'s> {
       client = s.client;
       posted = s.pass.me.view.client.posted;
       announced = s.seat.me.0.announced;
+      refused = s.seat.me.0.marks.refused;
     } };
 
     // The pass carries nothing, and its view is this client's poster's, of which the field holds the count. The seat has
@@ -196,5 +200,5 @@ impl<'s> Model for PostPass<'s> {
     ghost invariant = { λ s. (s.pass.me.hand ≡ None)
         × (s.pass.me.spare ≡ None)
         × IsPostersView s.pass.me.view.client s.client s.count
-        × (s.seat.me ≡ (at_work s.client s.pass.me.view.client.posted, [])) };
+        × (s.seat.me ≡ (at_work s.client s.pass.me.view.client.posted s.seat.me.0.marks, [])) };
 }

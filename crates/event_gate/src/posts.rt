@@ -27,6 +27,23 @@ impl PostGate for NoGate {
     fn before(&mut self, _client: u8, _seq: u32) {}
 }
 
+// PROVER: a gate as the loop below has it, which can ask it of no line but the one that the poster would post next. So it was asked
+// before that line was posted: afterwards it would be asked of another.
+pub(crate) trait Asks: Drop {
+    ghost asked: { Self → ℕ → ℕ → Self };
+
+    fn ask(&mut self, poster: &Poster)
+        ensures { self.new ≡ asked self.old poster.now.client (length poster.now.posted) };
+}
+
+impl<G: PostGate> Asks for G {
+    ghost asked = { λ gate client seq. G.asked gate client seq };
+
+    fn ask(&mut self, poster: &Poster) {
+        self.before(poster.client(), poster.count());
+    }
+}
+
 /// What a client has posted, and whether that is all of its lines.
 #[derive(Drop)]
 pub struct PostEnd<'s> {
@@ -35,7 +52,7 @@ pub struct PostEnd<'s> {
 }
 
 // Posts the texts in order, and says whether it posted all.
-fn post_texts<'s, G: PostGate, R: Wait>(
+fn post_texts<'s, G: Asks, R: Wait>(
     rt: &R,
     poster: &mut Poster<'s>,
     gate: &mut G,
@@ -55,7 +72,7 @@ fn post_texts<'s, G: PostGate, R: Wait>(
             seq,
             text: text.again(),
         };
-        gate.before(client, seq);
+        gate.ask(poster);
         let Ok(()) = poster.post(rt, line) else {
             return false;
         };
@@ -64,8 +81,8 @@ fn post_texts<'s, G: PostGate, R: Wait>(
     true
 }
 
-/// Posts the texts in order, with a ring of the bell after each, until a post is refused. Then the poster leaves. The gate was asked
-/// of exactly the lines posted, in order, and then of the one refused, if one was.
+/// Posts the texts in order, with a ring of the bell after each, until a post is refused. Then the poster leaves. Without a refusal
+/// all are posted. The gate was asked of exactly the lines posted, in order, and then of the one refused, if one was.
 pub fn post_all<'s, G: PostGate, R: Wait>(
     rt: &R,
     mut poster: Poster<'s>,

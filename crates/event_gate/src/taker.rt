@@ -184,6 +184,7 @@ fn next_line<'s, R: Wait>(
     requires gauge { IsAtGauge port.now.gauge.shared.table_id seat.old.table_id }
     requires view { pass.old.me.view.client.takes ≡ true }
     requires named { pass.old.me.view.client.gauge.table ≡ seat.old.table_id }
+    requires taker { seat.old.me.0.book.takes ≡ true }
     requires own { count ≡ seat.old.me.0.tickets % 2 ^ 64 }
     ensures queue { IsSegPassOf port.now.queue pass.new × (pass.new.web ≡ pass.old.web) }
     ensures gauge { seat.new.table_id ≡ seat.old.table_id }

@@ -18,7 +18,8 @@ split_seat-requires c =
       c.compare_exchange_with.ensures.0 ∙ c.requires.gauge.same,
       omega arith,
       enrolls _ _ (ap (λ (v : GaugeView). v.book.takes) aimed.0 ∙ c.requires.taker)
-          (ap (λ (v : GaugeView). is_noted v.book.next v.book.noted) aimed.0 ∙ c.requires.new),
+          (ap (λ (v : GaugeView). is_noted v.book.next v.book.noted) aimed.0 ∙ c.requires.new)
+          (let r = c.requires.room in let e = ap (λ (v : GaugeView). v.marks.room) aimed.0 in omega (arith, r, e)),
     )
 
 pub returns-clause-seat : goal.returns-clause-seat
