@@ -110,7 +110,7 @@ fn post_in<'s>(lane: &Lane<'s>, seat: &mut LaneEnd<'s>, client: u8, slot: usize,
     requires line { (line.client ≡ client) × (line.seq ≡ slot) }
     requires room { slot < seat.old.table_id.slots }
     ensures seat { (seat.new.table_id ≡ seat.old.table_id) × (seat.new.me.1 ≡ []) }
-    ensures view { seat.new.me.0 ≡ after_post seat.old.me.0 line.entry }
+    ensures view { seat.new.me.0 ≡ after_post seat.old.me.0 line.entry seat.new.me.0.stamp }
 {
     // PROVER: the load is a step of the rule, at which the poster takes the slot; what it loads is dropped.
     lane.shared.load::<Reserve>(seat, 0);
