@@ -5,9 +5,9 @@ use Rattle.event_gate.specs.Inlet.{Intake}
 use Rattle.event_gate.specs.Port.{is_noted}
 use Rattle.event_gate.specs.Shelves.{event_of}
 use Rattle.script_run.proofs.Served.{at_noted, clients_are, is_client}
-use Rattle.script_run.specs.Ends.{IsReady, of_port, posting_of}
+use Rattle.script_run.specs.Ends.{HasRoom, of_port, posting_of}
 use Rattle.script_run.specs.Inlets.{fresh, is_lane}
-use Rattle.script_run.specs.Opening.{AreOpen, AreSeated, HasSeat, HaveSeatsFrom, IsSeatAt}
+use Rattle.script_run.specs.Opening.{AreOpen, AreSeated, HasSeat, HaveSeatsFrom, IsSeatAt, room_of}
 use Rattle.script_run.specs.Served.{AreFor, clients_of, texts_of}
 use Rattle.script_run.specs.Ties.{AreTied, IsOut, IsWork}
 use Rattle.script_run.specs.declared.opening.Seat.{Seat}
@@ -61,21 +61,21 @@ noted_less b c (d ∷ done) other h = ⊎_elim
     (λ (n : d ≢ b). ap (λ t. t || is_noted b done) (ne_eqb d b n) ∙ noted_less b c done other (or_other d b (is_noted b (done ++ c ∷ [])) n h))
     (same_or d b)
 
-pub seat_none : (texts : List (List (List ℕ))) (index : ℕ) (place : List ℕ) (seats : List (Option Seat)) → AreSeated texts index place [] seats seats
-seat_none texts index place seats = record { size = refl; seated = λ c d h. absurd (true≢false (sym h)); kept = λ c d h. refl }
+pub seat_none : (rooms : List ℕ) (index : ℕ) (place : List ℕ) (seats : List (Option Seat)) → AreSeated rooms index place [] seats seats
+seat_none rooms index place seats = record { size = refl; seated = λ c d h. absurd (true≢false (sym h)); kept = λ c d h. refl }
 
 -- one client more gets its seat
-pub seat_more : (texts : List (List (List ℕ))) (index : ℕ) (place : List ℕ) (done : List ℕ) (c : ℕ) (old new : List (Option Seat)) (seat : Seat)
-    → AreSeated texts index place done old new → c < length new → seat.inlet ≡ index → IsReady place c (texts_of texts c) (posting_of seat.poster)
-    → AreSeated texts index place (done ++ c ∷ []) old (set new c (Some seat))
-seat_more texts index place done c old new seat h inside at ready = record {
+pub seat_more : (rooms : List ℕ) (index : ℕ) (place : List ℕ) (done : List ℕ) (c : ℕ) (old new : List (Option Seat)) (seat : Seat)
+    → AreSeated rooms index place done old new → c < length new → seat.inlet ≡ index → HasRoom place c (room_of rooms c) (posting_of seat.poster)
+    → AreSeated rooms index place (done ++ c ∷ []) old (set new c (Some seat))
+seat_more rooms index place done c old new seat h inside at ready = record {
   size = length-set new c (Some seat) ∙ h.size;
   seated = λ b d noted. ⊎_elim
       (λ (same : c ≡ b).
-      subst (λ (i : ℕ). IsSeatAt index place i (texts_of texts i) (slice_index_or (set new c (Some seat)) i d)) same
-      (subst (IsSeatAt index place c (texts_of texts c)) (sym (get_or-set_same new c (Some seat) d inside)) (at, ready)))
+      subst (λ (i : ℕ). IsSeatAt index place i (room_of rooms i) (slice_index_or (set new c (Some seat)) i d)) same
+      (subst (IsSeatAt index place c (room_of rooms c)) (sym (get_or-set_same new c (Some seat) d inside)) (at, ready)))
       (λ (other : c ≢ b).
-      subst (IsSeatAt index place b (texts_of texts b)) (sym (get_or-set_other new c b (Some seat) d (λ e. other (sym e))))
+      subst (IsSeatAt index place b (room_of rooms b)) (sym (get_or-set_other new c b (Some seat) d (λ e. other (sym e))))
       (h.seated b d (noted_less b c done other noted)))
       (same_or c b);
   kept = λ b d noted.
@@ -83,23 +83,27 @@ seat_more texts index place done c old new seat h inside at ready = record {
       get_or-set_other new c b (Some seat) d (λ e. r.1 (sym e)) ∙ h.kept b d r.0;
 }
 
+pub few_rooms : (rooms : List ℕ) (c : ℕ) → All (λ room. room ≤ 20000) rooms → room_of rooms c ≤ 20000
+few_rooms [] c few = omega arith
+few_rooms (room ∷ rooms) zero few = few 0 0 (omega arith)
+few_rooms (room ∷ rooms) (suc c) few = few_rooms rooms c (λ k d lt. few (suc k) d (omega (arith, lt)))
+
 -- how far the seats of a port's clients have come
-pub record IsSeating (texts : List (List (List ℕ))) (index : ℕ) (port : PortId) (clients : List ℕ) (rest : List Posting)
-    (old new : List (Option Seat)) : Type 0 where
+pub record IsSeating (rooms : List ℕ) (index : ℕ) (port : PortId) (clients : List ℕ) (rest : List Posting) (old new : List (Option Seat)) : Type 0 where
   pub done : List ℕ
   pub todo : List ℕ
   pub split : clients ≡ done ++ todo
   pub rest_is : rest ≡ map (posting port) todo
-  pub seats : AreSeated texts index (port_place port) done old new
+  pub seats : AreSeated rooms index (port_place port) done old new
 
-pub seating_begins : (texts : List (List (List ℕ))) (index : ℕ) (port : PortId) (clients : List ℕ) (rest : List Posting) (old : List (Option Seat))
-    → rest ≡ map (posting port) clients → IsSeating texts index port clients rest old old
-seating_begins texts index port clients rest old e = record {
+pub seating_begins : (rooms : List ℕ) (index : ℕ) (port : PortId) (clients : List ℕ) (rest : List Posting) (old : List (Option Seat))
+    → rest ≡ map (posting port) clients → IsSeating rooms index port clients rest old old
+seating_begins rooms index port clients rest old e = record {
   done = [];
   todo = clients;
   split = refl;
   rest_is = e;
-  seats = seat_none texts index (port_place port) old;
+  seats = seat_none rooms index (port_place port) old;
 }
 
 first_of : (p : Posting) (ps qs : List Posting) (q : Posting) → p ∷ ps ≡ q ∷ qs → p ≡ q
@@ -108,10 +112,9 @@ first_of p ps qs q e = ap (λ xs. slice_index_or xs 0 p) e
 rest_of : (p : Posting) (ps qs : List Posting) (q : Posting) → p ∷ ps ≡ q ∷ qs → ps ≡ qs
 rest_of p ps qs q e = ap (λ xs. drop 1 xs) e
 
-pub next_inside : (texts : List (List (List ℕ))) (index : ℕ) (port : PortId) (clients : List ℕ) (p : Posting) (rest : List Posting)
-    (old new : List (Option Seat))
-    → IsSeating texts index port clients (p ∷ rest) old new → All (λ c. c < length old) clients → p.client < length new
-next_inside texts index port clients p rest old new h low = by_todo h.todo h.split h.rest_is
+pub next_inside : (rooms : List ℕ) (index : ℕ) (port : PortId) (clients : List ℕ) (p : Posting) (rest : List Posting) (old new : List (Option Seat))
+    → IsSeating rooms index port clients (p ∷ rest) old new → All (λ c. c < length old) clients → p.client < length new
+next_inside rooms index port clients p rest old new h low = by_todo h.todo h.split h.rest_is
   where
     by_todo : (todo : List ℕ) → clients ≡ h.done ++ todo → p ∷ rest ≡ map (posting port) todo → p.client < length new
     by_todo [] split is = absurd (cc is)
@@ -124,39 +127,39 @@ next_inside texts index port clients p rest old new h low = by_todo h.todo h.spl
         let same = h.seats.size in
         omega (arith, l, here, who, same)
 
-pub seating_goes_on : (texts : List (List (List ℕ))) (index : ℕ) (port : PortId) (clients : List ℕ) (p : Posting) (rest : List Posting)
+pub seating_goes_on : (rooms : List ℕ) (index : ℕ) (port : PortId) (clients : List ℕ) (p : Posting) (rest : List Posting)
     (old new : List (Option Seat)) (seat : Seat)
-    → IsSeating texts index port clients (p ∷ rest) old new → p.client < length new → seat.inlet ≡ index → posting_of seat.poster ≡ of_port p
-    → ((c : ℕ) → length (texts_of texts c) ≤ 20000)
-    → IsSeating texts index port clients rest old (set new p.client (Some seat))
-seating_goes_on texts index port clients p rest old new seat h inside at end few = by_todo h.todo h.split h.rest_is
+    → IsSeating rooms index port clients (p ∷ rest) old new → p.client < length new → seat.inlet ≡ index → posting_of seat.poster ≡ of_port p
+    → ((c : ℕ) → room_of rooms c ≤ 20000)
+    → IsSeating rooms index port clients rest old (set new p.client (Some seat))
+seating_goes_on rooms index port clients p rest old new seat h inside at end few = by_todo h.todo h.split h.rest_is
   where
     by_todo : (todo : List ℕ) → clients ≡ h.done ++ todo → p ∷ rest ≡ map (posting port) todo
-        → IsSeating texts index port clients rest old (set new p.client (Some seat))
+        → IsSeating rooms index port clients rest old (set new p.client (Some seat))
     by_todo [] split is = absurd (cc is)
     by_todo (c ∷ cs) split is =
         let who : p ≡ posting port c = first_of p rest (map (posting port) cs) (posting port c) is in
         let client : p.client ≡ c = ap (λ (q : Posting). q.client) who in
         let ends : posting_of seat.poster ≡ of_port (posting port c) = end ∙ ap of_port who in
-        let ready : IsReady (port_place port) c (texts_of texts c) (posting_of seat.poster) =
-        subst (IsReady (port_place port) c (texts_of texts c)) (sym ends)
+        let ready : HasRoom (port_place port) c (room_of rooms c) (posting_of seat.poster) =
+        subst (HasRoom (port_place port) c (room_of rooms c)) (sym ends)
         (record { place_is = refl; client_is = refl; posted_is = refl; room = (let f = few c in omega (arith, f)) }) in
         record {
           done = h.done ++ c ∷ [];
           todo = cs;
           split = split ∙ sym (append_assoc h.done (c ∷ []) cs);
           rest_is = rest_of p rest (map (posting port) cs) (posting port c) is;
-          seats = subst (λ (i : ℕ). AreSeated texts index (port_place port) (h.done ++ c ∷ []) old (set new i (Some seat))) (sym client)
-              (seat_more texts index (port_place port) h.done c old new seat h.seats (omega (arith, inside, client)) at ready);
+          seats = subst (λ (i : ℕ). AreSeated rooms index (port_place port) (h.done ++ c ∷ []) old (set new i (Some seat))) (sym client)
+              (seat_more rooms index (port_place port) h.done c old new seat h.seats (omega (arith, inside, client)) at ready);
         }
 
-pub seating_ends : (texts : List (List (List ℕ))) (index : ℕ) (port : PortId) (clients : List ℕ) (rest : List Posting) (old new : List (Option Seat))
-    → IsSeating texts index port clients rest old new → length rest ≡ 0 → AreSeated texts index (port_place port) clients old new
-seating_ends texts index port clients rest old new h none = by_todo h.todo h.split (ap length h.rest_is)
+pub seating_ends : (rooms : List ℕ) (index : ℕ) (port : PortId) (clients : List ℕ) (rest : List Posting) (old new : List (Option Seat))
+    → IsSeating rooms index port clients rest old new → length rest ≡ 0 → AreSeated rooms index (port_place port) clients old new
+seating_ends rooms index port clients rest old new h none = by_todo h.todo h.split (ap length h.rest_is)
   where
     by_todo : (todo : List ℕ) → clients ≡ h.done ++ todo → length rest ≡ length (map (posting port) todo)
-        → AreSeated texts index (port_place port) clients old new
-    by_todo [] split is = subst (λ (cs : List ℕ). AreSeated texts index (port_place port) cs old new) (sym (split ∙ append-nil h.done)) h.seats
+        → AreSeated rooms index (port_place port) clients old new
+    by_todo [] split is = subst (λ (cs : List ℕ). AreSeated rooms index (port_place port) cs old new) (sym (split ∙ append-nil h.done)) h.seats
     by_todo (c ∷ cs) split is = absurd (omega (arith, none, is))
 
 -- ---- all inlets
@@ -173,9 +176,9 @@ no_client events e c other = ⊎_elim
     (λ (n : is_noted c (clients_of events e) ≡ false). n)
     (bool_cases (is_noted c (clients_of events e)))
 
-seat_kept : (events : List ℕ) (texts : List (List (List ℕ))) (inlets : List Intake) (t : Intake) (c : ℕ) (seat : Option Seat)
-    → HasSeat events texts inlets c seat → HasSeat events texts (inlets ++ t ∷ []) c seat
-seat_kept events texts inlets t c seat h =
+seat_kept : (events : List ℕ) (rooms : List ℕ) (inlets : List Intake) (t : Intake) (c : ℕ) (seat : Option Seat)
+    → HasSeat events rooms inlets c seat → HasSeat events rooms (inlets ++ t ∷ []) c seat
+seat_kept events rooms inlets t c seat h =
     let size : length (inlets ++ t ∷ []) ≡ length inlets + 1 = length-append inlets (t ∷ []) in
     let same : (d : Intake)
     → slice_index_or (inlets ++ t ∷ []) h.index d ≡ slice_index_or inlets h.index d = λ d. get_or_append_left inlets (t ∷ []) d h.index h.inside in
@@ -183,18 +186,18 @@ seat_kept events texts inlets t c seat h =
       index = h.index;
       inside = (let i = h.inside in omega (arith, size, i));
       event = λ d. ap (λ (u : Intake). u.event) (same d) ∙ h.event d;
-      at = λ d. subst (λ (u : Intake). IsSeatAt h.index u.place c (texts_of texts c) seat) (sym (same d)) (h.at d);
+      at = λ d. subst (λ (u : Intake). IsSeatAt h.index u.place c (room_of rooms c) seat) (sym (same d)) (h.at d);
     }
 
 -- a lane exactly where there is one client
 abbrev IsFitting : Intake → Type 0
 IsFitting t = is_lane t.place ≡ eqb (length t.noted) 1
 
-pub open_more : (events : List ℕ) (texts : List (List (List ℕ))) (e : ℕ) (inlets : List Intake) (t : Intake) (old new : List (Option Seat))
-    → AreOpen events texts e inlets old → t ≡ fresh t.place e (clients_of events e) → is_lane t.place ≡ eqb (length (clients_of events e)) 1
-    → AreSeated texts (length inlets) t.place (clients_of events e) old new
-    → AreOpen events texts (e + 1) (inlets ++ t ∷ []) new
-open_more events texts e inlets t old new h is lane seats =
+pub open_more : (events : List ℕ) (rooms : List ℕ) (e : ℕ) (inlets : List Intake) (t : Intake) (old new : List (Option Seat))
+    → AreOpen events rooms e inlets old → t ≡ fresh t.place e (clients_of events e) → is_lane t.place ≡ eqb (length (clients_of events e)) 1
+    → AreSeated rooms (length inlets) t.place (clients_of events e) old new
+    → AreOpen events rooms (e + 1) (inlets ++ t ∷ []) new
+open_more events rooms e inlets t old new h is lane seats =
     let size : length (inlets ++ t ∷ []) ≡ length inlets + 1 = length-append inlets (t ∷ []) in
     let event : t.event ≡ e = ap (λ (u : Intake). u.event) is in
     let last : (d : Intake) → slice_index_or (inlets ++ t ∷ []) (length inlets) d ≡ t = λ d. get_or-append_seam inlets t [] d in
@@ -248,18 +251,18 @@ open_more events texts e inlets t old new h is lane seats =
             index = length inlets;
             inside = omega (arith, size);
             event = λ u. ap (λ (v : Intake). v.event) (last u) ∙ event ∙ sym it;
-            at = λ u. subst (λ (v : Intake). IsSeatAt (length inlets) v.place c (texts_of texts c) (slice_index_or new c d)) (sym (last u))
+            at = λ u. subst (λ (v : Intake). IsSeatAt (length inlets) v.place c (room_of rooms c) (slice_index_or new c d)) (sym (last u))
                 (seats.seated c d (is_client events e c low it));
           })
           (λ (other : event_of events c ≢ e).
-          seat_kept events texts inlets t c (slice_index_or new c d)
-          (subst (HasSeat events texts inlets c) (sym (seats.kept c d (no_client events e c other))) (h.seated c d low (omega (arith, small, other)))))
+          seat_kept events rooms inlets t c (slice_index_or new c d)
+          (subst (HasSeat events rooms inlets c) (sym (seats.kept c d (no_client events e c other))) (h.seated c d low (omega (arith, small, other)))))
           (same_or (event_of events c) e);
     }
 
 -- before the first event nothing is open
-pub open_none : (events : List ℕ) (texts : List (List (List ℕ))) (seats : List (Option Seat)) → length seats ≡ length events → AreOpen events texts 0 [] seats
-open_none events texts seats size = record {
+pub open_none : (events : List ℕ) (rooms : List ℕ) (seats : List (Option Seat)) → length seats ≡ length events → AreOpen events rooms 0 [] seats
+open_none events rooms seats size = record {
   low = λ k d lt. absurd (omega (arith, lt));
   rise = λ i j d low high. absurd (omega (arith, high));
   new = λ k d lt. absurd (omega (arith, lt));
@@ -268,9 +271,9 @@ open_none events texts seats size = record {
   seated = λ c d low small. absurd (omega (arith, small));
 }
 
-pub open_nothing : (events : List ℕ) (texts : List (List (List ℕ))) (e : ℕ) (inlets : List Intake) (seats : List (Option Seat))
-    → AreOpen events texts e inlets seats → clients_of events e ≡ [] → AreOpen events texts (e + 1) inlets seats
-open_nothing events texts e inlets seats h none = record {
+pub open_nothing : (events : List ℕ) (rooms : List ℕ) (e : ℕ) (inlets : List Intake) (seats : List (Option Seat))
+    → AreOpen events rooms e inlets seats → clients_of events e ≡ [] → AreOpen events rooms (e + 1) inlets seats
+open_nothing events rooms e inlets seats h none = record {
   low = λ k d lt. let l = h.low k d lt in omega (arith, l);
   rise = h.rise;
   new = h.new;
@@ -283,9 +286,9 @@ open_nothing events texts e inlets seats h none = record {
 }
 
 -- then each event that has a client has its inlet
-pub open_for : (events : List ℕ) (texts : List (List (List ℕ))) (inlets : List Intake) (seats : List (Option Seat))
-    → AreOpen events texts 32 inlets seats → All (λ e. e ≤ 31) events → AreFor events inlets
-open_for events texts inlets seats h sound = record {
+pub open_for : (events : List ℕ) (rooms : List ℕ) (inlets : List Intake) (seats : List (Option Seat))
+    → AreOpen events rooms 32 inlets seats → All (λ e. e ≤ 31) events → AreFor events inlets
+open_for events rooms inlets seats h sound = record {
   rise = ((λ k d lt. let l = h.low k d lt in omega (arith, l)), h.rise);
   clients = λ k d lt. ap (λ (t : Intake). t.noted) (h.new k d lt);
   found = λ k d lt.
@@ -298,38 +301,37 @@ open_for events texts inlets seats h sound = record {
 
 -- ---- the threads
 
-pub all_seats : (events : List ℕ) (texts : List (List (List ℕ))) (inlets : List Intake) (seats rest : List (Option Seat)) (n : ℕ)
-    → AreOpen events texts 32 inlets seats → All (λ e. e ≤ 31) events → rest ≡ seats → n ≡ 0 → HaveSeatsFrom events texts inlets n rest
-all_seats events texts inlets seats rest n h sound same none = λ k d lt.
+pub all_seats : (events : List ℕ) (rooms : List ℕ) (inlets : List Intake) (seats rest : List (Option Seat)) (n : ℕ)
+    → AreOpen events rooms 32 inlets seats → All (λ e. e ≤ 31) events → rest ≡ seats → n ≡ 0 → HaveSeatsFrom events rooms inlets n rest
+all_seats events rooms inlets seats rest n h sound same none = λ k d lt.
     let there : k < length events = (let size = ap length same in let as_many = h.size in omega (arith, size, as_many, lt)) in
     let low = sound k 0 there in
-    subst (λ (c : ℕ). HasSeat events texts inlets c (slice_index_or rest k d)) (let e : k ≡ n + k = omega (arith, none) in e)
-    (subst (λ (xs : List (Option Seat)). HasSeat events texts inlets k (slice_index_or xs k d)) (sym same) (h.seated k d there (omega (arith, low))))
+    subst (λ (c : ℕ). HasSeat events rooms inlets c (slice_index_or rest k d)) (let e : k ≡ n + k = omega (arith, none) in e)
+    (subst (λ (xs : List (Option Seat)). HasSeat events rooms inlets k (slice_index_or xs k d)) (sym same) (h.seated k d there (omega (arith, low))))
 
-pub first_seat : (events : List ℕ) (texts : List (List (List ℕ))) (inlets : List Intake) (n : ℕ) (s : Option Seat) (rest : List (Option Seat))
-    → HaveSeatsFrom events texts inlets n (s ∷ rest) → HasSeat events texts inlets n s
-first_seat events texts inlets n s rest h = subst (λ (c : ℕ). HasSeat events texts inlets c s) (let e : n + 0 ≡ n = omega arith in e) (h 0 s (omega arith))
+pub first_seat : (events : List ℕ) (rooms : List ℕ) (inlets : List Intake) (n : ℕ) (s : Option Seat) (rest : List (Option Seat))
+    → HaveSeatsFrom events rooms inlets n (s ∷ rest) → HasSeat events rooms inlets n s
+first_seat events rooms inlets n s rest h = subst (λ (c : ℕ). HasSeat events rooms inlets c s) (let e : n + 0 ≡ n = omega arith in e) (h 0 s (omega arith))
 
-pub later_seats : (events : List ℕ) (texts : List (List (List ℕ))) (inlets : List Intake) (n m : ℕ) (s : Option Seat) (rest : List (Option Seat))
-    → m ≡ n + 1 → HaveSeatsFrom events texts inlets n (s ∷ rest) → HaveSeatsFrom events texts inlets m rest
-later_seats events texts inlets n m s rest more h = λ k d lt. subst (λ (c : ℕ). HasSeat events texts inlets c (slice_index_or rest k d))
+pub later_seats : (events : List ℕ) (rooms : List ℕ) (inlets : List Intake) (n m : ℕ) (s : Option Seat) (rest : List (Option Seat))
+    → m ≡ n + 1 → HaveSeatsFrom events rooms inlets n (s ∷ rest) → HaveSeatsFrom events rooms inlets m rest
+later_seats events rooms inlets n m s rest more h = λ k d lt. subst (λ (c : ℕ). HasSeat events rooms inlets c (slice_index_or rest k d))
     (let e : n + suc k ≡ m + k = omega (arith, more) in e) (h (suc k) d (omega (arith, lt)))
 
-pub no_vacant : (events : List ℕ) (texts : List (List (List ℕ))) (inlets : List Intake) (c : ℕ) → HasSeat events texts inlets c None → ⊥
-no_vacant events texts inlets c h = h.at (record { place = []; event = 0; taken = []; finds = 0; noted = []; known = [] })
+pub no_vacant : (events : List ℕ) (rooms : List ℕ) (inlets : List Intake) (c : ℕ) → HasSeat events rooms inlets c None → ⊥
+no_vacant events rooms inlets c h = h.at (record { place = []; event = 0; taken = []; finds = 0; noted = []; known = [] })
 
-pub seat_ready : (events : List ℕ) (texts : List (List (List ℕ))) (inlets : List Intake) (c : ℕ) (seat : Seat)
-    → HasSeat events texts inlets c (Some seat)
-    → IsReady (posting_of seat.poster).place (posting_of seat.poster).client (texts_of texts c) (posting_of seat.poster)
-seat_ready events texts inlets c seat h =
+pub seat_ready : (events : List ℕ) (rooms : List ℕ) (inlets : List Intake) (c : ℕ) (seat : Seat) → HasSeat events rooms inlets c (Some seat)
+    → HasRoom (posting_of seat.poster).place (posting_of seat.poster).client (room_of rooms c) (posting_of seat.poster)
+seat_ready events rooms inlets c seat h =
     let r = (h.at (record { place = []; event = 0; taken = []; finds = 0; noted = []; known = [] })).1 in
     record { place_is = refl; client_is = refl; posted_is = r.posted_is; room = r.room }
 
-pub out_of_seat : (events : List ℕ) (texts : List (List (List ℕ))) (inlets : List Intake) (c : ℕ) (seat : Seat) (client : Client)
-    → HasSeat events texts inlets c (Some seat) → client.inlet ≡ seat.inlet
+pub out_of_seat : (events rooms : List ℕ) (texts : List (List (List ℕ))) (inlets : List Intake) (c : ℕ) (seat : Seat) (client : Client)
+    → HasSeat events rooms inlets c (Some seat) → client.inlet ≡ seat.inlet
     → IsWork (posting_of seat.poster).place (posting_of seat.poster).client (texts_of texts c) client.work
     → IsOut events texts inlets c client
-out_of_seat events texts inlets c seat client h same work =
+out_of_seat events rooms texts inlets c seat client h same work =
     let at : (d : Intake) → client.inlet ≡ h.index = λ d. same ∙ (h.at d).0 in
     let none : Intake = record { place = []; event = 0; taken = []; finds = 0; noted = []; known = [] } in
     let here : client.inlet ≡ h.index = at none in

@@ -9,7 +9,7 @@ use Rattle.script_run.specs.declared.poster.AnyEnd.{AnyEnd}
 use Rattle.script_run.specs.declared.poster.AnyPass.{AnyPass}
 use Rattle.script_run.specs.declared.poster.AnyPoster.{AnyPoster}
 use Rattle.lwp_types.specs.declared.call.Line.{Line}
-use Rattle.std.specs.Prelude.{List, [], cond, eqb, false, length, take, true, ℕ, ◌+◌, ◌<◌, ◌≡◌, ◌≤◌}
+use Rattle.std.specs.Prelude.{List, [], ◌++◌, ◌∷◌, cond, eqb, false, length, take, true, ℕ, ◌+◌, ◌<◌, ◌≡◌, ◌≤◌}
 use Rattle.script_run.specs.declared.poster.AnyPass.TheVariants as passes
 use Rattle.script_run.specs.declared.poster.AnyPoster.TheVariants as posters
 
@@ -38,12 +38,20 @@ abbrev pub pass_posting : AnyPass → AnyPosting
 pass_posting (passes.Lane p) = of_lane p
 pass_posting (passes.Port p) = of_port p
 
--- the end of this inlet and client has posted nothing, and can post these texts
-pub record IsReady (place : List ℕ) (client : ℕ) (texts : List (List ℕ)) (p : AnyPosting) : Type 0 where
+-- the end of this inlet and client has posted nothing, and can post so many lines
+pub record HasRoom (place : List ℕ) (client lines : ℕ) (p : AnyPosting) : Type 0 where
   pub place_is : p.place ≡ place
   pub client_is : p.client ≡ client
   pub posted_is : p.posted ≡ []
-  pub room : length texts ≤ p.room
+  pub room : lines ≤ p.room
+
+-- it can post these texts
+abbrev pub IsReady : List ℕ → ℕ → List (List ℕ) → AnyPosting → Type 0
+IsReady place client texts p = HasRoom place client (length texts) p
+
+-- a client's line is posted
+abbrev pub with_post : AnyPosting → Line → AnyPosting
+with_post p line = record p { posted = p.posted ++ line ∷ [] }
 
 -- the client of this inlet has posted the first of these texts: all of them where it says so, and else fewer; on a lane
 -- it says so

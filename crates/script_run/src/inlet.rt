@@ -29,7 +29,7 @@ impl<'s> AnyInlet<'s> {
     ghost use Rattle.std.specs.Prelude.{true, ◌≡◌};
 
     /// Takes in what a client has posted in all.
-    pub(crate) fn take_in(&mut self, pass: AnyPass<'s>)
+    pub fn take_in(&mut self, pass: AnyPass<'s>)
         requires place { (pass_posting pass).place ≡ (any_intake self.old).place }
         requires client { is_noted (pass_posting pass).client (any_intake self.old).noted ≡ true }
         ensures { IsTakenIn (any_intake self.old) (pass_posting pass.entry) (any_intake self.new) }

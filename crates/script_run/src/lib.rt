@@ -12,7 +12,8 @@
 //! inlets in any order; what ties them to the threads is then kept (`specs/Ties.antt`). `Outside::close` joins the threads and takes
 //! in their passes, and from then on it is known of each client that the lines taken are the first of those it posted, in order, and
 //! which are left (`specs/Served.antt`). Where a thread can't be started, its client's lines are posted before `Outside::start`
-//! returns. A thread runs a `Job`, of which its start and its end know nothing but what may come of it.
+//! returns. A thread runs a `Job`, of which its start and its end know nothing but what may come of it. `open_all` opens the inlets
+//! alone, by how many lines each client may post, and starts no thread; each client's end is then an `AnyPoster`.
 //!
 //! The crate stands on the readings and ends of `script_session`, the live runs of `pod_runner`, and on the ports of `event_gate` and
 //! the lanes of `lanes`.
@@ -34,4 +35,6 @@ pub use inlet::AnyInlet;
 pub use job::{Job, join, start};
 pub use laws::{closed_are_served, draws_keep_ties};
 pub use live::{LiveSession, run_main};
+pub use opening::{Opened, Seat, open_all};
 pub use outside::{AllPosted, Outside};
+pub use poster::{AnyEnd, AnyPass, AnyPoster};

@@ -9,7 +9,7 @@ use crate::inlet::{AnyInlet, RunnerEnd};
 use crate::poster::AnyPoster;
 use event_gate::open_port;
 use lanes::open_lane;
-use lwp_types::{NoMemory, Text};
+use lwp_types::NoMemory;
 use std::alloc::Global;
 use std::sync::Wait;
 
@@ -18,16 +18,16 @@ const EVENTS: u8 = 32;
 
 /// A client's end, and the place of its inlet.
 #[derive(Drop)]
-pub(crate) struct Seat<'s> {
-    pub(crate) inlet: usize,
-    pub(crate) poster: AnyPoster<'s>,
+pub struct Seat<'s> {
+    pub inlet: usize,
+    pub poster: AnyPoster<'s>,
 }
 
 /// All inlets, and of each client its seat.
 #[derive(Drop)]
-pub(crate) struct Opened<'s> {
-    pub(crate) inlets: Vec<AnyInlet<'s>>,
-    pub(crate) seats: Vec<Option<Seat<'s>>>,
+pub struct Opened<'s> {
+    pub inlets: Vec<AnyInlet<'s>>,
+    pub seats: Vec<Option<Seat<'s>>>,
 }
 
 // The clients that post to an event, in order.
@@ -56,21 +56,21 @@ fn open_for_one<'s>(
     alloc: Global,
     event: u8,
     client: u8,
-    texts: &[Vec<Text<'s>>],
+    rooms: &[u32],
     index: usize,
     seats: &mut Vec<Option<Seat<'s>>>,
 ) -> Result<AnyInlet<'s>, NoMemory>
-    requires texts { client < length texts.now }
-    requires few { All (λ ts. length ts.items ≤ 20000) texts.now }
+    requires rooms { client < length rooms.now }
+    requires few { All (λ room. room ≤ 20000) rooms.now }
     requires seats { client < vec_len seats.old }
     ensures inlet { IfOk result (λ r. any_intake r ≡ fresh (any_intake r).place event (client ∷ [])) }
     ensures lane { IfOk result (λ r. is_lane (any_intake r).place ≡ true) }
     ensures seats { IfOk result
         (λ r.
-        AreSeated (map (λ v. v.items) texts.now) index (any_intake r).place (client ∷ [])
+        AreSeated rooms.now index (any_intake r).place (client ∷ [])
         seats.old.items seats.new.items) }
 {
-    let lines = texts[usize::from(client)].len() as u32;
+    let lines = rooms[usize::from(client)];
     let (lane, poster) = open_lane(alloc, event, client, lines)?;
     let poster = AnyPoster::Lane(poster);
     let seat = Seat {
@@ -89,18 +89,18 @@ fn open_for_many<'s, R: Wait>(
     alloc: Global,
     event: u8,
     clients: &[u8],
-    texts: &[Vec<Text<'s>>],
+    rooms: &[u32],
     index: usize,
     seats: &mut Vec<Option<Seat<'s>>>,
 ) -> Result<AnyInlet<'s>, NoMemory>
     requires distinct { AllPairs (λ a b. a ≢ b) clients.now }
-    requires few { All (λ ts. length ts.items ≤ 20000) texts.now }
+    requires few { All (λ room. room ≤ 20000) rooms.now }
     requires seats { All (λ c. c < vec_len seats.old) clients.now }
     ensures inlet { IfOk result (λ r. any_intake r ≡ fresh (any_intake r).place event clients.now) }
     ensures port { IfOk result (λ r. is_lane (any_intake r).place ≡ false) }
     ensures seats { IfOk result
         (λ r.
-        AreSeated (map (λ v. v.items) texts.now) index (any_intake r).place clients.now
+        AreSeated rooms.now index (any_intake r).place clients.now
         seats.old.items seats.new.items) }
 {
     let (port, posters) = open_port(rt, alloc, event, clients)?;
@@ -134,25 +134,25 @@ fn open_inlet<'s, R: Wait>(
     alloc: Global,
     event: u8,
     clients: &[u8],
-    texts: &[Vec<Text<'s>>],
+    rooms: &[u32],
     index: usize,
     seats: &mut Vec<Option<Seat<'s>>>,
 ) -> Result<AnyInlet<'s>, NoMemory>
     requires distinct { AllPairs (λ a b. a ≢ b) clients.now }
-    requires texts { All (λ c. c < length texts.now) clients.now }
-    requires few { All (λ ts. length ts.items ≤ 20000) texts.now }
-    requires seats { vec_len seats.old ≡ length texts.now }
+    requires rooms { All (λ c. c < length rooms.now) clients.now }
+    requires few { All (λ room. room ≤ 20000) rooms.now }
+    requires seats { vec_len seats.old ≡ length rooms.now }
     ensures inlet { IfOk result (λ r. any_intake r ≡ fresh (any_intake r).place event clients.now) }
     ensures lane { IfOk result (λ r. is_lane (any_intake r).place ≡ eqb (length clients.now) 1) }
     ensures seats { IfOk result
         (λ r.
-        AreSeated (map (λ v. v.items) texts.now) index (any_intake r).place clients.now
+        AreSeated rooms.now index (any_intake r).place clients.now
         seats.old.items seats.new.items) }
 {
     if let Some(client) = sole_client(clients) {
-        open_for_one(alloc, event, client, texts, index, seats)
+        open_for_one(alloc, event, client, rooms, index, seats)
     } else {
-        open_for_many(rt, alloc, event, clients, texts, index, seats)
+        open_for_many(rt, alloc, event, clients, rooms, index, seats)
     }
 }
 
@@ -173,49 +173,49 @@ fn open_event<'s, R: Wait>(
     alloc: Global,
     event: u8,
     events: &[u8],
-    texts: &[Vec<Text<'s>>],
+    rooms: &[u32],
     inlets: &mut Vec<AnyInlet<'s>>,
     seats: &mut Vec<Option<Seat<'s>>>,
 ) -> Result<(), NoMemory>
     requires event { event < 32 }
     requires clients { length events.now ≤ 16 }
-    requires texts { length texts.now ≡ length events.now }
-    requires few { All (λ ts. length ts.items ≤ 20000) texts.now }
-    requires before { AreOpen events.now (map (λ v. v.items) texts.now) event
+    requires rooms { length rooms.now ≡ length events.now }
+    requires few { All (λ room. room ≤ 20000) rooms.now }
+    requires before { AreOpen events.now rooms.now event
         (map any_intake inlets.old.items) seats.old.items }
     ensures { OnOk result
-        (AreOpen events.now (map (λ v. v.items) texts.now) (event + 1)
+        (AreOpen events.now rooms.now (event + 1)
         (map any_intake inlets.new.items) seats.new.items) }
 {
     let clients = clients_of(alloc, events, event)?;
     if clients.is_empty() {
         return Ok(());
     }
-    let inlet = open_inlet(rt, alloc, event, &clients, texts, inlets.len(), seats)?;
+    let inlet = open_inlet(rt, alloc, event, &clients, rooms, inlets.len(), seats)?;
     inlets.push(inlet)?;
     Ok(())
 }
 
-/// An inlet for each event that has a client, and a seat for each client.
-pub(crate) fn open_all<'s, R: Wait>(
+/// An inlet for each event that has a client, and a seat for each client, which can post as many lines as its room says.
+pub fn open_all<'s, R: Wait>(
     rt: &R,
     alloc: Global,
     events: &[u8],
-    texts: &[Vec<Text<'s>>],
+    rooms: &[u32],
 ) -> Result<Opened<'s>, NoMemory>
     requires clients { length events.now ≤ 16 }
     requires events { All (λ e. e ≤ 31) events.now }
-    requires texts { length texts.now ≡ length events.now }
-    requires few { All (λ ts. length ts.items ≤ 20000) texts.now }
+    requires rooms { length rooms.now ≡ length events.now }
+    requires few { All (λ room. room ≤ 20000) rooms.now }
     ensures { IfOk result
         (λ o.
-        AreOpen events.now (map (λ v. v.items) texts.now) 32 (map any_intake o.inlets.items)
+        AreOpen events.now rooms.now 32 (map any_intake o.inlets.items)
         o.seats.items) }
 {
     let mut inlets = Vec::new(alloc);
     let mut seats = vacant_seats(alloc, events.len())?;
     for event in 0..EVENTS {
-        open_event(rt, alloc, event, events, texts, &mut inlets, &mut seats)?;
+        open_event(rt, alloc, event, events, rooms, &mut inlets, &mut seats)?;
     }
     Ok(Opened { inlets, seats })
 }

@@ -2,7 +2,7 @@
 ghost use Rattle.script_run.specs.Ends.{IsEnd, IsReady, posting_of};
 ghost use Rattle.script_run.specs.Served.{lines_in_all};
 ghost use Rattle.script_run.specs.Ties.{IsWork};
-ghost use Rattle.std.specs.Prelude.{All, length, map, ◌≡◌, ◌≤◌};
+ghost use Rattle.std.specs.Prelude.{All, IfOk, length, map, ◌≡◌, ◌≤◌};
 
 use crate::inlet::AnyInlet;
 use crate::job::{Job, join, start};
@@ -172,6 +172,18 @@ fn lines_in_all(texts: &[Vec<Text>]) -> u32
     lines
 }
 
+// How many texts each client has.
+fn rooms_of(alloc: Global, texts: &[Vec<Text>]) -> Result<Vec<u32>, NoMemory>
+    requires few { All (λ ts. length ts.items ≤ 20000) texts.now }
+    ensures { IfOk result (λ rooms. rooms.items ≡ map (λ v. length v.items) texts.now) }
+{
+    let mut rooms = Vec::new(alloc);
+    for client in 0..texts.len() {
+        rooms.push(texts[client].len() as u32)?;
+    }
+    Ok(rooms)
+}
+
 /// The inlets of a pod, and the threads that post to them.
 pub struct Outside<'s> {
     /// One of each event that has a client, by rising event.
@@ -226,7 +238,8 @@ impl<'s> Outside<'s> {
         ensures texts { IfOk result (λ o. all_texts o ≡ map (λ v. v.items) texts.now) }
         ensures fresh { IfOk result (λ o. All (λ t. t ≡ fresh t.place t.event t.noted) (intakes o)) }
     {
-        let Opened { inlets, seats } = open_all(rt, alloc, events, texts)?;
+        let rooms = rooms_of(alloc, texts)?;
+        let Opened { inlets, seats } = open_all(rt, alloc, events, &rooms)?;
         let mut out = Vec::with_capacity(alloc, events.len())?;
         let mut gates = gates.into_iter();
         for seat in seats {

@@ -11,23 +11,21 @@ use Rattle.std.proofs.lemmas.List.{length-map, map-append, nil_from_length}
 
 pub returns-then-is_empty : goal.returns-then-is_empty
 returns-then-is_empty g c =
-    let texts : List (List (List ℕ)) = map (λ v. v.items) c.args.texts.now in
     let size : length c.in_ok-clients.clients.items ≡ 0 = search rules in
-    open_nothing c.args.events.now texts c.args.event (map any_intake c.args.inlets.now.items) c.args.seats.now.items c.requires.before
-    (sym c.in_ok-clients.ensures ∙ nil_from_length c.in_ok-clients.clients.items size)
+    open_nothing c.args.events.now c.args.rooms.now c.args.event (map any_intake c.args.inlets.now.items) c.args.seats.now.items
+    c.requires.before (sym c.in_ok-clients.ensures ∙ nil_from_length c.in_ok-clients.clients.items size)
 
 pub open_inlet-requires-clause-distinct : goal.open_inlet-requires-clause-distinct
 open_inlet-requires-clause-distinct g c =
     subst (AllPairs (λ a b. a ≢ b)) (sym (c.deref.ensures.value ∙ c.in_ok-clients.ensures)) (all_apart c.args.events.now c.args.event)
 
-pub open_inlet-requires-clause-texts : goal.open_inlet-requires-clause-texts
-open_inlet-requires-clause-texts g c =
-    subst (All (λ b. b < length c.args.texts.now)) (sym (c.deref.ensures.value ∙ c.in_ok-clients.ensures))
-    (λ k d lt. let w = (clients_are c.args.events.now c.args.event k d lt).0 in let s = c.requires.texts in omega (arith, w, s))
+pub open_inlet-requires-clause-rooms : goal.open_inlet-requires-clause-rooms
+open_inlet-requires-clause-rooms g c =
+    subst (All (λ b. b < length c.args.rooms.now)) (sym (c.deref.ensures.value ∙ c.in_ok-clients.ensures))
+    (λ k d lt. let w = (clients_are c.args.events.now c.args.event k d lt).0 in let s = c.requires.rooms in omega (arith, w, s))
 
 pub returns : goal.returns
 returns g c =
-    let texts : List (List (List ℕ)) = map (λ v. v.items) c.args.texts.now in
     let before : List Intake = map any_intake c.args.inlets.now.items in
     let t : Intake = any_intake c.in_ok-inlet.inlet in
     let clients : c.deref.result.now ≡ clients_of c.args.events.now c.args.event = c.deref.ensures.value ∙ c.in_ok-clients.ensures in
@@ -38,10 +36,12 @@ returns g c =
     let is : t
     ≡ fresh t.place c.args.event (clients_of c.args.events.now c.args.event) = c.in_ok-inlet.ensures.inlet ∙ ap (fresh t.place c.args.event) clients in
     let lane = c.in_ok-inlet.ensures.lane ∙ ap (λ (cs : List ℕ). eqb (length cs) 1) clients in
-    let seats : AreSeated texts (length before) t.place (clients_of c.args.events.now c.args.event) c.args.seats.now.items c.open_inlet.new.seats.items =
-    subst (λ (i : ℕ). AreSeated texts i t.place (clients_of c.args.events.now c.args.event) c.args.seats.now.items c.open_inlet.new.seats.items) index
-    (subst (λ (cs : List ℕ). AreSeated texts c.len.result t.place cs c.args.seats.now.items c.open_inlet.new.seats.items) clients
+    let seats : AreSeated c.args.rooms.now (length before) t.place (clients_of c.args.events.now c.args.event) c.args.seats.now.items
+    c.open_inlet.new.seats.items =
+    subst
+    (λ (i : ℕ). AreSeated c.args.rooms.now i t.place (clients_of c.args.events.now c.args.event) c.args.seats.now.items c.open_inlet.new.seats.items) index
+    (subst (λ (cs : List ℕ). AreSeated c.args.rooms.now c.len.result t.place cs c.args.seats.now.items c.open_inlet.new.seats.items) clients
     c.in_ok-inlet.ensures.seats) in
-    subst (λ (inlets : List Intake). AreOpen c.args.events.now texts (c.args.event + 1) inlets c.open_inlet.new.seats.items)
+    subst (λ (inlets : List Intake). AreOpen c.args.events.now c.args.rooms.now (c.args.event + 1) inlets c.open_inlet.new.seats.items)
     (sym (ap (map any_intake) c.in_ok-push.ensures.items ∙ map-append any_intake c.args.inlets.now.items (c.in_ok-inlet.inlet ∷ [])))
-    (open_more c.args.events.now texts c.args.event before t c.args.seats.now.items c.open_inlet.new.seats.items c.requires.before is lane seats)
+    (open_more c.args.events.now c.args.rooms.now c.args.event before t c.args.seats.now.items c.open_inlet.new.seats.items c.requires.before is lane seats)

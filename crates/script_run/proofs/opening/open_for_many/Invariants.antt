@@ -6,4 +6,4 @@ abbrev pub invariant-loop-poster : goal.invariant-loop-poster
 invariant-loop-poster g l =
     (goal.iterator-loop-poster g).can_next l.poster-iterator
     × (goal.iterator-loop-poster g).is_finite l.poster-iterator
-    × IsSeating (map (λ v. v.items) l.fn.texts) l.fn.index l.port.port l.fn.clients l.poster-iterator.rest.items l.fn.seats.items l.seats.items
+    × IsSeating l.fn.rooms l.fn.index l.port.port l.fn.clients l.poster-iterator.rest.items l.fn.seats.items l.seats.items

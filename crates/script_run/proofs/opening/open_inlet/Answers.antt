@@ -3,21 +3,21 @@ use Rattle.script_run.specs.Inlets.{is_lane}
 use Rattle.script_run.specs.Ties.{any_intake}
 use Rattle.std.proofs.Common.{All, Bool, IfOk, arith, length, ne_eqb, subst, sym, ◌<◌, ◌≡◌}
 
-pub open_for_one-requires-clause-texts : goal.open_for_one-requires-clause-texts
-open_for_one-requires-clause-texts g c = subst (All (λ b. b < length c.args.texts.now)) c.in-Some.ensures c.requires.texts 0 0 (omega arith)
+pub open_for_one-requires-clause-rooms : goal.open_for_one-requires-clause-rooms
+open_for_one-requires-clause-rooms g c = subst (All (λ b. b < length c.args.rooms.now)) c.in-Some.ensures c.requires.rooms 0 0 (omega arith)
 
 pub open_for_one-requires-clause-seats : goal.open_for_one-requires-clause-seats
 open_for_one-requires-clause-seats g c =
-    let texts : c.in-Some.client
-    < length c.args.texts.now = subst (All (λ b. b < length c.args.texts.now)) c.in-Some.ensures c.requires.texts 0 0 (omega arith) in
+    let rooms : c.in-Some.client
+    < length c.args.rooms.now = subst (All (λ b. b < length c.args.rooms.now)) c.in-Some.ensures c.requires.rooms 0 0 (omega arith) in
     let seats = c.requires.seats in
-    omega (arith, texts, seats)
+    omega (arith, rooms, seats)
 
 pub open_for_many-requires-clause-seats : goal.open_for_many-requires-clause-seats
 open_for_many-requires-clause-seats g c = λ k d lt.
-    let texts = c.requires.texts k d lt in
+    let rooms = c.requires.rooms k d lt in
     let seats = c.requires.seats in
-    omega (arith, texts, seats)
+    omega (arith, rooms, seats)
 
 pub returns-in-Some-clause-inlet : goal.returns-in-Some-clause-inlet
 returns-in-Some-clause-inlet g c = rw c.in-Some.ensures c.open_for_one.ensures.inlet

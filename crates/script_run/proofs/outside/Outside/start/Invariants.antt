@@ -8,7 +8,7 @@ abbrev pub invariant-loop-seat : goal.invariant-loop-seat
 invariant-loop-seat g l =
     (goal.iterator-loop-seat g).can_next l.seat-iterator
     × (goal.iterator-loop-seat g).is_finite l.seat-iterator
-    × HaveSeatsFrom l.fn.events (map (λ v. v.items) l.fn.texts) (map any_intake l.inlets.items) (vec_len l.out) l.seat-iterator.rest.items
+    × HaveSeatsFrom l.fn.events (map (λ v. length v.items) l.fn.texts) (map any_intake l.inlets.items) (vec_len l.out) l.seat-iterator.rest.items
     × (vec_len l.out + length l.seat-iterator.rest.items ≡ length l.fn.events)
     × (length l.seat-iterator.rest.items ≤ length l.gates.rest.items)
     × (length l.fn.events ≤ vec_capacity l.out)
