@@ -72,5 +72,5 @@ snapshot_of held = record {
 }
 
 -- its state as a text
-abbrev pub text_of_state : HeldPod → List ℕ
+unfoldable pub text_of_state : HeldPod → List ℕ
 text_of_state held = state_text true held.names [] (snapshot_of held)

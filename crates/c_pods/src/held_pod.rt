@@ -1,10 +1,10 @@
 // A pod, and what its last call or delivery did.
-ghost use Rattle.std.specs.Prelude.{◌≡◌, ◌≤◌, ◌<◌, ◌^◌, ◌++◌, ◌∷◌, [], IfOk, IsErr, IsSome, IsTrue, OnOk, OnErr, Some, false, length, option_copied, slice_get};
+ghost use Rattle.std.specs.Prelude.{◌≡◌, ◌≤◌, ◌<◌, ◌^◌, ◌++◌, ◌∷◌, [], IfOk, IsErr, IsTrue, OnOk, OnErr, Some, false, option_copied, slice_get};
 ghost use Rattle.lwp_types.specs.State.{opening};
 ghost use Rattle.lwp_types.specs.TextFields.{is_text};
 ghost use Rattle.c_pods.specs.Follow.{counted};
 ghost use Rattle.c_pods.specs.Held.{Tells, last_called, last_lines};
-ghost use Rattle.c_pods.specs.Origins.{entries_after, entries_after_by, first_entries};
+ghost use Rattle.c_pods.specs.Origins.{entries_after, first_entries, proc_of};
 ghost use Rattle.c_pods.specs.declared.held_pod.Last.TheVariants as last;
 ghost use Rattle.pod_events.specs.Events.{is_takeable, quiet_events, take_event};
 ghost use Rattle.pod_events.specs.Machine.{asks_memory, current_of};
@@ -88,22 +88,64 @@ impl HeldPod {
         self.last = Last::Nothing;
     }
 
-    // A call was made, by which a thread was born in this procedure, if one was.
+    // Makes the call, and doesn't count it.
     #[inline(always)]
-    fn note_call(&mut self, born: Option<u32>)
-        requires { IsSome born → length self.old.origins.entries < self.old.origins.places }
-        ensures began { self.new.origins.entries ≡ entries_after_by born self.old.effects self.old.pod.state self.old.origins.entries }
-        ensures calls { self.new.calls ≡ counted self.old.calls }
-        ensures other { self.new ≡ record self.old { origins = self.new.origins; calls = self.new.calls } }
+    #[tactic(auto, unfolding(crate::specs::Held::Tells))]
+    fn make(&mut self, tid: Tid, call: Call<'static>) -> Result<(), NoMemory>
+        requires turn { current_of self.old.pod.state ≡ Some tid }
+        ensures after { OnOk result (self.new.pod ≡ (event_step self.old.pod call.entry).after) }
+        ensures effects { OnOk result (Tells self.old.pod call.entry self.new.effects) }
+        ensures last { OnOk result (self.new.last ≡ last_called self.old.pod call.entry) }
+        ensures err { OnErr result (self.new.pod ≡ self.old.pod) }
+        ensures err_effects { OnErr result (self.new.effects ≡ []) }
+        ensures err_last { OnErr result (self.new.last ≡ last.Nothing) }
+        ensures memory { IsErr result → IsTrue (asks_memory call.entry) }
+        ensures names { self.new.names ≡ self.old.names }
+        ensures began { self.new.origins ≡ self.old.origins }
+        ensures calls { self.new.calls ≡ self.old.calls }
     {
-        self.calls = counted(self.calls);
-        if let Some(proc) = born {
-            self.origins.add(proc, &self.effects, &self.pod);
+        let pending = self.pod.pending();
+        let done = self.pod.call(&call, &mut self.effects);
+        self.last = match done {
+            Err(_) => Last::Nothing,
+            Ok(()) => match pending {
+                Some(_) => Last::Trapped,
+                None => Last::Called { tid, call },
+            },
+        };
+        done
+    }
+
+    // A create of this procedure. It stands apart from the calls that bear nobody.
+    #[inline(never)]
+    fn create(&mut self, tid: Tid, call: Call<'static>, proc: u32) -> Result<(), NoMemory>
+        requires turn { current_of self.old.pod.state ≡ Some tid }
+        requires create { proc_of call ≡ Some proc }
+        ensures after { OnOk result (self.new.pod ≡ (event_step self.old.pod call.entry).after) }
+        ensures effects { OnOk result (Tells self.old.pod call.entry self.new.effects) }
+        ensures last { OnOk result (self.new.last ≡ last_called self.old.pod call.entry) }
+        ensures err { OnErr result (self.new.pod ≡ self.old.pod) }
+        ensures err_effects { OnErr result (self.new.effects ≡ []) }
+        ensures err_last { OnErr result (self.new.last ≡ last.Nothing) }
+        ensures names { self.new.names ≡ self.old.names }
+        ensures began { OnOk result
+            (self.new.origins.entries ≡ entries_after call.entry self.new.effects self.new.pod.state self.old.origins.entries) }
+        ensures calls { OnOk result (self.new.calls ≡ counted self.old.calls) }
+        ensures err_began { OnErr result (self.new.origins.entries ≡ self.old.origins.entries) }
+        ensures err_calls { OnErr result (self.new.calls ≡ self.old.calls) }
+    {
+        // The room for its entry first: a create that was carried out isn't answered with no memory.
+        if let Err(no_memory) = self.origins.make_room() {
+            self.forget_step();
+            return Err(no_memory);
         }
+        self.make(tid, call)?;
+        self.calls = counted(self.calls);
+        self.origins.add(proc, &self.effects, &self.pod);
+        Ok(())
     }
 
     /// The call of the thread whose turn it is.
-    #[tactic(auto, unfolding(crate::specs::Held::Tells))]
     pub fn call(&mut self, tid: Tid, call: Call<'static>) -> Result<(), NoMemory>
         requires turn { current_of self.old.pod.state ≡ Some tid }
         ensures after { OnOk result (self.new.pod ≡ (event_step self.old.pod call.entry).after) }
@@ -120,25 +162,12 @@ impl HeldPod {
         ensures err_began { OnErr result (self.new.origins.entries ≡ self.old.origins.entries) }
         ensures err_calls { OnErr result (self.new.calls ≡ self.old.calls) }
     {
-        let born = proc_of(&call);
-        // The room for its procedure first: a create that was carried out isn't answered with no memory.
-        if let Err(no_memory) = self.origins.make_room(born) {
-            self.forget_step();
-            return Err(no_memory);
+        if let Some(proc) = proc_of(&call) {
+            return self.create(tid, call, proc);
         }
-        let pending = self.pod.pending();
-        let done = self.pod.call(&call, &mut self.effects);
-        self.last = match done {
-            Err(_) => Last::Nothing,
-            Ok(()) => match pending {
-                Some(_) => Last::Trapped,
-                None => Last::Called { tid, call },
-            },
-        };
-        if done.is_ok() {
-            self.note_call(born);
-        }
-        done
+        self.make(tid, call)?;
+        self.calls = counted(self.calls);
+        Ok(())
     }
 
     /// Takes a line, if it can be taken.

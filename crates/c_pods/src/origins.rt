@@ -3,7 +3,7 @@ ghost use Rattle.c_pods.specs.Origins.{born, first_entries, living, proc_of, thr
 ghost use Rattle.lwp_types.specs.State.{is_id};
 ghost use Rattle.pod_events.specs.Machine.{asks_memory};
 ghost use Rattle.std.specs.List.{filter};
-ghost use Rattle.std.specs.Prelude.{◌≡◌, ◌++◌, ◌<◌, IfOk, IsErr, IsSome, IsTrue, OnOk, length};
+ghost use Rattle.std.specs.Prelude.{◌≡◌, ◌++◌, ◌<◌, IfOk, IsSome, IsTrue, OnOk, length};
 
 use lwp_calls::Pod;
 use lwp_types::{Answer, Call, Effect, Effects, NoMemory, Tid};
@@ -108,21 +108,8 @@ impl Origins {
         self.entries.as_slice()
     }
 
-    /// Room for one entry more, where a create is to be made.
-    #[inline(always)]
-    pub(crate) fn make_room(&mut self, born: Option<u32>) -> Result<(), NoMemory>
-        ensures same { self.new.entries ≡ self.old.entries }
-        ensures room { OnOk result (IsSome born → length self.new.entries < self.new.places) }
-        ensures cause { IsErr result → IsSome born }
-    {
-        match born {
-            None => Ok(()),
-            Some(_) => self.make_one_place(),
-        }
-    }
-
-    #[inline(never)]
-    fn make_one_place(&mut self) -> Result<(), NoMemory>
+    /// Room for one entry more.
+    pub(crate) fn make_room(&mut self) -> Result<(), NoMemory>
         ensures same { self.new.entries ≡ self.old.entries }
         ensures room { OnOk result (length self.new.entries < self.new.places) }
     {
@@ -140,7 +127,6 @@ impl Origins {
     }
 
     /// Adds the thread that a create of this procedure made, if these effects say so.
-    #[inline(never)]
     pub(crate) fn add(
         &mut self,
         proc: u32,

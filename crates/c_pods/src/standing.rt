@@ -52,6 +52,7 @@ impl HeldPod {
     }
 
     /// The text of the pod's state, with the procedures' names as far as they were told, and no clients.
+    #[tactic(auto, unfolding(crate::specs::Standing::text_of_state))]
     pub fn state_text(&self, alloc: Global) -> Result<Vec<u8>, NoMemory>
         ensures { IfOk result (λ text. text.items ≡ text_of_state self.now) }
     {

@@ -13,3 +13,7 @@ pub both_of : (P : HeldPod → HeldPod → Type 0) {held next : HeldPod} {x y : 
     → IfSome x (λ h. ◌≡◌ {A = ℕ} 0 0 → IfSome y (λ n. P h n))
 both_of P {held} {next} {x} {y} e f p =
     subst (λ z. IfSome z (λ h. ◌≡◌ {A = ℕ} 0 0 → IfSome y (λ n. P h n))) e (λ _. subst (λ z. IfSome z (λ n. P held n)) (sym f) p)
+
+-- what holds of the pod that was taken out holds of the one that the handle had
+pub that_of : (P : HeldPod → Type 0) {held now : HeldPod} {x : Option HeldPod} → Some held ≡ x → now ≡ held → P now → IfSome x P
+that_of P e d p = subst (λ y. IfSome y P) e (subst P d p)

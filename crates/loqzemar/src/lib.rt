@@ -3,8 +3,9 @@
 //! A C program keeps a `PodHandle`. `loq_pod_new` puts a pod into it, and `loq_pod_free` takes it away. The library never calls back:
 //! `loq_current` says whose turn it is, `loq_call` makes that thread's next call, `loq_effect` tells one by one what the call did, and
 //! `loq_deliver` takes a line of an event. `loq_lines` writes the trace of the last step, `loq_follow` compares it with a recorded
-//! one, and `loq_state` writes how the pod stands. Each contract says which number is answered for which cause, and what is written where; nothing is required of the caller but
-//! what its header says of pointers. Bytes that a call or a delivery carries are lent until the pod is freed.
+//! one, and `loq_state` writes how the pod stands. Each contract says which number is answered for which cause, and what is written
+//! where; nothing is required of the caller but what its header says of pointers. Bytes that a call or a delivery carries are lent until
+//! the pod is freed.
 //!
 //! The crate stands on `c_pods`.
 #![tactic(auto)]
