@@ -50,7 +50,8 @@ enum {
     LOQ_NO_EFFECT = 7,   // the last step did fewer things than that
     LOQ_BAD_NUMBER = 8,  // a number is out of its range
     LOQ_TOO_SMALL = 9,   // a buffer is too small; what is told says how large it should be, and the front is in it
-    LOQ_DIFFERS = 10     // a line is not that of the recorded trace
+    LOQ_DIFFERS = 10,    // a line is not that of the recorded trace
+    LOQ_BAD_SCRIPT = 11  // the bytes are no script
 };
 
 #define LOQ_NULL UINT64_MAX // the thread, monitor or condition that there never is
@@ -218,6 +219,58 @@ uint32_t loq_state(loq_pod *pod, uint8_t *out, size_t room, size_t *len);
 // that differs; a trace that ends before it differs too. LOQ_NO_POD, LOQ_NO_MEMORY: both are as they were. Lines are counted up to
 // SIZE_MAX, and a place after the end of the trace is as good as its end. The bytes of the trace need only be there during the call.
 uint32_t loq_follow(loq_pod *pod, const uint8_t *trace, size_t trace_len, size_t *at, size_t *line);
+
+// ---- Whole sessions: a script in, bytes out, as the programs of Loqzemar read and write them. They use no pod.
+
+// Why bytes are no script. Where several fit, the first is told.
+enum {
+    LOQ_FINE = 0,         // they are one
+    LOQ_TOO_LARGE = 1,    // more than 16,777,216 bytes
+    LOQ_UNENDED = 2,      // the last line has no newline
+    LOQ_NOT_PRINTABLE = 3,
+    LOQ_BAD_HEADER = 4,
+    LOQ_BAD_POD = 5,
+    LOQ_BAD_LIMIT = 6,
+    LOQ_BAD_CLIENT = 7,
+    LOQ_BAD_NATIVE = 8,
+    LOQ_BAD_PROC = 9,
+    LOQ_BAD_POST = 10,
+    LOQ_BAD_AGAIN = 11,
+    LOQ_BAD_STATEMENT = 12,
+    LOQ_MISSING = 13      // no procedure has statements
+};
+
+// How a session ended. What isn't named for its status is 0.
+typedef struct loq_session_t {
+    uint32_t status;  // what lwpserve exits with: 103 the bytes are no script; of a replay 0 the same or 107 another; of the others 0 to 99
+                      // the pod has ended with it, 104 stuck, 105 all calls that are allowed were made
+    uint32_t reason;  // 103: why
+    uint64_t line;    // 103: the first bad line, from 1, or 0 where the whole is too large; 107: the first line that differs, from 1
+    uint64_t calls;   // how many calls were made; of a replay, those whose first lines are among the lines that don't differ
+    uint64_t taken;   // how many lines of clients were taken, and so on
+} loq_session_t;
+
+enum { LOQ_CALLS_MAX = 1000000 }; // the most calls that may be allowed
+
+// Runs a script with all lines of its clients in place, and at most so many calls, from 1 to LOQ_CALLS_MAX. Its trace goes to the front of
+// the buffer, and len tells how many bytes it has; of bytes that are no script, the line that lwpserve writes on standard error.
+// LOQ_BAD_SCRIPT: session says why. LOQ_TOO_SMALL: all is told, but the buffer has the first bytes alone; another call runs all again.
+// LOQ_BAD_NUMBER, LOQ_NO_MEMORY: nothing is written.
+uint32_t loq_plan(const uint8_t *script, size_t script_len, uint64_t calls, uint8_t *out, size_t room, size_t *len,
+                  loq_session_t *session);
+
+// Does so, and tells in place of the trace what one client, 0 to 15, is told, as `lwpserve answers` does.
+uint32_t loq_answers(const uint8_t *script, size_t script_len, uint8_t client, uint64_t calls, uint8_t *out, size_t room, size_t *len,
+                     loq_session_t *session);
+
+// Whether recorded bytes are a trace of the script, of at most so many calls, whatever the order in which lines were taken: tells what
+// `lwpserve replay` does. The statuses are those of loq_plan.
+uint32_t loq_replay(const uint8_t *script, size_t script_len, const uint8_t *trace, size_t trace_len, uint64_t calls, uint8_t *out,
+                    size_t room, size_t *len, loq_session_t *session);
+
+// Tells what `lwpcheck` does of a script, and with json what `lwpcheck --json` does. The grade is 0 if nothing is wrong, 1 if something is
+// doubtful, 2 if the bytes are no script. LOQ_TOO_SMALL: as above. LOQ_NO_MEMORY: nothing is written.
+uint32_t loq_check(const uint8_t *script, size_t script_len, bool json, uint8_t *out, size_t room, size_t *len, uint32_t *grade);
 
 #ifdef __cplusplus
 }

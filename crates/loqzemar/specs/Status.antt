@@ -44,3 +44,7 @@ too_small = 9
 -- a line is not that of the recorded trace
 abbrev pub differs : ℕ
 differs = 10
+
+-- the bytes are no script
+abbrev pub bad_script : ℕ
+bad_script = 11

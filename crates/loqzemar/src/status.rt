@@ -20,3 +20,5 @@ pub(crate) const BAD_NUMBER: u32 = 8;
 pub(crate) const TOO_SMALL: u32 = 9;
 
 pub(crate) const DIFFERS: u32 = 10;
+
+pub(crate) const BAD_SCRIPT: u32 = 11;

@@ -1,0 +1,4 @@
+pub mod FrontLaws
+pub mod PlanLaws
+pub mod AnswerLaws
+pub mod ReplayLaws
