@@ -1,10 +1,11 @@
 -- What is told of a text, and what the program comes to, with all that it meets outside.
-use Rattle.std.specs.Prelude.{ℕ, Bool, true, false, List, [], ◌∷◌, Option, Some, None, Result, Ok, Err, codes, take, if◌then◌else◌, ◌≡◌}
+use Rattle.std.specs.Prelude.{ℕ, Bool, true, false, List, [], ◌∷◌, Option, Some, None, Result, Ok, Err, codes, take, if◌then◌else◌, ◌≡◌, ◌++◌}
+use Rattle.std.specs.List.{flat_map}
 use Rattle.std.specs.Str.{bytes_eq}
 use Rattle.lwp_types.specs.Streams.{after_append}
 use Rattle.script_text.specs.declared.reason.Reason.{Reason}
 use Rattle.script_text.specs.declared.script.Script.{Script}
-use Rattle.script_text.specs.Spelling.{verdict}
+use Rattle.script_text.specs.Spelling.{line_cut, verdict}
 use Rattle.streams.specs.Limited.{HasFront, IsReadUp, IsReadWithin}
 use Rattle.streams.specs.Streams.{IsFaultless, IsFaulty, IsQuiet, Stream}
 use Rattle.streams.specs.Writing.{AppendsPart}
@@ -46,11 +47,29 @@ grade_of text = grade_by text (verdict text)
 
 -- ---- The program.
 
+-- what words ask for that ask for this form where there are none
+abbrev pub form_or : Format → List (List ℕ) → Option Format
+form_or f [] = Some f
+form_or f (w ∷ []) = if bytes_eq w (codes "--json") then Some format.Json else None
+form_or f (w ∷ v ∷ ws) = None
+
 -- the form that the words ask for
 abbrev pub format_of : List (List ℕ) → Option Format
-format_of [] = Some format.Plain
-format_of (w ∷ []) = if bytes_eq w (codes "--json") then Some format.Json else None
-format_of (w ∷ v ∷ ws) = None
+format_of words = form_or format.Plain words
+
+-- and of a file that has a name
+abbrev pub named_format_of : List (List ℕ) → Option Format
+named_format_of words = form_or format.Line words
+
+-- each of these lines after the name of a file
+abbrev pub named_lines : List ℕ → List (List ℕ) → List ℕ
+named_lines name lines = flat_map (λ line. name ++ (codes ":" ++ (line ++ codes "\n"))) lines
+
+-- what is told of a text in a file of this name, which lines for editors begin with
+abbrev pub report_of : List ℕ → Format → List ℕ → List ℕ
+report_of name format.Plain text = report format.Plain text
+report_of name format.Line text = named_lines name (line_cut (report format.Line text)).0
+report_of name format.Json text = report format.Json text
 
 -- the source was read to its end, or one byte further than a script may be long, and this holds of what was read
 abbrev pub Says : Stream → (List ℕ → Type 0) → Type 0
@@ -58,20 +77,20 @@ Says source says = IsFaultless source × IsReadUp 16777217 source.old source.new
     × ((text : List ℕ) × HasFront 16777217 source.old text × says text)
 
 -- all that is told of the text was written
-abbrev pub IsTold : Format → Stream → Grade → List ℕ → Type 0
-IsTold f sink g text = (grade_of text ≡ g) × (sink.new ≡ after_append sink.old (report f text)) × IsFaultless sink
+abbrev pub IsTold : List ℕ → Format → Stream → Grade → List ℕ → Type 0
+IsTold name f sink g text = (grade_of text ≡ g) × (sink.new ≡ after_append sink.old (report_of name f text)) × IsFaultless sink
 
 -- a first part of it was written, and a write failed before the last byte
-abbrev pub IsCut : Format → Stream → List ℕ → Type 0
-IsCut f sink text = AppendsPart sink.old sink.new (report f text) × IsFaulty sink
+abbrev pub IsCut : List ℕ → Format → Stream → List ℕ → Type 0
+IsCut name f sink text = AppendsPart sink.old sink.new (report_of name f text) × IsFaulty sink
 
 -- what each end says; out of memory is the one free answer, and nothing was written then
-abbrev pub EndSays : Format → Stream → Stream → CheckEnd → Type 0
-EndSays f source sink (end.Told g) = Says source (IsTold f sink g)
-EndSays f source sink end.Usage = ⊥
-EndSays f source sink end.ReadFault = IsFaulty source × IsReadWithin 16777217 source.old source.new × IsQuiet sink
-EndSays f source sink end.WriteFault = Says source (IsCut f sink)
-EndSays f source sink end.NoMemory = IsFaultless source × IsReadWithin 16777217 source.old source.new × IsQuiet sink
+abbrev pub EndSays : List ℕ → Format → Stream → Stream → CheckEnd → Type 0
+EndSays name f source sink (end.Told g) = Says source (IsTold name f sink g)
+EndSays name f source sink end.Usage = ⊥
+EndSays name f source sink end.ReadFault = IsFaulty source × IsReadWithin 16777217 source.old source.new × IsQuiet sink
+EndSays name f source sink end.WriteFault = Says source (IsCut name f sink)
+EndSays name f source sink end.NoMemory = IsFaultless source × IsReadWithin 16777217 source.old source.new × IsQuiet sink
 
 -- the words are no command, and nothing was read or written
 pub record IsUsage (source sink : Stream) (e : CheckEnd) : Type 0 where
@@ -80,10 +99,14 @@ pub record IsUsage (source sink : Stream) (e : CheckEnd) : Type 0 where
   pub faultless : IsFaultless source
   pub quiet : IsQuiet sink
 
+-- what words come to that ask for this form, for a file of this name
+abbrev pub NamedSays : List ℕ → Option Format → Stream → Stream → CheckEnd → Type 0
+NamedSays name None source sink e = IsUsage source sink e
+NamedSays name (Some f) source sink e = EndSays name f source sink e
+
 -- what the program's words come to
 abbrev pub CheckSays : Option Format → Stream → Stream → CheckEnd → Type 0
-CheckSays None source sink e = IsUsage source sink e
-CheckSays (Some f) source sink e = EndSays f source sink e
+CheckSays f source sink e = NamedSays [] f source sink e
 
 abbrev pub grade_status : Grade → ℕ
 grade_status grade.Fine = 0

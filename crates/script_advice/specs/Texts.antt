@@ -53,6 +53,26 @@ advice_text r =
 abbrev pub plain_text : Remark → List ℕ
 plain_text r = head_text r ++ (line_with_caret r.text (column r) ++ advice_text r)
 
+-- ---- For editors: a line each, as compilers write theirs after the name of a file.
+
+-- the number of the line, and the column of its wrong word, counted from 1
+unfoldable pub line_place : Remark → List ℕ
+line_place r = decimal r.line ++ (codes ":" ++ (decimal (column r + 1) ++ codes ": "))
+
+-- whether it is an error, what is wrong, and why it is told
+unfoldable pub line_reason : Remark → List ℕ
+line_reason r = severity_text r.cause
+    ++ (codes ": " ++ (why_text r.place.why ++ (codes " [" ++ (cause_text r.cause ++ codes "]"))))
+
+-- what may stand there, and what nearly does
+unfoldable pub line_advice : Remark → List ℕ
+line_advice r =
+    labelled_form (codes "; expected: ") r.form (codes "")
+    ++ (with_label (codes "; did you mean: ") r.near (codes "") ++ codes "\n")
+
+abbrev pub line_text : Remark → List ℕ
+line_text r = line_place r ++ (line_reason r ++ line_advice r)
+
 -- ---- For programs: one object a line. No byte of it has to be escaped.
 
 unfoldable pub json_place : Remark → List ℕ
@@ -75,6 +95,7 @@ json_text r = json_place r ++ (json_reason r ++ (json_advice r ++ codes "}\n"))
 
 abbrev pub remark_text : Format → Remark → List ℕ
 remark_text format.Plain r = plain_text r
+remark_text format.Line r = line_text r
 remark_text format.Json r = json_text r
 
 -- so many of them, one after the other

@@ -1,13 +1,16 @@
 // A script is read, and what is wrong with it is told.
-ghost use Rattle.std.specs.Prelude.{◌≡◌, map, string_bytes};
-ghost use Rattle.script_advice.specs.Advice.{CheckSays, EndSays, fault_text, format_of, grade_status, status_of};
+ghost use Rattle.std.specs.Prelude.{◌≡◌, ◌++◌, IfOk, OnOk, map, string_bytes};
+ghost use Rattle.script_text.specs.Spelling.{line_cut};
+ghost use Rattle.script_advice.specs.Advice.{CheckSays, EndSays, NamedSays, fault_text, form_or, format_of, grade_of, grade_status, named_format_of, named_lines, report_of, status_of};
 ghost use Rattle.streams.specs.Streams.{sides};
 
 use crate::advice::{Grade, add_report};
+use crate::lines::first_line;
 use crate::texts::Format;
-use lwp_types::{Sink, Source};
+use lwp_types::{NoMemory, Sink, Source};
 use std::alloc::Global;
 use streams::{ReadFailure, read_up_to, write_all};
+use trace_text::add_text;
 
 // One byte more than a script may have: so much is read, and no more.
 const MOST: usize = 16_777_217;
@@ -60,20 +63,65 @@ pub fn fault_text(end: CheckEnd) -> &'static [u8]
     }
 }
 
-// The form that the words ask for.
-fn format_of(words: &Vec<String>) -> Option<Format>
-    ensures { result ≡ format_of (map string_bytes words.now.items) }
+// The form that the words ask for, which is this one where there are none.
+fn form_or(format: Format, words: &Vec<String>) -> Option<Format>
+    ensures { result ≡ form_or format (map string_bytes words.now.items) }
 {
     match words.as_slice() {
-        [] => Some(Format::Plain),
+        [] => Some(format),
         [word] if word.as_bytes() == b"--json".as_slice() => Some(Format::Json),
         _ => None,
     }
 }
 
-// What is told in this form.
-fn tell<S: Source, K: Sink>(alloc: Global, format: Format, source: &mut S, sink: &mut K) -> CheckEnd
-    ensures { EndSays format
+// The lines of a text, each after the name of a file.
+fn add_named_lines(out: &mut Vec<u8>, name: &[u8], text: &[u8]) -> Result<(), NoMemory>
+    ensures { OnOk result
+        (out.new.items ≡ out.old.items ++ named_lines name.now (line_cut text.now).0) }
+{
+    let mut rest = text;
+    while let Some((line, after)) = first_line(rest) {
+        add_text(out, name)?;
+        add_text(out, b":")?;
+        add_text(out, line)?;
+        add_text(out, b"\n")?;
+        rest = after;
+    }
+    Ok(())
+}
+
+// All that is told of a text in a file of this name, and the text's grade.
+fn add_report_of(
+    alloc: Global,
+    out: &mut Vec<u8>,
+    name: &[u8],
+    format: Format,
+    text: &[u8],
+) -> Result<Grade, NoMemory>
+    ensures told { IfOk result
+        (λ g. out.new.items ≡ out.old.items ++ report_of name.now format text.now) }
+    ensures grade { IfOk result (λ g. g ≡ grade_of text.now) }
+{
+    match format {
+        Format::Plain | Format::Json => add_report(alloc, out, format, text),
+        Format::Line => {
+            let mut report = Vec::new(alloc);
+            let grade = add_report(alloc, &mut report, format, text)?;
+            add_named_lines(out, name, &report)?;
+            Ok(grade)
+        }
+    }
+}
+
+// What is told in this form of a file of this name.
+fn tell<S: Source, K: Sink>(
+    alloc: Global,
+    name: &[u8],
+    format: Format,
+    source: &mut S,
+    sink: &mut K,
+) -> CheckEnd
+    ensures { EndSays name.now format
         (sides S.left S.faults source.old source.new)
         (sides K.written K.faults sink.old sink.new) result }
 {
@@ -83,7 +131,7 @@ fn tell<S: Source, K: Sink>(alloc: Global, format: Format, source: &mut S, sink:
         Err(ReadFailure::NoMemory) => return CheckEnd::NoMemory,
     };
     let mut out = Vec::new(alloc);
-    let Ok(grade) = add_report(alloc, &mut out, format, &text) else {
+    let Ok(grade) = add_report_of(alloc, &mut out, name, format, &text) else {
         return CheckEnd::NoMemory;
     };
     match write_all(sink, &out) {
@@ -104,8 +152,27 @@ pub fn check<S: Source, K: Sink>(
         (sides S.left S.faults source.old source.new)
         (sides K.written K.faults sink.old sink.new) result }
 {
-    match format_of(words) {
-        Some(format) => tell(alloc, format, source, sink),
+    match form_or(Format::Plain, words) {
+        Some(format) => tell(alloc, &[], format, source, sink),
+        None => CheckEnd::Usage,
+    }
+}
+
+/// The same of a script in a file of this name. Without a word each error or warning is one line, which begins with the name, the number
+/// of the line and the column, with a colon after each.
+pub fn check_named<S: Source, K: Sink>(
+    alloc: Global,
+    name: &[u8],
+    words: &Vec<String>,
+    source: &mut S,
+    sink: &mut K,
+) -> CheckEnd
+    ensures { NamedSays name.now (named_format_of (map string_bytes words.now.items))
+        (sides S.left S.faults source.old source.new)
+        (sides K.written K.faults sink.old sink.new) result }
+{
+    match form_or(Format::Line, words) {
+        Some(format) => tell(alloc, name, format, source, sink),
         None => CheckEnd::Usage,
     }
 }

@@ -1,6 +1,6 @@
 // How a remark is written. Each function appends its part to the bytes so far.
 ghost use Rattle.std.specs.Prelude.{◌≡◌, ◌++◌, OnOk, map};
-ghost use Rattle.script_advice.specs.Texts.{advice_text, column, head_text, json_advice, json_place, json_reason, json_text, labelled_form, line_with_caret, plain_text, remark_text, shown_byte, under, with_label};
+ghost use Rattle.script_advice.specs.Texts.{advice_text, column, head_text, json_advice, json_place, json_reason, json_text, labelled_form, line_advice, line_place, line_reason, line_text, line_with_caret, plain_text, remark_text, shown_byte, under, with_label};
 
 use crate::forms::add_form;
 use crate::remarks::{Remark, cause_text, severity_text, why_text};
@@ -8,10 +8,14 @@ use lwp_types::NoMemory;
 use script_lines::Op;
 use trace_text::{add_number, add_text};
 
-/// For whom remarks are written: readers, or programs.
+/// For whom remarks are written.
 #[derive(Clone, Copy)]
 pub enum Format {
+    /// Readers: some lines for each, with the bad line itself among them.
     Plain,
+    /// Editors: a line for each, to which the name of the file belongs.
+    Line,
+    /// Programs: an object for each, on a line of its own.
     Json,
 }
 
@@ -126,6 +130,48 @@ fn add_plain(out: &mut Vec<u8>, remark: &Remark<'_>) -> Result<(), NoMemory>
     add_advice(out, remark)
 }
 
+// ---- For editors.
+
+#[tactic(auto, unfolding(crate::specs::Texts::line_place))]
+fn add_line_place(out: &mut Vec<u8>, remark: &Remark<'_>) -> Result<(), NoMemory>
+    ensures { OnOk result (out.new.items ≡ out.old.items ++ line_place remark.now) }
+{
+    add_number(out, u64::from(remark.line))?;
+    add_text(out, b":")?;
+    let at = column(remark) as u64 + 1;
+    add_number(out, at)?;
+    add_text(out, b": ")
+}
+
+#[tactic(auto, unfolding(crate::specs::Texts::line_reason))]
+fn add_line_reason(out: &mut Vec<u8>, remark: &Remark<'_>) -> Result<(), NoMemory>
+    ensures { OnOk result (out.new.items ≡ out.old.items ++ line_reason remark.now) }
+{
+    add_text(out, severity_text(remark.cause))?;
+    add_text(out, b": ")?;
+    add_text(out, why_text(remark.place.why))?;
+    add_text(out, b" [")?;
+    add_text(out, cause_text(remark.cause))?;
+    add_text(out, b"]")
+}
+
+#[tactic(auto, unfolding(crate::specs::Texts::line_advice))]
+fn add_line_advice(out: &mut Vec<u8>, remark: &Remark<'_>) -> Result<(), NoMemory>
+    ensures { OnOk result (out.new.items ≡ out.old.items ++ line_advice remark.now) }
+{
+    add_labelled_form(out, b"; expected: ", remark.form, b"")?;
+    add_labelled(out, b"; did you mean: ", remark.near, b"")?;
+    add_text(out, b"\n")
+}
+
+fn add_line(out: &mut Vec<u8>, remark: &Remark<'_>) -> Result<(), NoMemory>
+    ensures { OnOk result (out.new.items ≡ out.old.items ++ line_text remark.now) }
+{
+    add_line_place(out, remark)?;
+    add_line_reason(out, remark)?;
+    add_line_advice(out, remark)
+}
+
 // ---- For programs.
 
 #[tactic(auto, unfolding(crate::specs::Texts::json_place))]
@@ -173,6 +219,7 @@ pub fn add_remark(out: &mut Vec<u8>, format: Format, remark: &Remark<'_>) -> Res
 {
     match format {
         Format::Plain => add_plain(out, remark),
+        Format::Line => add_line(out, remark),
         Format::Json => add_json(out, remark),
     }
 }
