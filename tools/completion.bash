@@ -1,5 +1,11 @@
-# Completion for bash: the words and options of lwpserve, lwpview, lwpcheck and lwpstate. tools/install puts it where bash-completion looks
-# for it; without that, `source tools/completion.bash`.
+# Completion for bash: the words and options of lwpserve, lwpview, lwpcheck and lwpstate, and files where they take one. tools/install puts
+# it where bash-completion looks for it; without that, `source tools/completion.bash`.
+
+# Adds the files and folders that begin so, after words that may stand there too.
+_loqzemar_words_or_files() {
+  mapfile -t COMPREPLY < <(compgen -W "$1" -- "$2"; compgen -f -- "$2")
+  compopt -o filenames 2> /dev/null
+}
 
 # The words of lwpserve; only numbers follow them, which nothing can complete.
 _loqzemar_lwpserve() {
@@ -7,22 +13,24 @@ _loqzemar_lwpserve() {
   [ "$COMP_CWORD" -ne 1 ] || mapfile -t COMPREPLY < <(compgen -W 'plan run make batch answers replay --help --version' -- "$2")
 }
 
-# The words of lwpview that are no numbers.
+# The options of lwpview, and a trace.
 _loqzemar_lwpview() {
-  COMPREPLY=()
-  [ "$COMP_CWORD" -ne 1 ] || mapfile -t COMPREPLY < <(compgen -W '--last --help --version' -- "$2")
+  if [ "$COMP_CWORD" -eq 1 ]; then _loqzemar_words_or_files '--last --help --version' "$2"; else _loqzemar_words_or_files '' "$2"; fi
 }
 
-# The options of lwpcheck, of which it takes one.
+# The options of lwpcheck, of which it takes one, and a script.
 _loqzemar_lwpcheck() {
-  COMPREPLY=()
-  [ "$COMP_CWORD" -ne 1 ] || mapfile -t COMPREPLY < <(compgen -W '--json --print --help --version' -- "$2")
+  if [ "$COMP_CWORD" -eq 1 ]; then _loqzemar_words_or_files '--json --print --help --version' "$2"; else _loqzemar_words_or_files '' "$2"; fi
 }
 
-# The words of lwpstate; after them stands a number.
+# The words of lwpstate; after them stands a number, or a file.
 _loqzemar_lwpstate() {
   COMPREPLY=()
-  [ "$COMP_CWORD" -ne 1 ] || mapfile -t COMPREPLY < <(compgen -W 'plan replay --help --version' -- "$2")
+  if [ "$COMP_CWORD" -eq 1 ]; then
+    mapfile -t COMPREPLY < <(compgen -W 'plan replay --help --version' -- "$2")
+  else
+    _loqzemar_words_or_files '' "$2"
+  fi
 }
 
 complete -F _loqzemar_lwpserve lwpserve

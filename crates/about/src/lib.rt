@@ -1,10 +1,12 @@
-//! What a program says of itself, where its one word is `--help` or `--version`.
+//! What a program says of itself, where its one word is `--help` or `--version`, and whether it has the stack that it needs.
 //!
 //! `question_of` tells whether the words of a program ask for that (`specs/Questions.antt`), and `print_answer` answers on standard
-//! output; no contract can say what that takes. The version of the repository is here and nowhere else. The crate builds on
-//! no other.
+//! output; no contract can say what that takes. The version of the repository is here and nowhere else. `is_stack_too_small` asks
+//! the system; no contract can say what that answers. The crate builds on no other.
 #![tactic(auto)]
 
 mod question;
+mod stack;
 
 pub use question::{Question, VERSION, print_answer, question_of};
+pub use stack::is_stack_too_small;

@@ -11,7 +11,7 @@ ghost use Rattle.std.specs.Prelude.{◌≡◌, ◌≢◌};
 ghost use Rattle.std.specs.IoError.{error_kind};
 ghost use Rattle.script_session.specs.declared.session.SessionEnd.TheVariants.{NoMemory, Usage, WriteFault};
 
-use about::{print_answer, question_of};
+use about::{is_stack_too_small, print_answer, question_of};
 use lwp_serve::{Session, SessionEnd, fault_text, no_gates, top};
 use lwp_types::Failed;
 use std::io::{ErrorKind, IsTerminal, Write};
@@ -36,6 +36,9 @@ usage: lwpserve WORD [NUMBER].. < INPUT
 TURNS is how many calls a script may make: 1 to 1000000, or 100000 without it.
 ";
 
+// How many bytes the stack may have to take: what the longest chain of calls takes, and some more.
+const STACK: u64 = 131_072;
+
 // What a person is told besides, where a script is refused.
 const HINT: &[u8] = b"lwpserve: `lwpcheck` tells what is wrong in a script\n";
 
@@ -46,6 +49,7 @@ fn main(rt: HostRuntime) -> ExitCode {
                 Ok(()) => return ExitCode::SUCCESS,
                 Err(_) => Session::unread(rt.alloc(), SessionEnd::WriteFault),
             },
+            None if is_stack_too_small(&rt, "lwpserve", STACK) => return ExitCode::from(106),
             None => session_of(&rt, &rt, &words),
         },
         Err(error) => Session::unread(rt.alloc(), end_without_words(&error)),

@@ -1,16 +1,18 @@
-//! The program: standard input holds a trace, and standard output takes its page, of the calls that the words ask for.
+//! The program: standard input holds a trace, or the file that the last word names, and standard output takes its page, of the calls
+//! that the words ask for.
 //!
 //! Where its one word is `--help` or `--version`, it says so much of itself, by the crate `about`. All else that it does is
-//! `trace_page::view`, on the standard streams; no contract can say what those hold. What is written is
-//! gathered, and goes out 64 KiB at a time. What went wrong is said on standard error.
+//! `trace_page::view`, on the standard streams or, by the crate `named_input`, on a file; no contract can say what those hold. What is
+//! written is gathered, and goes out 64 KiB at a time. What went wrong is said on standard error.
 #![tactic(auto)]
 
 ghost use Rattle.std.specs.Prelude.{◌≡◌, ◌≢◌};
 ghost use Rattle.std.specs.IoError.{error_kind};
 ghost use Rattle.trace_page.specs.declared.showing.ViewEnd.TheVariants.{NoMemory, Usage};
 
-use about::{print_answer, question_of};
-use lwp_types::Failed;
+use about::{Question, print_answer, question_of};
+use lwp_types::{Failed, Source};
+use named_input::{FileSource, take_file};
 use std::io::{ErrorKind, Write};
 use std::process::ExitCode;
 use std::{env, io};
@@ -18,10 +20,11 @@ use streams::{GATHERED, StdSink, StdSource};
 use trace_page::{ViewEnd, fault_text, status_of, view};
 
 const HELP: &str = "\
-usage: lwpview [FROM TO | --last N] < TRACE
+usage: lwpview [FROM TO | --last N] [FILE]
 
   FROM TO     draw the calls from this one to that one, counted from 1; of more than 5000 the first 5000
   --last N    draw so many calls at the end, at most 5000
+  FILE        read the trace from this file; without it from standard input
   --help      write this
   --version   write the program's name and version
 
@@ -29,29 +32,55 @@ Without words the first 5000 calls are drawn. The page is HTML, with the picture
 ";
 
 fn main(rt: HostRuntime) -> ExitCode {
-    let end = match words(&rt) {
+    match words(&rt) {
         Ok(words) => match question_of(&words) {
-            Some(question) => match print_answer(&rt, question, "lwpview", HELP) {
-                Ok(()) => return ExitCode::SUCCESS,
-                Err(_) => ViewEnd::WriteFault,
-            },
-            None => end_of(&rt, &words),
+            Some(question) => answer(&rt, question),
+            None => show(&rt, words),
         },
-        Err(error) => end_without_words(&error),
+        Err(error) => tell(&rt, end_without_words(&error)),
+    }
+}
+
+// Says what is asked of the program itself.
+fn answer(rt: &HostRuntime, question: Question) -> ExitCode {
+    match print_answer(rt, question, "lwpview", HELP) {
+        Ok(()) => ExitCode::SUCCESS,
+        Err(_) => tell(rt, ViewEnd::WriteFault),
+    }
+}
+
+// Shows what these words ask for of the file that the last of them names, or of standard input.
+fn show(rt: &HostRuntime, words: Vec<String>) -> ExitCode {
+    let mut words = words;
+    let Some(name) = take_file(&mut words, 0) else {
+        let end = end_of(rt, &words, &mut StdSource::new(rt.stdin()));
+        return tell(rt, end);
     };
+    let mut source = FileSource::new(rt, name.as_str());
+    let end = end_of(rt, &words, &mut source);
+    match source.refused() {
+        Some(why) => {
+            let _ = eprintln!(rt; "lwpview: {name} can't be opened: {why}");
+            ExitCode::from(status_of(end))
+        }
+        None => tell(rt, end),
+    }
+}
+
+// Says on standard error what went wrong, if anything did.
+fn tell(rt: &HostRuntime, end: ViewEnd) -> ExitCode {
     if let Ok(text) = fault_text(rt.alloc(), end) {
         let _ = rt.stderr().write_all(text.as_slice());
     }
     ExitCode::from(status_of(end))
 }
 
-// What these words come to, on the standard streams.
-fn end_of(rt: &HostRuntime, words: &Vec<String>) -> ViewEnd {
+// What these words come to, with a trace from there, on standard output.
+fn end_of<S: Source>(rt: &HostRuntime, words: &Vec<String>, source: &mut S) -> ViewEnd {
     let Ok(mut sink) = StdSink::new(rt.alloc(), rt.stdout(), GATHERED) else {
         return ViewEnd::NoMemory;
     };
-    let mut source = StdSource::new(rt.stdin());
-    let end = view(rt.alloc(), words, &mut source, &mut sink);
+    let end = view(rt.alloc(), words, source, &mut sink);
     match sink.finish() {
         Ok(()) => end,
         Err(Failed) => ViewEnd::WriteFault,
