@@ -6,3 +6,4 @@ pub mod ExitLaws
 pub mod DeathLaws
 pub mod Silence
 pub mod EventLaws
+mod StepByStep

@@ -11,8 +11,8 @@ use Rattle.lwp_types.specs.Exits.{catch_case, exit_case, leave_frame, excnotify_
 use Rattle.lwp_types.specs.Messages.{after_reply, as_answer, as_received, next_letter, post, receive_by, receivers_of, takes_from, with_holding, without_letter}
 use Rattle.lwp_types.specs.MonitorRelease.{grant, last_lock, next_owner, release, without_lock}
 use Rattle.lwp_types.specs.Monitors.{after_exit, after_request, depth_in, enter_case, is_owned_by_other, with_depth}
-use Rattle.lwp_types.specs.State.{Outcome, State, ThreadRow, and_then, for_each, in_order, is_agent}
-use Rattle.lwp_types.specs.State.{marks_in, passes, still, thread_of, with_marks, with_marks_of}
+use Rattle.lwp_types.specs.State.{Outcome, State, ThreadRow, and_then, for_each, in_order, is_agent, marks_in}
+use Rattle.lwp_types.specs.State.{opening, passes, still, thread_of, with_marks, with_marks_of}
 use Rattle.lwp_types.specs.Step.{case_of, step, step_by, step_if}
 use Rattle.lwp_types.specs.Time.{after_tick, due_threads, tick, time_out}
 use Rattle.lwp_types.specs.Unblock.{after_block, after_block_for, nonexist, unblock, zero_answer}
@@ -27,11 +27,17 @@ use Rattle.lwp_types.specs.declared.rows.Lock.{Lock}
 use Rattle.lwp_types.specs.declared.rows.Mark.{Mark}
 use Rattle.lwp_types.specs.declared.rows.Request.{Request}
 use Rattle.lwp_types.specs.declared.rows.WaitRow.{WaitRow}
-use Rattle.pod_laws.proofs.Checks.{unless_keeps}
+use Rattle.pod_events.proofs.Carried.{call_keeps, take_keeps}
+use Rattle.pod_events.specs.Events.{EventState, quiet_events, rites_event}
+use Rattle.pod_events.specs.Moves.{EventMove, ToCall, ToTake, after_moves, event_move}
+use Rattle.pod_laws.proofs.Checks.{Passed, unless_keeps}
 use Rattle.pod_laws.specs.Once.{sets_of_call, sets_of_step}
-use Rattle.session_laws.specs.Numbers.{DeliveriesBearNone, DeliveriesKeepProcs, DeliveriesNumberNone, DeliveriesTick, StepsBearNone}
-use Rattle.session_laws.specs.Numbers.{StepsKeepProcs, StepsKeepTheClock, StepsNumberExits, any_exit, bears}
-use Rattle.std.proofs.Common.{Bool, List, None, Option, Some, [], ap, arith, cond, eqb, false, length, refl, sym, true, ℕ, ◌++◌, ◌+◌, ◌-◌, ◌∙◌, ◌∷◌, ◌≡◌, ◌||◌}
+use Rattle.pod_runner.proofs.Moving.{sessions_are_moves}
+use Rattle.session_laws.specs.Numbers.{DeliveriesBearNone, DeliveriesKeepProcs, DeliveriesNumberNone, DeliveriesTick, BirthsAreLimited, StepsBearNone}
+use Rattle.session_laws.specs.Numbers.{StepsKeepProcs, StepsKeepTheLimit, StepsKeepTheClock, StepsNumberExits, any_exit, bears}
+use Rattle.std.proofs.Common.{Bool, List, None, Option, Some, [], ap, arith, cond, eqb, false, length}
+use Rattle.std.proofs.Common.{refl, sym, true, ℕ, ◌++◌, ◌+◌, ◌-◌, ◌∙◌, ◌∷◌, ◌≡◌, ◌<◌, ◌≤◌, ◌||◌}
+use Rattle.std.proofs.lemmas.Bool.{leb-false}
 use Rattle.std.specs.List.{fold}
 use Rattle.std.specs.Prelude.{nat_le}
 use Rattle.lwp_types.specs.declared.call.Answer.TheVariants as answer
@@ -43,10 +49,10 @@ use Rattle.lwp_types.specs.declared.call.Mode.TheVariants as mode
 use Rattle.lwp_types.specs.declared.rows.Block.TheVariants as block
 use Rattle.lwp_types.specs.declared.rows.Mark.TheVariants as mark
 
--- the number of the next exit procedure, how often the clock has ticked, how many threads and agents were born, and how many
--- procedures there are
-abbrev pub counters : State → ℕ × ℕ × ℕ × ℕ
-counters s = (s.next_registration, s.now, s.births, s.procs)
+-- the number of the next exit procedure, how often the clock has ticked, how many threads and agents were born, how many
+-- procedures there are, and how many may be born
+abbrev pub counters : State → ℕ × ℕ × ℕ × ℕ × ℕ
+counters s = (s.next_registration, s.now, s.births, s.procs, s.limit)
 
 -- no number was given between these two states, and the clock didn't tick
 abbrev pub NoneGiven : State → State → Type 0
@@ -199,30 +205,42 @@ record Numbers (s : State) (t : ℕ) (c : Call) (made : Case) : Type 0 where
   still : made.after.now ≡ s.now
   procs : made.after.procs ≡ s.procs
   born : bears c ≡ false → made.after.births ≡ s.births
+  limit : made.after.limit ≡ s.limit
+  few : s.births ≤ s.limit → made.after.births ≤ s.limit
 
 -- a call that sets none
 plain : (s : State) (t : ℕ) (c : Call) (made : Case) → sets_of_call any_exit s t c ≡ 0 → NoneGiven s made.after → Numbers s t c made
 plain s t c made never none = record {
-  next = omega (arith, never, ap (λ (k : ℕ × ℕ × ℕ × ℕ). k.0) none);
-  still = ap (λ (k : ℕ × ℕ × ℕ × ℕ). k.1) none;
-  procs = ap (λ (k : ℕ × ℕ × ℕ × ℕ). k.3) none;
-  born = λ is. ap (λ (k : ℕ × ℕ × ℕ × ℕ). k.2) none;
+  next = omega (arith, never, ap (λ (k : ℕ × ℕ × ℕ × ℕ × ℕ). k.0) none);
+  still = ap (λ (k : ℕ × ℕ × ℕ × ℕ × ℕ). k.1) none;
+  procs = ap (λ (k : ℕ × ℕ × ℕ × ℕ × ℕ). k.3) none;
+  born = λ is. ap (λ (k : ℕ × ℕ × ℕ × ℕ × ℕ). k.2) none;
+  limit = ap (λ (k : ℕ × ℕ × ℕ × ℕ × ℕ). k.4) none;
+  few = λ was. let e = ap (λ (k : ℕ × ℕ × ℕ × ℕ × ℕ). k.2) none in omega (arith, was, e);
 }
 
 -- one that may bear a thread or an agent
+-- a limit that isn't reached
+not_le : (a b : ℕ) → nat_le a b ≡ false → b < a
+not_le a b e = leb-false a b e
+
 bearing : (s : State) (t : ℕ) (c : Call) (checks : List Check) (otherwise : Case) → sets_of_call any_exit s t c ≡ 0 → bears c ≡ true
     → otherwise.after.next_registration ≡ s.next_registration → otherwise.after.now ≡ s.now → otherwise.after.procs ≡ s.procs
+    → otherwise.after.limit ≡ s.limit → otherwise.after.births ≡ s.births + 1 → (Passed checks → nat_le s.limit s.births ≡ false)
     → Numbers s t c (unless s checks otherwise)
-bearing s t c checks otherwise never is number clock count = record {
+bearing s t c checks otherwise never is number clock count most one_more below = record {
   next = omega (arith, never, unless_keeps (λ (after : State). after.next_registration ≡ s.next_registration) s checks otherwise refl (λ passed. number));
   still = unless_keeps (λ (after : State). after.now ≡ s.now) s checks otherwise refl (λ passed. clock);
   procs = unless_keeps (λ (after : State). after.procs ≡ s.procs) s checks otherwise refl (λ passed. count);
+  limit = unless_keeps (λ (after : State). after.limit ≡ s.limit) s checks otherwise refl (λ passed. most);
+  few = λ was. unless_keeps (λ (after : State). after.births ≤ s.limit) s checks otherwise was
+      (λ passed. let lt = not_le s.limit s.births (below passed) in omega (arith, lt, one_more));
   born = λ off. let bad : true ≡ false = sym is ∙ off in absurd (cc);
 }
 
 -- of every call: the last line is for each that is refused by its checks or else leaves these counts as they are
 case_numbers : (s : State) (t : ℕ) (c : Call) → Numbers s t c (case_of s t c)
-case_numbers s t (call.Create number prio flags) = bearing s t _ _ _ refl refl refl refl refl
+case_numbers s t (call.Create number prio flags) = bearing s t _ _ _ refl refl refl refl refl refl refl (λ p. p.1.1.1.0)
 case_numbers s t (call.Destroy u) = plain s t _ _ refl (none_unless s _ _ (none_destroyed s t u))
 case_numbers s t (call.Sleep ticks) =
     plain s t _ _ refl (none_cond s (eqb ticks 0) (value_case s 0) (silent_case (still (after_block_for s t block.Sleeping ticks))) refl refl)
@@ -253,12 +271,14 @@ case_numbers s t (call.OnExit x) = record {
   still = unless_keeps (λ (after : State). after.now ≡ s.now) s _ _ refl (λ passed. refl);
   procs = unless_keeps (λ (after : State). after.procs ≡ s.procs) s _ _ refl (λ passed. refl);
   born = λ is. unless_keeps (λ (after : State). after.births ≡ s.births) s _ _ refl (λ passed. refl);
+  limit = unless_keeps (λ (after : State). after.limit ≡ s.limit) s _ _ refl (λ passed. refl);
+  few = λ was. unless_keeps (λ (after : State). after.births ≤ s.limit) s _ _ was (λ passed. was);
 }
 case_numbers s t (call.Raise q) = plain s t _ _ refl (none_unless s _ _ (none_matched s (catch_case s t q) (handler_of s t q) (λ f. none_caught s t q f)))
 case_numbers s t (call.ExcNotify q) =
     plain s t _ _ refl (none_unless s _ _ (none_matched s (λ f. excnotify_case_by s t q f f.func) (handler_of s t q) (λ f. none_notified s t q f f.func)))
 case_numbers s t (call.Bound q) = plain s t _ _ refl (none_unless s _ _ (none_matched s _ (handler_of s t q) (λ f. refl)))
-case_numbers s t (call.Agent e) = bearing s t _ _ _ refl refl refl refl refl
+case_numbers s t (call.Agent e) = bearing s t _ _ _ refl refl refl refl refl refl refl (λ p. p.1.1.0)
 case_numbers s t call.Agents = plain s t _ _ refl refl
 case_numbers s t (call.Trap e) = plain s t _ _ refl refl
 case_numbers s t (call.Say text) = plain s t _ _ refl refl
@@ -301,25 +321,67 @@ steps_bear_none s c is = by_choice (choice s)
 
 -- what a delivery leaves as it was: it makes a tick, or nothing else than others
 delivered_so : (s : State) (e : ℕ) (text : List ℕ)
-    → counters (deliver s e text).after ≡ (s.next_registration, cond (eqb e 0) (s.now + 1) s.now, s.births, s.procs)
+    → counters (deliver s e text).after ≡ (s.next_registration, cond (eqb e 0) (s.now + 1) s.now, s.births, s.procs, s.limit)
 unfolding deliver and_then
 delivered_so s e text = by_clock (eqb e 0)
   where
     by_clock : (b : Bool)
         → counters (cond b (tick s) (for_each (deliver_to text) (event_agents s.agents e) s)).after
-        ≡ (s.next_registration, cond b (s.now + 1) s.now, s.births, s.procs)
+        ≡ (s.next_registration, cond b (s.now + 1) s.now, s.births, s.procs, s.limit)
     by_clock true = none_each time_out (λ u now. refl) (due_threads (after_tick s)) (after_tick s)
     by_clock false = none_each (deliver_to text)
         (λ row now. none_posted (message text row) (record now { agents = with_holding row.number true now.agents })) (event_agents s.agents e) s
 
 pub deliveries_number_none : DeliveriesNumberNone
-deliveries_number_none s e text = ap (λ (k : ℕ × ℕ × ℕ × ℕ). k.0) (delivered_so s e text)
+deliveries_number_none s e text = ap (λ (k : ℕ × ℕ × ℕ × ℕ × ℕ). k.0) (delivered_so s e text)
 
 pub deliveries_tick : DeliveriesTick
-deliveries_tick s e text = ap (λ (k : ℕ × ℕ × ℕ × ℕ). k.1) (delivered_so s e text)
+deliveries_tick s e text = ap (λ (k : ℕ × ℕ × ℕ × ℕ × ℕ). k.1) (delivered_so s e text)
 
 pub deliveries_bear_none : DeliveriesBearNone
-deliveries_bear_none s e text = ap (λ (k : ℕ × ℕ × ℕ × ℕ). k.2) (delivered_so s e text)
+deliveries_bear_none s e text = ap (λ (k : ℕ × ℕ × ℕ × ℕ × ℕ). k.2) (delivered_so s e text)
 
 pub deliveries_keep_procs : DeliveriesKeepProcs
-deliveries_keep_procs s e text = ap (λ (k : ℕ × ℕ × ℕ × ℕ). k.3) (delivered_so s e text)
+deliveries_keep_procs s e text = ap (λ (k : ℕ × ℕ × ℕ × ℕ × ℕ). k.3) (delivered_so s e text)
+
+-- no call bears more than the limit allows
+pub steps_keep_limit : StepsKeepTheLimit
+unfolding step step_by
+steps_keep_limit s c was = by_choice (choice s)
+  where
+    by_choice : (o : Option ℕ) → ((step_if s c o).after.births ≤ s.limit) × ((step_if s c o).after.limit ≡ s.limit)
+    by_choice None = (was, refl)
+    by_choice (Some t) = ((case_numbers s t c).few was, (case_numbers s t c).limit)
+
+-- ---- births in a session
+
+-- no more were born than may be, of so many in all
+abbrev AreFew : ℕ → State → Type 0
+AreFew most s = (s.births ≤ s.limit) × (s.limit ≡ most)
+
+few_step : (most : ℕ) (s : State) (c : Call) → AreFew most s → AreFew most (step s c).after
+few_step most s c was = let k = steps_keep_limit s c was.0 in ((let a = k.0 in let b = k.1 in omega (arith, a, b)), k.1 ∙ was.1)
+
+few_delivery : (most : ℕ) (s : State) (e : ℕ) (text : List ℕ) → AreFew most s → AreFew most (deliver s e text).after
+few_delivery most s e text was =
+    let born = deliveries_bear_none s e text in
+    let same = ap (λ (k : ℕ × ℕ × ℕ × ℕ × ℕ). k.4) (delivered_so s e text) in
+    ((let a = was.0 in omega (arith, a, born, same)), same ∙ was.1)
+
+few_move : (most : ℕ) (es : EventState) (m : EventMove) → AreFew most es.state → AreFew most (event_move es m).after.state
+few_move most es (ToCall c) was = call_keeps (AreFew most) (λ s arms text few. few_delivery most s rites_event text few) es c
+    (λ t chosen free. few_step most es.state c was) (λ t chosen d own. few_step most es.state d was) was
+few_move most es (ToTake e text) was = take_keeps (AreFew most) es e text (λ free. few_delivery most es.state e text was) was
+
+few_moves : (most : ℕ) (moves : List EventMove) (es : EventState) → AreFew most es.state → AreFew most (after_moves moves es).state
+few_moves most [] es was = was
+few_moves most (m ∷ moves) es was = few_moves most moves (event_move es m).after (few_move most es m was)
+
+pub births_are_limited : (B : Type 0) → BirthsAreLimited B
+births_are_limited B setting some_may takes n h =
+    let moved = sessions_are_moves B setting takes n h in
+    let few = few_moves setting.params.births moved.moves (quiet_events (opening setting.params)) (some_may, refl) in
+    let at_end = ap (λ (es : EventState). es.state.births) moved.pod_is in
+    let a = few.0 in
+    let b = few.1 in
+    omega (arith, a, b, at_end)

@@ -3,3 +3,4 @@ pub mod Sessions
 pub mod Exits
 pub mod Deaths
 pub mod Events
+pub mod StepByStep

@@ -5,7 +5,11 @@ use Rattle.lwp_types.specs.State.{State}
 use Rattle.lwp_types.specs.Step.{step}
 use Rattle.lwp_types.specs.declared.call.Call.{Call}
 use Rattle.pod_laws.specs.Once.{ExitTest, sets_of_step}
-use Rattle.std.specs.Prelude.{Bool, List, false, if◌then◌else◌, true, ℕ, ◌+◌, ◌==◌, ◌≡◌}
+use Rattle.pod_runner.specs.Due.{IsDefined}
+use Rattle.pod_runner.specs.Play.{play}
+use Rattle.pod_runner.specs.Session.{Setting}
+use Rattle.pod_runner.specs.declared.session.Took.{Took}
+use Rattle.std.specs.Prelude.{Bool, List, false, if◌then◌else◌, true, ℕ, ◌+◌, ◌==◌, ◌≡◌, ◌≤◌}
 use Rattle.lwp_types.specs.declared.call.Call.TheVariants as call
 
 -- every exit procedure passes
@@ -44,6 +48,17 @@ StepsBearNone = (s : State) (c : Call) → bears c ≡ false → (step s c).afte
 -- nor by a delivery
 abbrev pub DeliveriesBearNone : Type 0
 DeliveriesBearNone = (s : State) (e : ℕ) (text : List ℕ) → (deliver s e text).after.births ≡ s.births
+
+-- where no more were born than the limit allows, it is so after each call, and the limit stays
+abbrev pub StepsKeepTheLimit : Type 0
+StepsKeepTheLimit = (s : State) (c : Call) → s.births ≤ s.limit
+    → ((step s c).after.births ≤ s.limit) × ((step s c).after.limit ≡ s.limit)
+
+-- whatever bodies do, and whenever lines are taken, no more threads and agents are born than the pod's limit allows
+abbrev pub BirthsAreLimited : Type 0 → Type 0
+BirthsAreLimited B = (setting : Setting B) → 1 ≤ setting.params.births
+    → (takes : List Took) (n : ℕ) → IsDefined setting takes n
+    → (play setting takes n).live.pod.state.births ≤ setting.params.births
 
 -- as many procedures as the pod began with there are always
 abbrev pub StepsKeepProcs : Type 0

@@ -7,8 +7,9 @@
 //! | the dead have run all that they had set, and run nothing more | `TheDeadHaveRunTheirExits` (`specs/Exits.antt`), `TheDeadRunNothing` (`specs/Deaths.antt`) |
 //! | the dead are forgotten, and nobody dies twice | `TheDeadStayForgotten`, `EachDiesOnce` (`specs/Deaths.antt`) |
 //! | each number is given to one of them, in order | `EachNumberIsGivenOnce` (`specs/Exits.antt`), `StepsNumberExits`, `DeliveriesNumberNone` (`specs/Numbers.antt`) |
-//! | the clock ticks by lines of its event alone; only Create and Agent bear anybody; the number of procedures stays | `StepsKeepTheClock`, `DeliveriesTick`, `StepsBearNone`, `DeliveriesBearNone`, `StepsKeepProcs`, `DeliveriesKeepProcs` (`specs/Numbers.antt`) |
+//! | the clock ticks by lines of its event alone; only Create and Agent bear anybody, and no more than the limit allows; the number of procedures stays | `StepsKeepTheClock`, `DeliveriesTick`, `StepsKeepTheLimit`, `BirthsAreLimited`, `StepsBearNone`, `DeliveriesBearNone`, `StepsKeepProcs`, `DeliveriesKeepProcs` (`specs/Numbers.antt`) |
 //! | each death of an unmarked thread is reported once, in order, or waits; each line taken as a trap is raised once, or is to be | `PodEventsAreExact` (`specs/Events.antt`) |
+//! | each step of a session is one move of its pod, with its effects, or none; and from any step on reports and traps are exact | `SessionsAreStepwise` (`specs/StepByStep.antt`) |
 //! | no event is both trapped and heard by an agent | `TrapsHaveNoHearers` (`specs/Events.antt`) |
 //!
 //! `InEverySession` (`specs/Sessions.antt`) is said of all sessions that there are: whatever bodies do and whenever lines are
@@ -23,8 +24,9 @@
 ghost use Rattle.session_laws.specs.Deaths.{EachDiesOnce, TheDeadRunNothing, TheDeadStayForgotten};
 ghost use Rattle.session_laws.specs.Events.{PodEventsAreExact, TrapsHaveNoHearers};
 ghost use Rattle.session_laws.specs.Exits.{EachExitHasItsFate, EachExitOnce, EachNumberIsGivenOnce, EachSetExitOnce, TheDeadHaveRunTheirExits};
-ghost use Rattle.session_laws.specs.Numbers.{DeliveriesBearNone, DeliveriesKeepProcs, DeliveriesNumberNone, DeliveriesTick, StepsBearNone, StepsKeepProcs, StepsKeepTheClock, StepsNumberExits};
+ghost use Rattle.session_laws.specs.Numbers.{BirthsAreLimited, DeliveriesBearNone, DeliveriesKeepProcs, DeliveriesNumberNone, DeliveriesTick, StepsBearNone, StepsKeepProcs, StepsKeepTheClock, StepsKeepTheLimit, StepsNumberExits};
 ghost use Rattle.session_laws.specs.Sessions.{InEverySession};
+ghost use Rattle.session_laws.specs.StepByStep.{SessionsAreStepwise};
 
 use lwp_types::Body;
 
@@ -98,6 +100,16 @@ pub fn every_birth_by_a_delivery()
     ensures { DeliveriesBearNone }
 {}
 
+/// Where no more were born than the limit allows, it is so after each call; and the limit stays.
+pub fn every_call_of_the_limit()
+    ensures { StepsKeepTheLimit }
+{}
+
+/// So in every session: no more threads and agents are born than its pod's limit allows.
+pub fn every_birth_of_a_session<B: Body>()
+    ensures { BirthsAreLimited B }
+{}
+
 /// A call leaves the number of procedures as it is.
 pub fn every_call_of_the_procedures()
     ensures { StepsKeepProcs }
@@ -112,6 +124,12 @@ pub fn every_delivery_of_the_procedures()
 /// a trap is raised once, or is to be.
 pub fn every_pod_event<B: Body>()
     ensures { PodEventsAreExact B }
+{}
+
+/// A session's own steps, one by one: each is one move of the pod that could be made there, with the move's effects, a take exactly
+/// where the step is one; a step in which nobody calls is none. From any step on, what is reported and what is raised is exact.
+pub fn every_step<B: Body>()
+    ensures { SessionsAreStepwise B }
 {}
 
 /// No event is both trapped and heard by an agent.
