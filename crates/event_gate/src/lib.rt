@@ -13,9 +13,10 @@
 //! With the queue goes a gauge (`specs/Gauge.antt`), a word that counts tickets. A post draws one before its push, and
 //! its line brings it along; a post that is refused gives it back, and the taker takes it in with the line. A take
 //! answers `None` only where the queue was found empty and then all tickets were the taker's own (`FindsNothing`): so
-//! no line was queued at that step, and no post was under way (`every_find`). The crate stands on the words of
-//! `lwp_types`, on the event marks of `lists`, on the kit's `crossbeam_queue` for the queue and on its `atomic_table`
-//! for the gauge.
+//! no line was queued at that step, and no post was under way. What makes this more than a number that the taker keeps is the
+//! stamp of each post, the number of finds when it was announced: no step of any kind can count a find while somebody
+//! else has a ticket, and keep the rule (`every_true_find`). The crate stands on the words of `lwp_types`, on the event marks
+//! of `lists`, on the kit's `crossbeam_queue` for the queue and on its `atomic_table` for the gauge.
 #![tactic(auto)]
 
 mod again;

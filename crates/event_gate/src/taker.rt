@@ -125,7 +125,7 @@ impl<'s> Taker<'s> {
 
     /// Takes the next line. `None` exactly where a step of this call found that all tickets were taken in. A post draws one
     /// before its push, which its line brings along or which goes back where the post is refused. So at that step no post
-    /// was under way, and each that was announced before and not refused was among the lines taken (`every_find`).
+    /// was under way, and each that was announced before and not refused was among the lines taken (`every_true_find`).
     pub fn take<R: Wait>(&mut self, rt: &R) -> Option<Line<'s>>
         ensures line { IfSome result (TakesLine self.old self.new) }
         ensures nothing { IfNone result (FindsNothing self.old self.new) }
