@@ -5,3 +5,5 @@ pub mod Places
 pub mod Turns
 pub mod Sessions
 pub mod Stores
+pub mod Keys
+pub mod KeyLaws

@@ -1,12 +1,15 @@
 // The entries of a table, in the order of their keys.
+ghost use Rattle.keys.specs.Numbers.{list_numbers};
+ghost use Rattle.line_server.specs.Keys.{entry_numbers};
 ghost use Rattle.line_server.specs.Places.{AreInOrder, IsPlace};
 ghost use Rattle.line_server.specs.Tables.{at_key, key_cmp};
 ghost use Rattle.std.specs.BTreeMap.{insert_entry, is_at};
 ghost use Rattle.std.specs.Map.{remove_entry};
 ghost use Rattle.std.specs.Option.{option_map};
-ghost use Rattle.std.specs.Prelude.{◌≡◌, if◌then◌else◌, is_err, is_none, is_ok, is_some, IfOk};
+ghost use Rattle.std.specs.Prelude.{◌≡◌, ◌++◌, if◌then◌else◌, is_err, is_none, is_ok, is_some, IfOk, OnOk};
 
 use crate::entry::Entry;
+use keys::Key;
 use lwp_types::NoMemory;
 use std::alloc::AllocError;
 use std::cmp::Ordering;
@@ -101,4 +104,15 @@ pub fn again<'s>(entries: &Vec<Entry<'s>>) -> Result<Vec<Entry<'s>>, AllocError>
         copy.push_reserved(entry.again());
     }
     Ok(copy)
+}
+
+/// Writes how many entries there are, and each of them.
+pub fn put_numbers(entries: &[Entry], key: &mut Key) -> Result<(), AllocError>
+    ensures { OnOk result (key.new ≡ key.old ++ list_numbers entry_numbers entries.now) }
+{
+    key.put(entries.len() as u64)?;
+    for entry in entries {
+        entry.put_numbers(key)?;
+    }
+    Ok(())
 }

@@ -1,10 +1,13 @@
 // A key of a table, and what the table keeps for it.
+ghost use Rattle.line_server.specs.Keys.{entry_numbers};
 ghost use Rattle.line_server.specs.Tables.{key_cmp, value_reply};
 ghost use Rattle.lwp_types.specs.TextFields.{is_printable};
-ghost use Rattle.std.specs.Prelude.{◌≡◌, ◌≤◌, length, IsTrue};
+ghost use Rattle.std.specs.Prelude.{◌≡◌, ◌++◌, ◌≤◌, length, IsTrue, OnOk};
 
 use crate::kept::Kept;
+use keys::Key;
 use lwp_types::Text;
+use std::alloc::AllocError;
 use std::cmp::Ordering;
 use std::marker::Model;
 
@@ -59,5 +62,18 @@ impl<'s> Entry<'s> {
         ensures { result ≡ self.now.1 }
     {
         self.kept.text()
+    }
+
+    /// Writes the key, and what a get of it is told, each after its length.
+    pub fn put_numbers(&self, key: &mut Key) -> Result<(), AllocError>
+        ensures { OnOk result (key.new ≡ key.old ++ entry_numbers self.now) }
+    {
+        key.put(self.key.len() as u64)?;
+        key.put_each(self.key)?;
+        let text = self.kept.text();
+        key.put(text.len() as u64)?;
+        let (lead, rest) = text.parts();
+        key.put_each(lead)?;
+        key.put_each(rest)
     }
 }

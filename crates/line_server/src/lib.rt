@@ -6,8 +6,8 @@
 //! (`senders_are_apart`), so what a client is answered is a function of its lines alone (`line_answers` in `specs/Tables.antt`).
 //!
 //! Tables stand in std's ordered map, and the keys of a table, 100 at most, in their order in a vector: anyone who chooses the
-//! keys can't make a look-up cost more than a walk down a balanced tree and a search by halves. The crate stands on
-//! `lwp_types` alone.
+//! keys can't make a look-up cost more than a walk down a balanced tree and a search by halves. Both procedures write
+//! themselves into keys (`specs/Keys.antt`). The crate stands on `lwp_types` and `keys`.
 #![tactic(auto)]
 
 mod calls;

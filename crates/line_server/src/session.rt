@@ -1,5 +1,6 @@
 // A thread that serves the client of one event.
 ghost use Rattle.line_server.specs.Sessions.{session_receives, session_returns, session_replies, session_next, session_next-keeps_lengths, session_opening, session_turn_after_letter, session_reads, session_turn_after_reply, session_turn_after_agent, session_at, session_by};
+ghost use Rattle.line_server.specs.Keys.{session_place_number};
 ghost use Rattle.line_server.specs.Tables.{is_quit};
 ghost use Rattle.line_server.specs.declared.session.SessionPlace.TheVariants as place_kind;
 ghost use Rattle.lwp_types.specs.TextFields.{is_text};
@@ -9,7 +10,9 @@ ghost use Rattle.std.specs.Prelude.{◌≡◌, IsTrue, codes, if◌then◌else�
 use crate::calls::{set_agent, set_recv, set_reply, set_return, set_send, set_word};
 use crate::command::command_of;
 use crate::words::was_replied;
+use keys::{Key, Keyed};
 use lwp_types::{Again, Answer, Body, Call, Env, NULL_TID, NoMemory, Polled, Text, Tid};
+use std::alloc::AllocError;
 use std::marker::Model;
 
 /// What a session's last call was.
@@ -213,4 +216,38 @@ impl Again for SessionBody {
             place: self.place,
         })
     }
+}
+
+fn place_number(place: SessionPlace) -> u64
+    ensures { result ≡ session_place_number place }
+{
+    match place {
+        SessionPlace::Start => 0,
+        SessionPlace::Agent => 1,
+        SessionPlace::Recv => 2,
+        SessionPlace::Send => 3,
+        SessionPlace::Reply => 4,
+        SessionPlace::Bye => 5,
+        SessionPlace::End => 6,
+    }
+}
+
+impl Keyed for SessionBody {
+    ghost use Rattle.keys.specs.Numbers.{Always};
+    ghost use Rattle.line_server.specs.Keys.{session_numbers};
+    ghost use Rattle.line_server.specs.KeyLaws.{session_is_code};
+
+    ghost Home = { Unit {0} };
+
+    ghost is_of = { λ home. Always };
+
+    ghost numbers = { session_numbers };
+
+    fn put(&self, key: &mut Key) -> Result<(), AllocError> {
+        key.put_all(&[self.event as u64, self.store as u64])?;
+        key.put_turned(self.agent.number)?;
+        key.put(place_number(self.place))
+    }
+
+    ghost told_apart = { λ home. session_is_code.apart };
 }

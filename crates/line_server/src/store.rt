@@ -1,12 +1,15 @@
 // A thread that keeps tables for those that send to it.
 ghost use Rattle.line_server.specs.Stores.{store_by, store_next, store_next-keeps_lengths, store_opening, store_receives, store_turn_after_letter, store_turn_after_reply, store_tells, served_sender, tables_after};
-ghost use Rattle.std.specs.Prelude.{◌≡◌, IfOk, OnOk};
+ghost use Rattle.keys.specs.Numbers.{list_numbers};
+ghost use Rattle.line_server.specs.Keys.{store_place_number, table_numbers};
+ghost use Rattle.std.specs.Prelude.{◌≡◌, ◌++◌, IfOk, OnOk};
 
 use crate::calls::{set_recv, set_reply, set_return, set_word};
 use crate::table::Table;
 use crate::words::was_replied;
+use keys::{Key, Keyed};
 use lwp_types::{Again, Answer, Body, Call, Env, LwpErr, NULL_TID, NoMemory, Polled, Text, Tid};
-use std::alloc::Global;
+use std::alloc::{AllocError, Global};
 use std::collections::BTreeMap;
 use std::marker::Model;
 
@@ -175,4 +178,47 @@ impl<'s> Again for StoreBody<'s> {
             place: self.place,
         })
     }
+}
+
+fn place_number(place: StorePlace) -> u64
+    ensures { result ≡ store_place_number place }
+{
+    match place {
+        StorePlace::Start => 0,
+        StorePlace::Recv => 1,
+        StorePlace::Reply => 2,
+        StorePlace::Empty => 3,
+    }
+}
+
+// How many senders there are, and each with its table.
+fn put_tables<'s>(tables: &BTreeMap<u64, Table<'s>>, key: &mut Key) -> Result<(), AllocError>
+    ensures { OnOk result (key.new ≡ key.old ++ list_numbers table_numbers tables.now.entries) }
+{
+    key.put(tables.len() as u64)?;
+    for (sender, table) in tables {
+        key.put(*sender)?;
+        table.put_numbers(key)?;
+    }
+    Ok(())
+}
+
+impl<'s> Keyed for StoreBody<'s> {
+    ghost use Rattle.keys.specs.Numbers.{Always};
+    ghost use Rattle.line_server.specs.Keys.{store_numbers};
+    ghost use Rattle.line_server.specs.KeyLaws.{store_is_code};
+
+    ghost Home = { Unit {0} };
+
+    ghost is_of = { λ home. Always };
+
+    ghost numbers = { store_numbers };
+
+    fn put(&self, key: &mut Key) -> Result<(), AllocError> {
+        key.put_turned(self.client.number)?;
+        key.put(place_number(self.place))?;
+        put_tables(&self.tables, key)
+    }
+
+    ghost told_apart = { λ home. store_is_code.apart };
 }

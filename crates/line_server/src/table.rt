@@ -1,12 +1,15 @@
 // What one client has put into a store.
+ghost use Rattle.keys.specs.Numbers.{list_numbers};
 ghost use Rattle.line_server.specs.Commands.{command_of};
+ghost use Rattle.line_server.specs.Keys.{entry_numbers};
 ghost use Rattle.line_server.specs.Tables.{at_key, served_text, served_put, served_del, get_reply};
 ghost use Rattle.lwp_types.specs.TextFields.{is_printable};
-ghost use Rattle.std.specs.Prelude.{◌≡◌, ◌≤◌, [], length, IfOk, IsTrue, OnOk};
+ghost use Rattle.std.specs.Prelude.{◌≡◌, ◌++◌, ◌≤◌, [], length, IfOk, IsTrue, OnOk};
 
 use crate::command::{Asked, command_of};
 use crate::entries;
 use crate::entry::Entry;
+use keys::Key;
 use lwp_types::{NoMemory, Text};
 use std::alloc::{AllocError, Global};
 use std::marker::Model;
@@ -75,6 +78,13 @@ impl<'s> Table<'s> {
         } else {
             Text::lent(b"none")
         }
+    }
+
+    /// Writes how many keys there are, and each with what is kept for it.
+    pub fn put_numbers(&self, key: &mut Key) -> Result<(), AllocError>
+        ensures { OnOk result (key.new ≡ key.old ++ list_numbers entry_numbers self.now) }
+    {
+        entries::put_numbers(&self.entries, key)
     }
 
     /// What a text is replied to. After `NoMemory` the table may be anything.

@@ -9,3 +9,5 @@ pub mod Places
 pub mod Stocked
 pub mod Bodies
 pub mod BodyLaws
+pub mod BodyKeys
+pub mod BodyKeyLaws

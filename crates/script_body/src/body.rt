@@ -5,6 +5,8 @@ ghost use Rattle.script_body.specs.Calls.{call_of};
 ghost use Rattle.script_body.specs.Naming.{after_name};
 ghost use Rattle.script_body.specs.ScriptBody.{script_opening, frame_above, back_at, after_take_caught, after_unhandle, with_frame, after_return, with_sender_by, after_take_by, after_take_refused, after_take_plain, after_take, stmt_after, behind, script_next};
 
+mod keyed;
+
 use crate::calls::{set_call, set_return};
 use crate::frame::Frame;
 use crate::names::{name_by, name_condition, name_monitor, name_thread};

@@ -1,10 +1,12 @@
 // A procedure that was begun and hasn't returned.
-ghost use Rattle.std.specs.Prelude.{◌≡◌, ◌==◌, not, length, slice_get, IfOk, OnOk};
+ghost use Rattle.std.specs.Prelude.{◌≡◌, ◌++◌, ◌==◌, not, length, slice_get, IfOk, OnOk};
+ghost use Rattle.script_body.specs.BodyKeys.{frame_numbers};
 ghost use Rattle.script_body.specs.Frame.{opening_frame, with_handler, without_handler, with_caught};
 
+use keys::Key;
 use lists::cloned;
 use lwp_types::NoMemory;
-use std::alloc::Global;
+use std::alloc::{AllocError, Global};
 use std::marker::Model;
 
 /// The procedure, the place of its next statement, and the places after its handlers.
@@ -102,5 +104,20 @@ impl Frame {
     {
         self.place = place;
         self.handlers.truncate(mark);
+    }
+
+    /// Writes its numbers.
+    pub fn put(&self, key: &mut Key) -> Result<(), AllocError>
+        ensures { OnOk result (key.new ≡ key.old ++ frame_numbers self.now) }
+    {
+        key.put_all(&[
+            self.number as u64,
+            self.place as u64,
+            self.handlers.len() as u64,
+        ])?;
+        for place in &self.handlers {
+            key.put(*place as u64)?;
+        }
+        Ok(())
     }
 }

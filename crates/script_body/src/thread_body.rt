@@ -1,7 +1,9 @@
 // What a thread of a script runs.
 use crate::ScriptBody;
+use keys::{Key, Keyed};
 use line_server::{SessionBody, StoreBody};
 use lwp_types::{Again, Answer, Body, Call, Env, NoMemory, Polled};
+use std::alloc::AllocError;
 
 /// A thread's body: a procedure of statements, or one of the two that are built in.
 #[derive(Drop)]
@@ -45,4 +47,35 @@ impl<'s> Again for ThreadBody<'s> {
             ThreadBody::Storing(body) => ThreadBody::Storing(body.again()?),
         })
     }
+}
+
+impl<'s> Keyed for ThreadBody<'s> {
+    ghost use Rattle.script_body.specs.BodyKeys.{IsBodyOf, body_numbers};
+    ghost use Rattle.script_body.specs.BodyKeyLaws.{body_is_code};
+    ghost use Rattle.script_text.specs.declared.script.Script.{Script};
+
+    ghost Home = { Script };
+
+    ghost is_of = { IsBodyOf };
+
+    ghost numbers = { body_numbers };
+
+    fn put(&self, key: &mut Key) -> Result<(), AllocError> {
+        match self {
+            ThreadBody::Scripted(body) => {
+                key.put(0)?;
+                body.put(key)
+            }
+            ThreadBody::Serving(body) => {
+                key.put(1)?;
+                body.put(key)
+            }
+            ThreadBody::Storing(body) => {
+                key.put(2)?;
+                body.put(key)
+            }
+        }
+    }
+
+    ghost told_apart = { body_is_code };
 }
