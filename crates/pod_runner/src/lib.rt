@@ -14,6 +14,7 @@
 //!
 //! `Run::again` gives an equal run in memory of its own: either then goes on by itself, which a search over all sessions needs. Texts are
 //! lent, so both share them.
+//! `Run::pod`, `rows` and `names` tell how a session stands, part by part, for a key of it.
 //!
 //! The crate stands on the pod of `lwp_calls`, the events of `pod_events`, the gates and inlets of `event_gate` and the lines of
 //! `trace_text`, for every kind of body, program, gate, inlet and sink.
@@ -32,6 +33,7 @@ mod row_list;
 mod rows;
 mod session;
 mod snapshot;
+mod stands;
 mod take_list;
 
 pub use drive::{go_round, run};
