@@ -7,7 +7,7 @@ use Rattle.snapshots.specs.declared.pod.ThreadCopy.{ThreadCopy}
 use Rattle.pod_events.specs.Events.{EventState, is_takeable}
 use Rattle.state_text.specs.Covers.{IsCovered}
 use Rattle.state_text.specs.Keys.{IsAbsent}
-use Rattle.state_text.specs.Text.{cycle_line, is_wanted, taken_of}
+use Rattle.state_text.specs.Text.{is_wanted, taken_of}
 use Rattle.state_text.specs.Waiting.{cycle_from, cycles, next_of}
 use Rattle.state_text.specs.declared.clients.ClientLines.{ClientLines}
 use Rattle.std.proofs.Common.{Bool, List, None, Option, Some, [], ap, append-nil, append_assoc, arith, cond, drop, false, get_or}
@@ -86,26 +86,25 @@ module _ (copy : StateCopy) (found : List ℕ) (t : ℕ) (covered : IsCovered (n
       by_option None no_such = refl
       by_option (Some us) no_such = absurd (no_such refl)
 
--- a list of cycles, row by row
-module _ (s : State) (out end : List ℕ) (rows : List ThreadCopy) (i : ℕ) (all : out ++ flat_map cycle_line (cycles_from s (drop i rows)) ≡ end) where
+-- cycles, row by row
+module _ (s : State) (found end : List (List ℕ)) (rows : List ThreadCopy) (i : ℕ) (all : found ++ cycles_from s (drop i rows) ≡ end) where
   -- no cycle begins with this thread
-  pub cycle_none : (d : ThreadCopy) → i < length rows → cycle_from s (get_or rows i d).number ≡ None
-      → out ++ flat_map cycle_line (cycles_from s (drop (i + 1) rows)) ≡ end
+  pub cycle_none : (d : ThreadCopy) → i < length rows → cycle_from s (get_or rows i d).number ≡ None → found ++ cycles_from s (drop (i + 1) rows) ≡ end
   cycle_none d lt none =
-      ap (λ o. out ++ flat_map cycle_line (option_to_list o ++ cycles_from s (drop (i + 1) rows))) (sym none)
-      ∙ sym (at_drop_more (λ l. out ++ flat_map cycle_line (cycles_from s l)) rows i d lt)
+      ap (λ o. found ++ (option_to_list o ++ cycles_from s (drop (i + 1) rows))) (sym none)
+      ∙ sym (at_drop_more (λ l. found ++ cycles_from s l) rows i d lt)
       ∙ all
 
   -- a cycle begins with this thread
-  pub cycle_one : (d : ThreadCopy) (cycle next : List ℕ) → i < length rows → cycle_from s (get_or rows i d).number ≡ Some cycle
-      → next ≡ out ++ cycle_line cycle → next ++ flat_map cycle_line (cycles_from s (drop (i + 1) rows)) ≡ end
+  pub cycle_one : (d : ThreadCopy) (cycle : List ℕ) (next : List (List ℕ)) → i < length rows
+      → cycle_from s (get_or rows i d).number ≡ Some cycle → next ≡ found ++ cycle ∷ [] → next ++ cycles_from s (drop (i + 1) rows) ≡ end
   cycle_one d cycle next lt one put =
       let rest = cycles_from s (drop (i + 1) rows) in
       rw put
-      (append_assoc out (cycle_line cycle) (flat_map cycle_line rest)
-      ∙ ap (λ o. out ++ flat_map cycle_line (option_to_list o ++ rest)) (sym one)
-      ∙ sym (at_drop_more (λ l. out ++ flat_map cycle_line (cycles_from s l)) rows i d lt)
+      (append_assoc found (cycle ∷ []) rest
+      ∙ ap (λ o. found ++ (option_to_list o ++ rest)) (sym one)
+      ∙ sym (at_drop_more (λ l. found ++ cycles_from s l) rows i d lt)
       ∙ all)
 
-  pub cycle_all : length rows ≤ i → out ≡ end
-  cycle_all ge = sym (append-nil out) ∙ sym (at_drop_all (λ l. out ++ flat_map cycle_line (cycles_from s l)) rows i ge) ∙ all
+  pub cycle_all : length rows ≤ i → found ≡ end
+  cycle_all ge = sym (append-nil found) ∙ sym (at_drop_all (λ l. found ++ cycles_from s l) rows i ge) ∙ all

@@ -12,7 +12,7 @@ use crate::keys::Keys;
 use crate::tables::Tables;
 use crate::waiting::{awaited, next_of};
 use crate::words::add_threads;
-use lwp_types::{IdList, NoMemory, Tid};
+use lwp_types::{IdList, NoMemory, Sequence, Tid};
 use snapshots::PodCopy;
 use std::alloc::Global;
 use trace_text::add_text;
@@ -132,6 +132,43 @@ fn add_cycle(out: &mut Vec<u8>, cycle: &IdList) -> Result<(), NoMemory>
     add_text(out, b"\n")
 }
 
+// All cycles, each from its least thread on, by the births of these.
+fn cycles_in(alloc: Global, pod: &PodCopy, tables: &Tables) -> Result<Sequence<IdList>, NoMemory>
+    requires { AreTables pod.now.state tables.now }
+    ensures { IfOk result (λ found. found ≡ cycles (state_in pod.now.state)) }
+{
+    let least = least_threads(alloc, pod, tables)?;
+    let mut found = Sequence::new(alloc);
+    for row in pod.state.threads.as_slice() {
+        if is_missing(&least, row.number) {
+            continue;
+        }
+        if let Some(cycle) = cycle_from(alloc, pod, tables, row.number)? {
+            found.push(cycle)?;
+        }
+    }
+    Ok(found)
+}
+
+/// The deadlocks of a pod: cycles of threads of which each waits for the next, and the last for the first. Each is told from its least
+/// thread on, and they come in the order of these threads' births. The cost is that of a pass over the threads, but for a logarithm.
+pub fn cycles_of(alloc: Global, pod: &PodCopy) -> Result<Sequence<IdList>, NoMemory>
+    ensures { IfOk result (λ found. found ≡ cycles (state_in pod.now.state)) }
+{
+    let tables = Tables::of(alloc, pod)?;
+    cycles_in(alloc, pod, &tables)
+}
+
+// A line for each of these cycles.
+fn add_each(out: &mut Vec<u8>, found: &[IdList]) -> Result<(), NoMemory>
+    ensures { OnOk result (out.new.items ≡ out.old.items ++ flat_map cycle_line found.now) }
+{
+    for i in 0..found.len() {
+        add_cycle(out, &found[i])?;
+    }
+    Ok(())
+}
+
 /// A line for each cycle.
 pub(crate) fn add_cycles(
     alloc: Global,
@@ -142,14 +179,7 @@ pub(crate) fn add_cycles(
     requires { AreTables pod.now.state tables.now }
     ensures { OnOk result (out.new.items ≡ out.old.items ++ flat_map cycle_line (cycles (state_in pod.now.state))) }
 {
-    let least = least_threads(alloc, pod, tables)?;
-    for row in pod.state.threads.as_slice() {
-        if is_missing(&least, row.number) {
-            continue;
-        }
-        if let Some(cycle) = cycle_from(alloc, pod, tables, row.number)? {
-            add_cycle(out, &cycle)?;
-        }
-    }
+    let found = cycles_in(alloc, pod, tables)?;
+    add_each(out, found.as_slice())?;
     Ok(())
 }

@@ -1,6 +1,6 @@
 //! The text of a session's state: who lives and how each stands, who holds what, who waits for whom, and how the session is over.
 //!
-//! `state_text` writes a snapshot as lines, with the procedures' names and with how many lines each client posts.
+//! `cycles_of` gives the deadlocks of a pod as lists. `state_text` writes a snapshot as lines, with the procedures' names and with how many lines each client posts.
 //! `specs/Text.antt` gives the text of each line, and `specs/Waiting.antt` whom a thread waits for and which threads
 //! are in a deadlock, a cycle of threads that wait for each other: nobody in a cycle goes on before somebody outside it
 //! steps in. What belongs to a thread, a monitor or a condition is found by halving, and whom a thread waits for is
@@ -24,5 +24,6 @@ mod waiting;
 mod words;
 
 pub use clients::ClientLines;
+pub use cycles::cycles_of;
 pub use laws::{cycles_are_blocked, worked_rows};
 pub use text::state_text;

@@ -4,11 +4,9 @@ use Rattle.state_text.proofs.Finding.{key_of}
 use Rattle.state_text.proofs.Telling.{cycle_all, cycle_none, cycles_of, no_cycle}
 use Rattle.state_text.specs.Covers.{IsCovered}
 use Rattle.state_text.specs.Keys.{IsAbsent, key_at}
-use Rattle.state_text.specs.Text.{cycle_line}
 use Rattle.state_text.specs.Waiting.{next_of}
-use Rattle.std.proofs.Common.{ap, get_or, length, subst, sym, ◌++◌, ◌<◌, ◌∙◌, ◌≡◌}
-use Rattle.std.specs.List.{flat_map}
-use Rattle.state_text.proofs.cycles.add_cycles.Goals as goal
+use Rattle.std.proofs.Common.{ap, get_or, length, subst, sym, ◌<◌, ◌∙◌, ◌≡◌}
+use Rattle.state_text.proofs.cycles.cycles_in.Goals as goal
 
 pub loop-row-preserved-then-is_missing : goal.loop-row-preserved-then-is_missing
 loop-row-preserved-then-is_missing c =
@@ -26,11 +24,11 @@ loop-row-preserved-then-is_missing c =
     subst (λ n. IsCovered (next_of (state_in copy)) (length rows) least n) key_is (c.in_ok-least.ensures i lt) in
     let absent : IsAbsent least (get_or rows i d).number 0 (length least) =
     subst (λ (x : ThreadCopy). IsAbsent least x.number 0 (length least)) here (c.is_missing.ensures c.if-is_missing.true) in
-    cycle_none (state_in copy) c.loop-row.out.items _ rows i c.loop-row.invariant d lt (no_cycle copy least (get_or rows i d).number covered absent)
+    cycle_none (state_in copy) c.loop-row.found _ rows i c.loop-row.invariant d lt (no_cycle copy least (get_or rows i d).number covered absent)
 
 pub returns : goal.returns
 returns c =
     let copy = c.args.pod.now.state in
     let same : c.as_slice-row-items.result.now ≡ copy.threads = c.as_slice-row-items.ensures in
-    cycle_all (state_in copy) c.loop-row.out.items _ copy.threads c.loop-row.row-index c.loop-row.invariant (rw same at c.loop-row-test.false)
-    ∙ ap (λ l. c.args.out.now.items ++ flat_map cycle_line l) (sym (cycles_of copy))
+    cycle_all (state_in copy) c.loop-row.found _ copy.threads c.loop-row.row-index c.loop-row.invariant (rw same at c.loop-row-test.false)
+    ∙ sym (cycles_of copy)
