@@ -1,0 +1,4 @@
+pub mod Alike
+pub mod Turns
+pub mod Reached
+pub mod Played

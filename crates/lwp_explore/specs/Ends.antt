@@ -1,0 +1,114 @@
+-- What is said of the ends of a program's sessions.
+use Rattle.lwp_explore.specs.Cores.{World, after, first_core}
+use Rattle.lwp_explore.specs.Kinds.{IsOfKind}
+use Rattle.lwp_explore.specs.Ways.{length_text, way}
+use Rattle.lwp_explore.specs.declared.kinds.End.{End}
+use Rattle.lwp_explore.specs.declared.kinds.End.TheVariants as end
+use Rattle.lwp_explore.specs.declared.kinds.Kind.{Kind}
+use Rattle.search.specs.Found.{Has, HasBefore, IsDistinct}
+use Rattle.search.specs.Moves.{walk}
+use Rattle.search.specs.Paths.{IsBefore}
+use Rattle.session_cores.specs.Core.{Core}
+use Rattle.state_text.specs.Text.{thread_words}
+use Rattle.state_text.specs.Waiting.{cycles}
+use Rattle.std.specs.List.{count_by, filter, flat_map, list_any, position, sum_by}
+use Rattle.std.specs.Option.{option_map_or}
+use Rattle.std.specs.Prelude.{Bool, List, None, Option, Some, [], codes, decimal, false, if◌then◌else◌, length}
+use Rattle.std.specs.Prelude.{not, slice_get, true, unwrap_or, ℕ, ◌*◌, ◌++◌, ◌+◌, ◌==◌, ◌∷◌, ◌||◌, ◌≡◌, ◌≤◌}
+
+-- ---- what a search finds
+
+-- cores in the order in which they were found, the path to each and its kind; how many steps were tried; and whether these are all
+pub record Searched (B : Type 0) : Type 0 where
+  pub cores : List (Core B)
+  pub paths : List (List ℕ)
+  pub kinds : List (Option Kind)
+  pub tried : ℕ
+  pub whole : Bool
+
+-- this is right, with so many cores at most
+pub record IsSearched {B : Type 0} (world : World B) (limit : ℕ) (found : Searched B) : Type 0 where
+  pub paths : length found.paths ≡ length found.cores
+  pub kinds : length found.kinds ≡ length found.cores
+  -- each path leads to its core
+  pub sound : (at : ℕ) (path : List ℕ) (core : Core B) → slice_get found.paths at ≡ Some path → slice_get found.cores at ≡ Some core
+      → walk (after world) (first_core world) path ≡ Some core
+  -- and to what a path before it leads was found before
+  pub nearest : (at : ℕ) (path other : List ℕ) (core : Core B) → slice_get found.paths at ≡ Some path
+      → walk (after world) (first_core world) other ≡ Some core → IsBefore other path → HasBefore at found.cores core
+  -- each core once
+  pub distinct : IsDistinct found.cores
+  -- they are all cores to which steps lead, or there are more than the limit
+  pub all : found.whole ≡ true → (path : List ℕ) (core : Core B) → walk (after world) (first_core world) path ≡ Some core → Has found.cores core
+  pub few : length found.cores ≤ limit
+  pub full : found.whole ≡ false → length found.cores ≡ limit
+  pub more : found.whole ≡ false → (path : List ℕ) × (core : Core B) × (walk (after world) (first_core world) path ≡ Some core)
+      × (Has found.cores core → ⊥)
+  pub tried : found.tried ≡ sum_by (λ core. length (after world core)) found.cores
+  -- each has its kind; of a cut search some that are endless may not be known to be
+  pub are : (at : ℕ) (core : Core B) (kind : Kind) → slice_get found.cores at ≡ Some core → slice_get found.kinds at ≡ Some (Some kind)
+      → IsOfKind world core kind
+  pub told : (at : ℕ) (core : Core B) (kind : Kind) → slice_get found.cores at ≡ Some core → IsOfKind world core kind
+      → (kind.end ≡ end.Endless → found.whole ≡ true) → slice_get found.kinds at ≡ Some (Some kind)
+
+-- ---- its kinds
+
+-- a number for each kind
+abbrev pub end_number : End → ℕ
+end_number (end.Ended status) = status
+end_number end.Stuck = 100
+end_number end.Endless = 101
+
+abbrev pub is_kind : Kind → Kind → Bool
+is_kind a b = 2 * end_number a.end + (if a.left then 1 else 0) == 2 * end_number b.end + (if b.left then 1 else 0)
+
+-- a core of this kind
+abbrev pub has_kind : Kind → Option Kind → Bool
+has_kind kind o = option_map_or (is_kind kind) o false
+
+-- the kinds, each where it comes first
+abbrev pub kinds_in : List (Option Kind) → List Kind
+kinds_in [] = []
+kinds_in (None ∷ kinds) = kinds_in kinds
+kinds_in (Some kind ∷ kinds) = kind ∷ filter (λ other. not (is_kind kind other)) (kinds_in kinds)
+
+-- ---- as a text
+
+abbrev pub end_name : End → List ℕ
+end_name (end.Ended status) = codes "ended " ++ decimal status
+end_name end.Stuck = codes "stuck"
+end_name end.Endless = codes "endless"
+
+abbrev pub kind_name : Kind → List ℕ
+kind_name kind = end_name kind.end ++ (if kind.left then codes " with lines left" else [])
+
+-- the deadlocks of a core where nobody may run
+abbrev pub cycles_text : {B : Type 0} → End → Core B → List ℕ
+cycles_text (end.Ended status) core = []
+cycles_text end.Stuck core = flat_map (λ threads. codes ", cycle" ++ thread_words threads) (cycles core.pod.state)
+cycles_text end.Endless core = []
+
+-- the line of a kind: how many cores it has, the way to the first, and what is in a deadlock there
+abbrev pub kind_line : {B : Type 0} → World B → Searched B → Kind → List ℕ
+kind_line world found kind = let at = unwrap_or (position (has_kind kind) found.kinds) 0 in
+    kind_name kind ++ (codes ": " ++ (decimal (count_by (has_kind kind) found.kinds) ++ (codes " cores, "
+    ++ (length_text (way world (unwrap_or (slice_get found.paths at) []))
+    ++ (cycles_text kind.end (unwrap_or (slice_get found.cores at) (first_core world)) ++ 10 ∷ [])))))
+
+-- how much was found
+abbrev pub counts_line : {B : Type 0} → Searched B → List ℕ
+counts_line found = codes "states " ++ (decimal (length found.cores) ++ (codes " steps " ++ (decimal found.tried
+    ++ (if found.whole then codes " whole\n" else codes " cut\n"))))
+
+-- all that is said
+abbrev pub ends_text : {B : Type 0} → World B → Searched B → List ℕ
+ends_text world found = counts_line found ++ flat_map (kind_line world found) (kinds_in found.kinds)
+
+-- ---- the status
+
+-- an end other than that of a pod with no line left
+abbrev pub is_bad : Kind → Bool
+is_bad kind = if kind.left then true else end_number kind.end == 100 || end_number kind.end == 101
+
+abbrev pub ends_status : {B : Type 0} → Searched B → ℕ
+ends_status found = if list_any is_bad (kinds_in found.kinds) then 109 else if found.whole then 0 else 110

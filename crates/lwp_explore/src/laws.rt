@@ -1,0 +1,24 @@
+// What holds of every core. There is no code here: the clauses are laws.
+ghost use Rattle.lwp_explore.specs.CoreLaws.{CallsAlike, CoresHaveSessions, SessionsHaveCores, TakesAlike};
+
+use lwp_types::Body;
+
+/// Two sessions with the same core make the same call, which does the same and leads to the same core.
+pub fn every_call<B: Body>()
+    ensures { CallsAlike B }
+{}
+
+/// So they do with each line that is taken.
+pub fn every_take<B: Body>()
+    ensures { TakesAlike B }
+{}
+
+/// Steps lead to the core of each session that a program has, whenever its clients' lines are taken.
+pub fn every_session_core<B: Body>()
+    ensures { SessionsHaveCores B }
+{}
+
+/// Each core that steps lead to is the core of such a session, with a call or a take for each step.
+pub fn every_core_session<B: Body>()
+    ensures { CoresHaveSessions B }
+{}
