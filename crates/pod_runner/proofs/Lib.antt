@@ -19,3 +19,5 @@ pub mod Lives
 pub mod Looks
 pub mod LiveRounds
 pub mod Serving
+pub mod Timing
+pub mod TimedRuns

@@ -1,5 +1,5 @@
 -- One call of a session, by what was found.
-use Rattle.std.proofs.Common.{◌≡◌, ℕ, ◌<◌, ◌≤◌, List, [], length, None, Some, sym, ap, ◌∙◌, refl, arith, inl, inr, true, false, Bool}
+use Rattle.std.proofs.Common.{subst, ◌++◌, ◌≡◌, ℕ, ◌<◌, ◌≤◌, List, [], length, None, Some, sym, ap, ◌∙◌, refl, arith, inl, inr, true, false, Bool}
 use Rattle.std.specs.Prelude.{Option, slice_get, if◌then◌else◌}
 use Rattle.std.proofs.lemmas.Option.{slice_get_past, slice_get_cases}
 use Rattle.pod_events.specs.Machine.{current_of}
@@ -8,7 +8,8 @@ use Rattle.lwp_types.specs.Choice.{choice}
 use Rattle.lwp_types.specs.Names.{Names, names_for_poll}
 use Rattle.lwp_types.specs.Poll.{Next}
 use Rattle.lwp_types.specs.State.{State}
-use Rattle.pod_events.specs.Step.{event_step}
+use Rattle.pod_events.specs.Step.{event_step, leads, leads_if}
+use Rattle.pod_events.specs.Traps.{lead}
 use Rattle.lwp_types.specs.declared.call.Call.{Call}
 use Rattle.lwp_types.specs.declared.call.Effect.{Effect}
 use Rattle.pod_runner.specs.RunParts.{Moves}
@@ -80,6 +81,30 @@ moves_none next bodies procs live t out h past none = let m = move_no_row next b
   lines = none ∙ rw m refl;
 }
 
+-- of whose turn it is the call is told first, unless a trap is raised before it
+pub first_told : (es : EventState) (t : ℕ) (call : Call) (effects : List Effect) → choice es.state ≡ Some t
+    → leads es call ++ effects ≡ (event_step es call).effects → lead es.pending t call ++ effects ≡ (event_step es call).effects
+first_told es t call effects turn told = subst (λ (who : Option ℕ). leads_if es.pending call who ++ effects ≡ (event_step es call).effects) turn told
+
+-- the call itself settles nothing
+pub settled-lead : {B : Type 0} (bodies : List B) (born : Option ℕ) (pending : Option ℕ) (t : ℕ) (call : Call) (effects : List Effect) (rows : List (Row B))
+    → after_settle bodies born effects rows ≡ after_settle bodies born (lead pending t call ++ effects) rows
+settled-lead bodies born None t call effects rows = refl
+settled-lead bodies born (Some e) t call effects rows = refl
+
+-- a call was carried out whose lines are of no matter: the effects are told without the call itself
+pub called_live : {B : Type 0} (next : Next B) (bodies : List B) (live : Live B) (t i : ℕ) (known : Names) (call : Call)
+    (after : EventState) (effects : List Effect) (mid rows : List (Row B)) (names : Names) (born : Option ℕ)
+    → choice live.pod.state ≡ Some t → i ≡ place_of t live.rows → i < length live.rows → known ≡ names_for_poll t live.names
+    → ((row : Row B) → slice_get live.rows i ≡ Some row → Polls next row known call i live.rows mid names)
+    → after ≡ (event_step live.pod call).after → leads live.pod call ++ effects ≡ (event_step live.pod call).effects
+    → born ≡ proc_of call → rows ≡ after_settle bodies born effects mid
+    → record { pod = after; rows = rows; names = names } ≡ (move next bodies live).live
+called_live next bodies live t i known call after effects mid rows names born h at there k polls a e b r =
+    let all = lead live.pod.pending t call ++ effects in
+    (moves_at next bodies [] live t i known call after all mid rows names (step_lines [] None all) born h at there k polls a
+    (first_told live.pod t call effects h e) b (r ∙ settled-lead bodies born live.pod.pending t call effects mid) refl).live
+
 -- a line was taken
 pub taken_moves : {B : Type 0} (bodies : List B) (procs : List (List ℕ)) (live : Live B) (took : Took) (after : EventState)
     (effects : List Effect) (rows : List (Row B)) (out : List ℕ)
@@ -92,3 +117,11 @@ taken_moves bodies procs live took after effects rows out a e r o = record {
   effects = e;
   lines = o ∙ ap (step_lines procs (Some took.line)) e;
 }
+
+-- a line was taken, whose lines are of no matter
+pub taken_live : {B : Type 0} (bodies : List B) (live : Live B) (took : Took) (after : EventState) (effects : List Effect) (rows : List (Row B))
+    → after ≡ (take_event live.pod took.event took.line.text).after → effects ≡ (take_event live.pod took.event took.line.text).effects
+    → rows ≡ after_settle bodies None effects live.rows
+    → record { pod = after; rows = rows; names = live.names } ≡ (take_move bodies took live).live
+taken_live bodies live took after effects rows a e r =
+    (taken_moves bodies [] live took after effects rows (step_lines [] (Some took.line) effects) a e r refl).live

@@ -19,3 +19,5 @@ pub mod SessionMoves
 pub mod Live
 pub mod Inlets
 pub mod Snapshots
+pub mod Virtual
+pub mod KeepsTime

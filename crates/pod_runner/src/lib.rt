@@ -12,6 +12,10 @@
 //! calls were made before which a line of its event could be taken; that a look comes right before its call, no clause says. It is
 //! stuck only where no line will come that can be delivered, and quiet only where some client may post still.
 //!
+//! A `TimedRun` is a run in virtual time: after each call its clock ticks as long as nobody may run and a timer is pending. It keeps
+//! neither takes nor lines, so nothing of it grows with its length; what it comes to is read off its bodies. Its sessions are sessions
+//! like any other, with those ticks as takes (`specs/Virtual.antt`, `every_timed_session`).
+//!
 //! `Run::again` gives an equal run in memory of its own: either then goes on by itself, which a search over all sessions needs. Texts are
 //! lent, so both share them.
 //! `Run::pod`, `rows` and `names` tell how a session stands, part by part, for a key of it.
@@ -35,6 +39,7 @@ mod session;
 mod snapshot;
 mod stands;
 mod take_list;
+mod virtual_time;
 
 pub use drive::{go_round, run};
 pub use inlets::{all_told, serve_all};
@@ -45,3 +50,4 @@ pub use phase::{Phase, RunErr};
 pub use playing::Run;
 pub use session::{Made, Row, Took};
 pub use take_list::TakeList;
+pub use virtual_time::{TimedRun, every_timed_session, run_in_virtual_time};

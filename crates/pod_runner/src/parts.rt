@@ -1,10 +1,11 @@
 // What a run moves: the pod with its own events, each live thread's body, and the names.
-ghost use Rattle.std.specs.Prelude.{◌≡◌, ◌++◌, ◌<◌, ◌≤◌, ◌^◌, IfNone, IfOk, IfSome, OnOk, IsSome, IsTrue, None, Some, [], slice_get, length};
+ghost use Rattle.std.specs.Prelude.{false, ◌≡◌, ◌++◌, ◌<◌, ◌≤◌, ◌^◌, IfNone, IfOk, IfSome, OnOk, IsSome, IsTrue, None, Some, [], slice_get, length, ℕ};
 ghost use Rattle.std.specs.Slice.Scan.{HoldsNowhere, IsFirstPlace};
 ghost use Rattle.lwp_types.specs.State.{opening};
 ghost use Rattle.pod_events.specs.Events.{is_takeable, quiet_events};
 ghost use Rattle.pod_events.specs.Machine.{current_of};
 ghost use Rattle.pod_events.specs.Step.{event_step, leads};
+ghost use Rattle.pod_events.specs.Ticks.{next_due};
 ghost use Rattle.pod_events.specs.Traps.{lead};
 ghost use Rattle.trace_text.specs.Lines.{step_lines};
 ghost use Rattle.pod_runner.specs.Calls.{caller_of, call_of_effects};
@@ -19,7 +20,7 @@ use crate::{Made, Phase, Took};
 use lists::TextList;
 use lwp_calls::Pod;
 use lwp_types::{
-    Again, Body, Call, Effects, Env, NoMemory, PodEnd, PodParams, Polled, Program, Tid,
+    Again, Body, Call, Effects, Env, NoMemory, PodEnd, PodParams, Polled, Program, Text, Tid,
 };
 use pod_events::{Driven, EventPod};
 use std::alloc::Global;
@@ -250,6 +251,100 @@ impl<'s, B: Polled<'s>> RunParts<'s, B> {
         self.caller = caller;
         let born = proc_of(call);
         settle(&mut self.rows, program, born, &self.effects)
+    }
+}
+
+// The clock stops after so many ticks.
+const LAST_TICK: u64 = 4_294_967_295;
+
+impl<'s, B: Polled<'s>> RunParts<'s, B> {
+    ghost use Rattle.pod_runner.specs.RunParts.{live_of};
+    ghost use Rattle.pod_runner.specs.Virtual.{caught_up, is_tick_due, jumped, ticked};
+
+    /// Polls the body of the thread whose turn it is, and makes its call. Of that no lines are made.
+    #[inline(always)]
+    pub(crate) fn turn_untold<P: Program<B>>(&mut self, program: &P) -> Result<(), NoMemory>
+        requires current { IsSome (current_of self.old.pod.state) }
+        ensures { OnOk result
+            (live_of self.new ≡ (move B.next (P.bodies program.now) (live_of self.old)).live) }
+    {
+        let tid = self.pod.current().unwrap();
+        let i = self.rows.place(tid);
+        if i < self.rows.len() {
+            self.make_call_untold(program, tid, i)
+        } else {
+            Ok(())
+        }
+    }
+
+    #[inline(always)]
+    fn make_call_untold<P: Program<B>>(
+        &mut self,
+        program: &P,
+        tid: Tid,
+        i: usize,
+    ) -> Result<(), NoMemory>
+        requires current { current_of self.old.pod.state ≡ Some tid }
+        requires place { i ≡ place_of tid self.old.rows.rows }
+        requires within { i < length self.old.rows.rows }
+        ensures { OnOk result
+            (live_of self.new ≡ (move B.next (P.bodies program.now) (live_of self.old)).live) }
+    {
+        self.env.set_me(tid);
+        self.rows.poll_at(i, &mut self.env)?;
+        let call = self.rows.call_at(i);
+        self.pod.call(call, &mut self.effects)?;
+        let born = proc_of(call);
+        settle(&mut self.rows, program, born, &self.effects)
+    }
+
+    /// Whether nobody may run, the clock can tick, and a timer falls due before the clock stops.
+    #[inline(always)]
+    pub(crate) fn is_tick_due(&self) -> bool
+        ensures { result ≡ is_tick_due (live_of self.now) }
+    {
+        match self.pod.current() {
+            Some(_) => false,
+            None => self.pod.armed(0) && self.pod.next_due() <= LAST_TICK,
+        }
+    }
+
+    // The clock ticks once, and whose timers are due go on.
+    fn tick<P: Program<B>>(&mut self, program: &P) -> Result<(), NoMemory>
+        requires { IsTrue (is_takeable self.old.pod 0) }
+        ensures { OnOk result
+            ((calls : ℕ) → live_of self.new ≡ ticked (P.bodies program.now) calls (live_of self.old)) }
+    {
+        self.pod.deliver(0, Text::empty(), &mut self.effects);
+        settle(&mut self.rows, program, None, &self.effects)
+    }
+
+    // The clock ticks up to right before the first timer falls due.
+    #[inline(always)]
+    fn jump(&mut self)
+        requires { IsTrue (is_tick_due (live_of self.old)) }
+        ensures live { live_of self.new ≡ jumped (live_of self.old) }
+        ensures early { self.old.pod.state.now < next_due self.old.pod.state }
+    {
+        // PROVER: this call shows that the pod's state is lawful, so that each timer is still to fall due.
+        let _turn = self.pod.current();
+        let ticks = self.pod.next_due() - self.pod.now() - 1;
+        self.pod.pass(ticks);
+    }
+
+    /// The clock ticks as long as nobody may run and a timer is pending.
+    #[inline(always)]
+    pub(crate) fn catch_up<P: Program<B>>(&mut self, program: &P) -> Result<(), NoMemory>
+        ensures live { OnOk result
+            ((calls : ℕ) →
+            live_of self.new ≡ caught_up (P.bodies program.now) calls (live_of self.old)) }
+        ensures still { OnOk result (is_tick_due (live_of self.new) ≡ false) }
+    {
+        while self.is_tick_due() {
+            self.jump();
+            self.tick(program)?;
+        }
+        Ok(())
     }
 }
 

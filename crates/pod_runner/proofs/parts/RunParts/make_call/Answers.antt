@@ -9,21 +9,10 @@ use Rattle.pod_runner.specs.RunParts.{live_of}
 use Rattle.pod_runner.specs.Polls.{Rows}
 use Rattle.pod_runner.specs.Session.{after_settle, proc_of}
 use Rattle.pod_runner.specs.declared.session.Row.{Row}
-use Rattle.pod_runner.proofs.Moves.{chosen_from, moves_at}
+use Rattle.pod_runner.proofs.Moves.{chosen_from, first_told, moves_at, settled-lead}
 use Rattle.pod_runner.proofs.Results.{on_ok}
 use Rattle.pod_runner.proofs.parts.RunParts.make_call.Goals as goal
 use Rattle.std.proofs.Common.{List, None, Option, Some, ap, refl, subst, sym, ◌++◌, ◌∙◌, ◌≡◌, ℕ}
-
--- of whose turn it is the call is told first, unless a trap is raised before it
-first_told : (es : EventState) (t : ℕ) (call : Call) (effects : List Effect) → choice es.state ≡ Some t
-    → leads es call ++ effects ≡ (event_step es call).effects → lead es.pending t call ++ effects ≡ (event_step es call).effects
-first_told es t call effects turn told = subst (λ (who : Option ℕ). leads_if es.pending call who ++ effects ≡ (event_step es call).effects) turn told
-
--- the call itself settles nothing
-settled-lead : {B : Type 0} (bodies : List B) (born : Option ℕ) (pending : Option ℕ) (t : ℕ) (call : Call) (effects : List Effect) (rows : List (Row B))
-    → after_settle bodies born effects rows ≡ after_settle bodies born (lead pending t call ++ effects) rows
-settled-lead bodies born None t call effects rows = refl
-settled-lead bodies born (Some e) t call effects rows = refl
 
 -- the call itself stands before the effects, unless a trap is raised before it
 led : (pending : Option ℕ) (t : ℕ) (call : Call) (effects : List Effect) → with_call_by (caller_of pending t) call effects ≡ lead pending t call ++ effects
