@@ -143,7 +143,7 @@ seating_goes_on rooms index port clients p rest old new seat h inside at end few
         let ends : posting_of seat.poster ≡ of_port (posting port c) = end ∙ ap of_port who in
         let ready : HasRoom (port_place port) c (room_of rooms c) (posting_of seat.poster) =
         subst (HasRoom (port_place port) c (room_of rooms c)) (sym ends)
-        (record { place_is = refl; client_is = refl; posted_is = refl; room = (let f = few c in omega (arith, f)) }) in
+        (record { place_is = refl; client_is = refl; posted_is = refl; room = (let f = few c in omega (arith, f)); unrefused = refl }) in
         record {
           done = h.done ++ c ∷ [];
           todo = cs;
@@ -325,7 +325,7 @@ pub seat_ready : (events : List ℕ) (rooms : List ℕ) (inlets : List Intake) (
     → HasRoom (posting_of seat.poster).place (posting_of seat.poster).client (room_of rooms c) (posting_of seat.poster)
 seat_ready events rooms inlets c seat h =
     let r = (h.at (record { place = []; event = 0; taken = []; finds = 0; noted = []; known = [] })).1 in
-    record { place_is = refl; client_is = refl; posted_is = r.posted_is; room = r.room }
+    record { place_is = refl; client_is = refl; posted_is = r.posted_is; room = r.room; unrefused = r.unrefused }
 
 pub out_of_seat : (events rooms : List ℕ) (texts : List (List (List ℕ))) (inlets : List Intake) (c : ℕ) (seat : Seat) (client : Client)
     → HasSeat events rooms inlets c (Some seat) → client.inlet ≡ seat.inlet

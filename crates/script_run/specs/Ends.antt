@@ -13,20 +13,28 @@ use Rattle.std.specs.Prelude.{List, [], ◌++◌, ◌∷◌, cond, eqb, false, l
 use Rattle.script_run.specs.declared.poster.AnyPass.TheVariants as passes
 use Rattle.script_run.specs.declared.poster.AnyPoster.TheVariants as posters
 
--- a client's end: of which inlet it is, its client, the lines that it has posted, and how many it can post in all
+-- a client's end: of which inlet it is, its client, the lines that it has posted, how many it can post in all, and how many of
+-- its posts were refused
 pub record AnyPosting : Type 0 where
   pub place : List ℕ
   pub client : ℕ
   pub posted : List Line
   pub room : ℕ
+  pub refused : ℕ
 
 -- a lane's client
 abbrev pub of_lane : LanePosting → AnyPosting
-of_lane p = record { place = lane_place p.lane; client = p.client; posted = p.posted; room = p.lines }
+of_lane p = record { place = lane_place p.lane; client = p.client; posted = p.posted; room = p.lines; refused = 0 }
 
 -- a port's client
 abbrev pub of_port : Posting → AnyPosting
-of_port p = record { place = port_place p.port; client = p.client; posted = p.posted; room = 4294967295 }
+of_port p = record {
+  place = port_place p.port;
+  client = p.client;
+  posted = p.posted;
+  room = 4294967295;
+  refused = p.refused;
+}
 
 -- a client's end
 abbrev pub posting_of : AnyPoster → AnyPosting
@@ -38,12 +46,13 @@ abbrev pub pass_posting : AnyPass → AnyPosting
 pass_posting (passes.Lane p) = of_lane p
 pass_posting (passes.Port p) = of_port p
 
--- the end of this inlet and client has posted nothing, and can post so many lines
+-- the end of this inlet and client has posted nothing, was never refused, and can post so many lines
 pub record HasRoom (place : List ℕ) (client lines : ℕ) (p : AnyPosting) : Type 0 where
   pub place_is : p.place ≡ place
   pub client_is : p.client ≡ client
   pub posted_is : p.posted ≡ []
   pub room : lines ≤ p.room
+  pub unrefused : p.refused ≡ 0
 
 -- it can post these texts
 abbrev pub IsReady : List ℕ → ℕ → List (List ℕ) → AnyPosting → Type 0
@@ -53,8 +62,12 @@ IsReady place client texts p = HasRoom place client (length texts) p
 abbrev pub with_post : AnyPosting → Line → AnyPosting
 with_post p line = record p { posted = p.posted ++ line ∷ [] }
 
--- the client of this inlet has posted the first of these texts: all of them where it says so, and else fewer; on a lane
--- it says so
+-- one more of its posts was refused
+abbrev pub with_refusal : AnyPosting → AnyPosting
+with_refusal p = record p { refused = p.refused + 1 }
+
+-- the client of this inlet has posted the first of these texts: all of them where it says so, and else fewer, since its next
+-- post was refused; on a lane it says so
 pub record IsEnd (place : List ℕ) (client : ℕ) (texts : List (List ℕ)) (e : AnyEnd) : Type 0 where
   pub place_is : (pass_posting e.pass).place ≡ place
   pub client_is : (pass_posting e.pass).client ≡ client
@@ -62,6 +75,7 @@ pub record IsEnd (place : List ℕ) (client : ℕ) (texts : List (List ℕ)) (e 
   pub posted : (pass_posting e.pass).posted ≡ lines_from client 0 (take count texts)
   pub whole : e.all ≡ true → take count texts ≡ texts
   pub short : e.all ≡ false → count < length texts
+  pub tried : (pass_posting e.pass).refused ≡ cond e.all 0 1
   pub sure : is_lane place ≡ true → e.all ≡ true
 
 -- the lines of which the client's gate was asked: those posted, and where these aren't all the next one, which was

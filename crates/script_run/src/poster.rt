@@ -30,7 +30,7 @@ pub struct AnyEnd<'s> {
 }
 
 impl<'s> AnyPoster<'s> {
-    ghost use Rattle.script_run.specs.Ends.{pass_posting, posting_of, with_post};
+    ghost use Rattle.script_run.specs.Ends.{pass_posting, posting_of, with_post, with_refusal};
     ghost use Rattle.std.specs.Prelude.{◌≡◌, ◌<◌, IfErr, OnOk, length};
 
     /// Whose end it is.
@@ -59,7 +59,7 @@ impl<'s> AnyPoster<'s> {
         requires next { line.seq ≡ length (posting_of self.old).posted }
         requires room { length (posting_of self.old).posted < (posting_of self.old).room }
         ensures posted { OnOk result (posting_of self.new ≡ with_post (posting_of self.old) line.entry) }
-        ensures refused { IfErr result (λ e. posting_of self.new ≡ posting_of self.old) }
+        ensures refused { IfErr result (λ e. posting_of self.new ≡ with_refusal (posting_of self.old)) }
     {
         match self {
             AnyPoster::Lane(poster) => poster.post(line),

@@ -20,6 +20,7 @@ lane_end p q texts ready is =
       posted = ap (λ (r : LanePosting). r.posted) is ∙ (λ k. ready.posted_is k ++ lines_from p.client (length (ready.posted_is k)) (all k));
       whole = λ _. sym all;
       short = λ not. absurd (true≢false not);
+      tried = refl;
       sure = λ _. refl;
     }
 
@@ -32,6 +33,7 @@ port_end p q texts all ready some = record {
   posted = ap (λ (r : Posting). r.posted) some.after ∙ (λ k. ready.posted_is k ++ lines_from p.client (length (ready.posted_is k)) (take some.count texts));
   whole = some.whole;
   short = some.short;
+  tried = (let r = some.refusals in let n = ready.unrefused in omega (arith, r, n));
   sure = λ lane. absurd (true≢false (sym lane));
 }
 
