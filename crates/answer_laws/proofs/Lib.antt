@@ -35,3 +35,4 @@ mod Unnamed
 mod Knowing
 mod Writing
 mod Planning
+mod ScriptTexts

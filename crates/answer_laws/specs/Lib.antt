@@ -14,3 +14,4 @@ pub mod Served
 pub mod Births
 pub mod Known
 pub mod Written
+pub mod Scripts

@@ -4,6 +4,7 @@
 //! | what is said | law, and where it stands |
 //! |---|---|
 //! | in every session of every script, with names that are null at the opening, whenever lines are taken and whatever the other clients do: of a client's session and a store, whichever of the two is born first, the accepted replies to the session's agent are a first part of the answers to the lines delivered to that | `FromNullNames`, of any names `InEveryScript`, and of any bodies `InEverySession` (`specs/Births.antt`) |
+//! | so it is in every session of every script that bytes spell, and nothing is asked there of priorities, births or the lengths of lines | `SpeltClientsAreAnswered`, `SpeltClientsAreWritten`; `SpeltLinesAreShort`, `TakenLinesAreShort`, `SpeltBirthsAreFew` (`specs/Scripts.antt`) |
 //! | what `answers` writes of a client are the accepted replies to the agent of its event, if that has had one alone and one thread alone has replied to it, as its owner alone does; so of a client's session and a store it is a first part of the answers to the client's lines | `OwnersAloneReply`, `RepliesAreWritten`, `ClientsAreWritten`, and of plans `PlansAreSessions` (`specs/Written.antt`) |
 //! | so it is from any point of a session on at which the two begin, or the session after a store that has served others | `ClientsAreAnsweredInTurn`, `LaterClientsAreAnsweredInTurn`, and by moves from the opening on `InWholeSessions`, `SessionsAreReached` (`specs/Served.antt`) |
 //! | in every session of every script each name of a thread is null, or the number of somebody who was born; so a client's session sends to nobody else | `NullNamesAreKnown`, `NamesAreOfTheBorn`, `SessionsSendToTheBorn` (`specs/Known.antt`) |
@@ -47,6 +48,7 @@ ghost use Rattle.answer_laws.specs.Lengths.{ShortLinesHaveShortAnswers};
 ghost use Rattle.answer_laws.specs.Owners.{OwnersOfNoneAreRefused, OwnersReceive, OwnersReply, SendsAreLetters};
 ghost use Rattle.answer_laws.specs.Owns.{LivingCallsAreEvents, OthersReplyNothing, PodsSessionsCallsAreEvents, PodsStoresCallsAreEvents};
 ghost use Rattle.answer_laws.specs.Replies.{EachHasOneLetter, ReadersLeaveTheRest, ReceivesAreTheLetters, RepliesAreTheAnswers};
+ghost use Rattle.answer_laws.specs.Scripts.{SpeltBirthsAreFew, SpeltClientsAreAnswered, SpeltClientsAreWritten, SpeltLinesAreShort, TakenLinesAreShort};
 ghost use Rattle.answer_laws.specs.Served.{ClientsAreAnsweredInTurn, InWholeSessions, LaterClientsAreAnsweredInTurn, SessionsAreReached};
 ghost use Rattle.answer_laws.specs.Sights.{DeliveriesLeaveIt, OthersLeaveIt};
 ghost use Rattle.answer_laws.specs.Stands.{DeliveriesAreEvents, OthersCallsAreEvents, PodsCallsAreEvents, SessionsCallsAreEvents, StoresCallsAreEvents, TakesAreEvents};
@@ -70,6 +72,34 @@ pub fn every_client_of_a_script()
 /// So it is with names that are null at the opening, as all are that a run begins with.
 pub fn every_client_from_null_names()
     ensures { FromNullNames }
+{}
+
+/// Of a script that bytes spell, each line that a client posts has room in a letter.
+pub fn every_spelt_line()
+    ensures { SpeltLinesAreShort }
+{}
+
+/// So has each line that is taken in one of its sessions.
+pub fn every_line_taken()
+    ensures { TakenLinesAreShort }
+{}
+
+/// Fewer threads and agents are born in such a session than there are numbers of 32 bits.
+pub fn every_birth_where_spelt()
+    ensures { SpeltBirthsAreFew }
+{}
+
+/// In every session of a script that bytes spell, as `plan_main`, `run_main` and `answers_main` speak of (its takes and calls were
+/// due, and its takes are a history of the clients): what a client is told is a first part of the answers to its lines, if its store
+/// lives in the end and all that its session has sent went to that. Nothing is asked of priorities, births or lengths of lines.
+pub fn every_client_of_a_spelt_script()
+    ensures { SpeltClientsAreAnswered }
+{}
+
+/// So what `answers` writes of a client is a first part of the answers to the lines of its agent, each on a line of its own, if its
+/// event has had that agent alone and all accepted replies to that are of the client's session.
+pub fn every_client_written_where_spelt()
+    ensures { SpeltClientsAreWritten }
 {}
 
 /// Of the replies to an agent those of its owner alone are accepted, in every session: nobody else is told so.
