@@ -3,6 +3,7 @@ use Rattle.lwp_types.specs.Streams.{after_append}
 use Rattle.script_printer.specs.declared.failure.CopyFailure.{CopyFailure}
 use Rattle.script_printer.specs.declared.failure.CopyFailure.TheVariants as failure
 use Rattle.script_printer.specs.Printing.{text_of_script}
+use Rattle.streams.specs.Writing.{AppendsPart}
 use Rattle.script_text.specs.Grammar.{Spells}
 use Rattle.script_text.specs.Spelling.{verdict}
 use Rattle.script_text.specs.declared.reason.ReadErr.{ReadErr}
@@ -44,6 +45,22 @@ Holds (Some told) script = Spells told script
 abbrev pub Copies : Option (List ℕ) → Option (List ℕ) → Option (List ℕ) → Type 0
 Copies source before after = (script : Script) × Holds source script
     × (after ≡ after_append before (text_of_script script))
+
+-- what a failure leaves of the sink: after a write fault a first part of the printed text, which lacks a byte at least; else
+-- what it had before
+abbrev pub Leaves : Option (List ℕ) → Option (List ℕ) → Option (List ℕ) → CopyFailure → Type 0
+Leaves source before after failure.WriteFault = (script : Script) × Holds source script
+    × AppendsPart before after (text_of_script script)
+Leaves source before after failure.ReadFault = after ≡ before
+Leaves source before after (failure.Script line why) = after ≡ before
+Leaves source before after failure.NoMemory = after ≡ before
+
+-- the failure comes before anything is written
+abbrev pub IsOfReading : CopyFailure → Type 0
+IsOfReading failure.WriteFault = ⊥
+IsOfReading failure.ReadFault = Unit {0}
+IsOfReading (failure.Script line why) = Unit {0}
+IsOfReading failure.NoMemory = Unit {0}
 
 -- where the failure names a line, it is the first bad one of the bytes that the source had left, with the first reason
 -- that fits

@@ -1,6 +1,6 @@
 // A script that is read and printed.
 ghost use Rattle.std.specs.Prelude.{◌≡◌, IfErr, IfOk, OnOk, map, string_bytes};
-ghost use Rattle.script_printer.specs.Copying.{Copies, Holds, Refuses, asks_for_print};
+ghost use Rattle.script_printer.specs.Copying.{Copies, Holds, IsOfReading, Leaves, Refuses, asks_for_print};
 
 use crate::failure::CopyFailure;
 use crate::printing::print_script;
@@ -23,13 +23,14 @@ pub fn asks_for_print(words: &Vec<String>) -> bool
 fn read<S: Source>(alloc: Global, source: &mut S) -> Result<Script, CopyFailure>
     ensures held { IfOk result (λ script. Holds (S.left source.old) script) }
     ensures refused { IfErr result (λ why. Refuses (S.left source.old) why) }
+    ensures unwritten { IfErr result IsOfReading }
 {
     let bytes = read_all(alloc, source)?;
     let script = read_script(alloc, &bytes)?;
     Ok(script)
 }
 
-/// Writes the script that a source holds as it is printed.
+/// Writes the script that a source holds as it is printed. Nothing is written before it was read.
 pub fn copy<S: Source, K: Sink>(
     alloc: Global,
     source: &mut S,
@@ -38,6 +39,7 @@ pub fn copy<S: Source, K: Sink>(
     ensures copied { OnOk result
         (Copies (S.left source.old) (K.written sink.old) (K.written sink.new)) }
     ensures refused { IfErr result (λ why. Refuses (S.left source.old) why) }
+    ensures left { IfErr result (Leaves (S.left source.old) (K.written sink.old) (K.written sink.new)) }
 {
     let script = read(alloc, source)?;
     let text = print_script(alloc, &script)?;
