@@ -1,0 +1,4 @@
+pub mod Told
+pub mod Recorded
+pub mod Mapped
+pub mod SameSessions

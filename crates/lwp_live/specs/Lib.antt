@@ -1,0 +1,4 @@
+pub mod Input
+pub mod Recorded
+pub mod Answers
+pub mod Laws
