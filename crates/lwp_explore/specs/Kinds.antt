@@ -16,7 +16,8 @@ use Rattle.trace_text.specs.declared.ends.Halt.TheVariants as halt
 -- how many lines are left of clients with these events, counted from c
 abbrev pub left_from : {B : Type 0} → World B → Core B → ℕ → List ℕ → List ℕ
 left_from world core c [] = []
-left_from world core c (e ∷ events) = length (of c world.posts) - count_at core.taken c ∷ left_from world core (c + 1) events
+left_from world core c (e ∷ events) =
+    (length (of c world.posts) - count_at core.taken c) ∷ left_from world core (c + 1) events
 
 -- how many lines of each client are left
 abbrev pub lines_left : {B : Type 0} → World B → Core B → List ℕ
