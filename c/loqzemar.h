@@ -14,7 +14,8 @@
 //
 //   - No pointer is null, each points to what it says, and no two of one call overlap. Of an empty array, the pointer is any that isn't
 //     null, and the length is 0.
-//   - The text of a call or a delivery is lent: its bytes stay as they are until the pod is freed.
+//   - The text of a call or a delivery is lent: its bytes stay as they are until the pod is freed. A program that makes a text for each
+//     call grows with its calls.
 //   - A pod begins as LOQ_EMPTY. You never write its fields and never copy it.
 //   - A pod belongs to one thread of the system, and is passed to one function at a time. No function is called from a signal handler.
 //
@@ -76,7 +77,7 @@ enum {
     LOQ_PODEXIT = 14,      // number: the exit status
     LOQ_THREADS = 15,
     LOQ_SAY = 16,          // text
-    LOQ_SEND = 17,         // target, room, text
+    LOQ_SEND = 17,         // target, room: how many bytes the reply may have; text
     LOQ_RECV = 18,         // target, or any; mode; number: ticks
     LOQ_REPLY = 19,        // target, text
     LOQ_SENDERS = 20,
@@ -111,7 +112,8 @@ enum {
     LOQ_BOUND = 55,        // number: the pattern
     LOQ_UNIQPATT = 56
 };
-enum { LOQ_POLL = 0, LOQ_BLOCK = 1, LOQ_UNTIL = 2 };  // mode
+// mode: LOQ_POLL, which is 0, never waits; LOQ_BLOCK waits; LOQ_UNTIL waits for so many ticks
+enum { LOQ_POLL = 0, LOQ_BLOCK = 1, LOQ_UNTIL = 2 };
 enum { LOQ_NOTHING = 0, LOQ_GIVE = 1, LOQ_SUM = 2 };  // func
 
 // A call. What isn't named for its kind is not read.
@@ -172,7 +174,8 @@ typedef struct loq_effect_t {
 } loq_effect_t;
 
 // Makes a pod: its greatest priority, 1 to 255; how many threads, monitors and conditions may ever be born, of each 1 to 4,294,967,295;
-// and how many procedures it has, 1 or more. Procedure 0 is that of the first thread. A pod that was there is freed.
+// and how many procedures it has, 1 or more. Procedure 0 is that of the first thread, whose
+// priority is the greatest. A pod that was there is freed.
 // LOQ_BAD_NUMBER, LOQ_NO_MEMORY: the handle is as it was.
 uint32_t loq_pod_new(loq_pod *pod, uint32_t maxpri, uint64_t births, uint32_t procs);
 
