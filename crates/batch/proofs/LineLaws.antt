@@ -1,6 +1,7 @@
 -- What a line says.
 use Rattle.batch.specs.Parts.{value_at_most, value_from}
-use Rattle.std.proofs.Common.{Bool, List, None, [], ap, arith, drop, drop-cons, false, get_or, leb, length, refl, suc, true, ℕ, ◌&&◌, ◌*◌, ◌+◌, ◌-◌, ◌<◌, ◌∷◌, ◌≡◌, ◌≤◌}
+use Rattle.std.proofs.Common.{Bool, List, None, [], ap, arith, drop, drop-cons, false, get_or, leb, length, refl, suc, true, ℕ, ◌&&◌, ◌*◌, ◌+◌, ◌-◌}
+use Rattle.std.proofs.Common.{◌<◌, ◌∷◌, ◌≡◌, ◌≤◌}
 use Rattle.std.proofs.lemmas.Bool.{lt-leb}
 use Rattle.std.specs.Str.{all_ascii_digits}
 
@@ -14,7 +15,8 @@ and_false true = refl
 and_false false = refl
 
 -- digits that are worth too much already have no value
-pub too_large : (n i : ℕ) (ds : List ℕ) → i < length ds → value_from n (drop i ds) ≡ value_from 0 ds → 16777216 < 10 * n + (get_or ds i 0 - 48) → None ≡ value_at_most ds
+pub too_large : (n i : ℕ) (ds : List ℕ) → i < length ds → value_from n (drop i ds) ≡ value_from 0 ds
+    → 16777216 < 10 * n + (get_or ds i 0 - 48) → None ≡ value_at_most ds
 too_large n i ds lt e big =
     let step : value_from n (drop i ds) ≡ value_from (10 * n + (get_or ds i 0 - 48)) (drop (suc i) ds) = ap (value_from n) (drop-cons ds i 0 lt) in
     let all : 16777216 < value_from 0 ds = omega (arith, e, step, big, value_ge (10 * n + (get_or ds i 0 - 48)) (drop (suc i) ds)) in

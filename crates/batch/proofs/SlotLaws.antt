@@ -1,12 +1,14 @@
 -- Slots that are filled one by one.
 use Rattle.batch.specs.Slots.{Fit, IsRight}
-use Rattle.std.proofs.Common.{All, List, None, Option, Some, Vec, [], ap, arith, get_or, length, map, refl, slice_get, subst, suc, sym, take, vec_items, zero, ℕ, ◌++◌, ◌+◌, ◌<◌, ◌∙◌, ◌∷◌, ◌≡◌}
+use Rattle.std.proofs.Common.{All, List, None, Option, Some, Vec, [], ap, arith, get_or, length, map, refl, slice_get, subst, suc, sym, take}
+use Rattle.std.proofs.Common.{vec_items, zero, ℕ, ◌++◌, ◌+◌, ◌<◌, ◌∙◌, ◌∷◌, ◌≡◌}
 use Rattle.std.proofs.Math.ListN.{set}
 use Rattle.std.proofs.lemmas.List.{map-append, take_more}
 use Rattle.std.proofs.lemmas.Option.{get_or_from_slice_get, slice_get-get_or, slice_get_within}
 
 -- empty slots
-pub fit-empty : {A : Type 0} (wanted : List (List ℕ)) (slots : List (Option (Vec ℕ A))) → length slots ≡ length wanted → All (λ slot. slot ≡ None) slots → Fit wanted slots
+pub fit-empty : {A : Type 0} (wanted : List (List ℕ)) (slots : List (Option (Vec ℕ A))) → length slots ≡ length wanted
+    → All (λ slot. slot ≡ None) slots → Fit wanted slots
 fit-empty [] [] same none = tt
 fit-empty [] (s ∷ ss) same none = absurd (omega (arith, same))
 fit-empty (w ∷ ws) [] same none = absurd (omega (arith, same))
@@ -17,7 +19,8 @@ fit-empty (w ∷ ws) (s ∷ ss) same none =
     )
 
 -- a slot is filled with the answer that is wanted there
-pub fit-set : {A : Type 0} (wanted : List (List ℕ)) (slots : List (Option (Vec ℕ A))) (n : ℕ) (answer : Vec ℕ A) → Fit wanted slots → slice_get wanted n ≡ Some answer.items
+pub fit-set : {A : Type 0} (wanted : List (List ℕ)) (slots : List (Option (Vec ℕ A))) (n : ℕ) (answer : Vec ℕ A) → Fit wanted slots
+    → slice_get wanted n ≡ Some answer.items
     → Fit wanted (set slots n (Some answer))
 fit-set [] [] n answer fit is = tt
 fit-set [] (s ∷ ss) n answer fit is = absurd fit
@@ -34,7 +37,8 @@ fit-unset (w ∷ ws) (s ∷ ss) zero fit = (tt, fit.1)
 fit-unset (w ∷ ws) (s ∷ ss) (suc n) fit = (fit.0, fit-unset ws ss n fit.1)
 
 -- what is in a slot is wanted there
-pub fit-at : {A : Type 0} (wanted : List (List ℕ)) (slots : List (Option (Vec ℕ A))) (n : ℕ) (d : Option (Vec ℕ A)) (answer : Vec ℕ A) → Fit wanted slots → n < length slots
+pub fit-at : {A : Type 0} (wanted : List (List ℕ)) (slots : List (Option (Vec ℕ A))) (n : ℕ) (d : Option (Vec ℕ A)) (answer : Vec ℕ A)
+    → Fit wanted slots → n < length slots
     → get_or slots n d ≡ Some answer → answer.items ≡ get_or wanted n []
 fit-at [] [] n d answer fit lt is = absurd (omega (arith, lt))
 fit-at [] (s ∷ ss) n d answer fit lt is = absurd fit
@@ -50,7 +54,8 @@ fit-length (w ∷ ws) [] fit = absurd fit
 fit-length (w ∷ ws) (s ∷ ss) fit = let rest = fit-length ws ss fit.1 in omega (arith, rest)
 
 -- the first answers, and one more
-pub more_answers : {A : Type 0} (wanted : List (List ℕ)) (n : ℕ) (answers more : List (Vec ℕ A)) (answer : Vec ℕ A) → map vec_items answers ≡ take n wanted → slice_get wanted n ≡ Some answer.items
+pub more_answers : {A : Type 0} (wanted : List (List ℕ)) (n : ℕ) (answers more : List (Vec ℕ A)) (answer : Vec ℕ A)
+    → map vec_items answers ≡ take n wanted → slice_get wanted n ≡ Some answer.items
     → more ≡ answers ++ answer ∷ [] → map vec_items more ≡ take (n + 1) wanted
 more_answers wanted n answers more answer first is pushed =
     ap (map vec_items) pushed
@@ -60,7 +65,8 @@ more_answers wanted n answers more answer first is pushed =
     ∙ sym (take_more wanted n [] (slice_get_within wanted n answer.items is))
 
 -- what stood in a slot is the answer that is wanted there
-pub slot-answer : {A : Type 0} (wanted : List (List ℕ)) (slots : List (Option (Vec ℕ A))) (n : ℕ) (d : Option (Vec ℕ A)) (answer : Vec ℕ A) → Fit wanted slots → n < length slots
+pub slot-answer : {A : Type 0} (wanted : List (List ℕ)) (slots : List (Option (Vec ℕ A))) (n : ℕ) (d : Option (Vec ℕ A)) (answer : Vec ℕ A)
+    → Fit wanted slots → n < length slots
     → get_or slots n d ≡ Some answer → slice_get wanted n ≡ Some answer.items
 slot-answer wanted slots n d answer fit lt is =
     let many = fit-length wanted slots fit in

@@ -1,6 +1,7 @@
 -- The parts of a text: each comes after a line that says how many bytes it has.
 use Rattle.batch.specs.declared.part.Part.{Part}
-use Rattle.std.specs.Prelude.{Bool, Err, List, None, Ok, Option, Result, Some, [], bytes_eq, codes, drop, false, if◌then◌else◌, length, nat_le, nat_lt, suc, take, true, zero, ℕ, ◌&&◌, ◌*◌, ◌+◌, ◌-◌, ◌==◌, ◌∷◌, ◌≤◌}
+use Rattle.std.specs.Prelude.{Bool, Err, List, None, Ok, Option, Result, Some, [], bytes_eq, codes, drop, false, if◌then◌else◌, length, nat_le}
+use Rattle.std.specs.Prelude.{nat_lt, suc, take, true, zero, ℕ, ◌&&◌, ◌*◌, ◌+◌, ◌-◌, ◌==◌, ◌∷◌, ◌≤◌}
 use Rattle.std.specs.Str.{all_ascii_digits}
 
 -- ---- the line of a part

@@ -28,12 +28,14 @@ found-own x t (e ∷ es) = by (nat_cmp x e.0) refl (found-own x t es)
     by Greater h later = (λ i. cond (is_eq (h i)) (Some e.1) (lookup (is_at (nat_cmp x)) (insert_entry nat_cmp es x t))) ∙ later
 
 -- another is found as before
-found-other : (x y : ℕ) (t : Table) → nat_eq x y ≡ false → (es : Tables) → lookup (is_at (nat_cmp x)) (insert_entry nat_cmp es y t) ≡ lookup (is_at (nat_cmp x)) es
+found-other : (x y : ℕ) (t : Table) → nat_eq x y ≡ false → (es : Tables)
+    → lookup (is_at (nat_cmp x)) (insert_entry nat_cmp es y t) ≡ lookup (is_at (nat_cmp x)) es
 found-other x y t apart [] = λ i. cond ((unsigned_tied x y ∙ apart) i) (Some t) None
 found-other x y t apart (e ∷ es) = by (nat_cmp y e.0) refl (found-other x y t apart es)
   where
     by : (r : Ordering) → nat_cmp y e.0 ≡ r → lookup (is_at (nat_cmp x)) (insert_entry nat_cmp es y t) ≡ lookup (is_at (nat_cmp x)) es
-        → lookup (is_at (nat_cmp x)) (match_ordering r ((y, t) ∷ e ∷ es) ((e.0, t) ∷ es) (e ∷ insert_entry nat_cmp es y t)) ≡ lookup (is_at (nat_cmp x)) (e ∷ es)
+        → lookup (is_at (nat_cmp x)) (match_ordering r ((y, t) ∷ e ∷ es) ((e.0, t) ∷ es) (e ∷ insert_entry nat_cmp es y t))
+        ≡ lookup (is_at (nat_cmp x)) (e ∷ es)
     by Less h later = λ i. cond ((unsigned_tied x y ∙ apart) i) (Some t) (lookup (is_at (nat_cmp x)) (e ∷ es))
     by Equal h later =
         let is : y ≡ e.0 = eqb-true y e.0 (sym (unsigned_tied y e.0) ∙ ap is_eq h) in
@@ -64,7 +66,8 @@ apart x tables (l ∷ ls) = by (nat_eq x l.0) refl (apart x (tables_after l.0 l.
     by : (b : Bool) → nat_eq x l.0 ≡ b → replies_among x (tables_after l.0 l.1 tables) ls ≡ replies (table_of x (tables_after l.0 l.1 tables)) (texts_of x ls)
         → replies_among x tables (l ∷ ls) ≡ replies (table_of x tables) (texts_of x (l ∷ ls))
     by true h e =
-        let same = subst (λ n. table_of x (tables_after n l.1 tables) ≡ (served_text l.1 (table_of x tables)).table) (eqb-true x l.0 h) (own-table x l.1 tables) in
+        let same = subst (λ n. table_of x (tables_after n l.1 tables) ≡ (served_text l.1 (table_of x tables)).table) (eqb-true x l.0 h)
+        (own-table x l.1 tables) in
         (λ i. cond (h i) ((served_sender x l.1 tables).reply ∷ later) later)
         ∙ ap (λ rest. (served_sender x l.1 tables).reply ∷ rest) (e ∙ ap (λ t. replies t (texts_of x ls)) same)
         ∙ sym (λ i. replies (table_of x tables) (mapped (cond (h i) (l ∷ kept) kept)))

@@ -1,7 +1,8 @@
 -- What is done at the place of a key is what the definitions say of the whole table.
 use Rattle.line_server.specs.Places.{AreInOrder, IsGapAt, IsKeyAt, IsPlace}
 use Rattle.line_server.specs.Tables.{Table, at_key, key_cmp}
-use Rattle.std.proofs.Common.{Bool, Equal, Err, Greater, Less, List, None, Ok, Ordering, Result, Some, [], ap, arith, cond, false, get_or, inl, inr, insert, is_err, is_none, length, refl, remove, set, subst, suc, sym, true, zero, ℕ, ◌+◌, ◌<◌, ◌∙◌, ◌∷◌, ◌≡◌, ◌≤◌}
+use Rattle.std.proofs.Common.{Bool, Equal, Err, Greater, Less, List, None, Ok, Ordering, Result, Some, [], ap, arith, cond, false, get_or, inl, inr}
+use Rattle.std.proofs.Common.{insert, is_err, is_none, length, refl, remove, set, subst, suc, sym, true, zero, ℕ, ◌+◌, ◌<◌, ◌∙◌, ◌∷◌, ◌≡◌, ◌≤◌}
 use Rattle.std.proofs.lemmas.Bool.{cases_lt}
 use Rattle.std.proofs.lemmas.Cmp.{nat_list_cmp_total}
 use Rattle.std.proofs.lemmas.Map.Keys.{Less-from_sorted, sorted_tail}
@@ -53,7 +54,8 @@ chain : (x y z : List ℕ) → key_cmp x y ≡ Less → key_cmp y z ≡ Less →
 chain = nat_list_cmp_total.trans
 
 -- the key there is below: so are those before it
-pub go_up : (key : List ℕ) (es : Table) (low high mid : ℕ) → AreInOrder es → IsBetween key es low high → low ≤ mid → mid < high → ((d : Pair) → key_cmp (get_or es mid d).0 key ≡ Less) → IsBetween key es (mid + 1) high
+pub go_up : (key : List ℕ) (es : Table) (low high mid : ℕ) → AreInOrder es → IsBetween key es low high → low ≤ mid → mid < high
+    → ((d : Pair) → key_cmp (get_or es mid d).0 key ≡ Less) → IsBetween key es (mid + 1) high
 go_up key es low high mid sorted was le lt is = record {
   order = omega arith;
   within = was.within;
@@ -65,13 +67,15 @@ go_up key es low high mid sorted was le lt is = record {
 }
 
 -- the key there is above: so are those after it
-pub go_down : (key : List ℕ) (es : Table) (low high mid : ℕ) → AreInOrder es → IsBetween key es low high → low ≤ mid → mid < high → ((d : Pair) → key_cmp (get_or es mid d).0 key ≡ Greater) → IsBetween key es low mid
+pub go_down : (key : List ℕ) (es : Table) (low high mid : ℕ) → AreInOrder es → IsBetween key es low high → low ≤ mid → mid < high
+    → ((d : Pair) → key_cmp (get_or es mid d).0 key ≡ Greater) → IsBetween key es low mid
 go_down key es low high mid sorted was le lt is = record {
   order = le;
   within = omega (arith, was.within);
   above = was.above;
   below = λ j d from within. elim (cases_lt mid j) [
-    | inl behind ↦ chain key (get_or es mid d).0 (get_or es j d).0 (flip key (get_or es mid d).0 ∙ ap ordering_reverse (is d)) (rises es mid j d sorted behind within)
+    | inl behind
+        ↦ chain key (get_or es mid d).0 (get_or es j d).0 (flip key (get_or es mid d).0 ∙ ap ordering_reverse (is d)) (rises es mid j d sorted behind within)
     | inr before ↦ subst (λ n. key_cmp key (get_or es n d).0 ≡ Less) (omega arith) (flip key (get_or es mid d).0 ∙ ap ordering_reverse (is d))
   ];
 }
@@ -82,7 +86,8 @@ any_default (x ∷ es) zero d e within = refl
 any_default (x ∷ es) (suc i) d e within = any_default es i d e (omega arith)
 
 -- how the entry that was read there compares with the key, whatever a read past the end would give
-pub there : (key : List ℕ) (es : Table) (i : ℕ) (e : Pair) (o : Ordering) → i < length es → e ≡ get_or es i e → key_cmp e.0 key ≡ o → (d : Pair) → key_cmp (get_or es i d).0 key ≡ o
+pub there : (key : List ℕ) (es : Table) (i : ℕ) (e : Pair) (o : Ordering) → i < length es → e ≡ get_or es i e → key_cmp e.0 key ≡ o
+    → (d : Pair) → key_cmp (get_or es i d).0 key ≡ o
 there key es i e o within is h d = ap (λ p. key_cmp p.0 key) (any_default es i d e within ∙ sym is) ∙ h
 
 -- nothing is left between: the key belongs there
@@ -101,7 +106,8 @@ is-key key es mid within is = record { within = within; here = λ d. flip key (g
 -- a key that stands further on is above the first
 above_first : (key : List ℕ) (e : Pair) (es : Table) (i : ℕ) (d : Pair) → AreInOrder (e ∷ es) → IsKeyAt key (e ∷ es) (suc i) → key_cmp key e.0 ≡ Greater
 above_first key e es i d sorted at =
-    nat_list_cmp_total.congr key (get_or es i d).0 e.0 (at.here d) ∙ flip (get_or es i d).0 e.0 ∙ ap ordering_reverse (rises (e ∷ es) 0 (suc i) d sorted (omega arith) at.within)
+    nat_list_cmp_total.congr key (get_or es i d).0 e.0 (at.here d) ∙ flip (get_or es i d).0 e.0
+    ∙ ap ordering_reverse (rises (e ∷ es) 0 (suc i) d sorted (omega arith) at.within)
 
 behind : (key : List ℕ) (e : Pair) (es : Table) (i : ℕ) → IsKeyAt key (e ∷ es) (suc i) → IsKeyAt key es i
 behind key e es i at = record { within = omega (arith, at.within); here = λ d. at.here d }
@@ -113,10 +119,12 @@ found key (e ∷ es) (suc i) d sorted at =
     (λ n. cond (is_eq (above_first key e es i d sorted at n)) (Some e.1) (lookup (is_at (key_cmp key)) es))
     ∙ found key es i d (sorted_tail key_cmp e.0 (keys_of es) sorted) (behind key e es i at)
 
-pub replaced : (key value : List ℕ) (es : Table) (i : ℕ) (d : Pair) → AreInOrder es → IsKeyAt key es i → set es i (key, value) ≡ insert_entry key_cmp es key value
+pub replaced : (key value : List ℕ) (es : Table) (i : ℕ) (d : Pair) → AreInOrder es → IsKeyAt key es i
+    → set es i (key, value) ≡ insert_entry key_cmp es key value
 replaced key value [] i d sorted at = absurd (omega (arith, at.within))
 replaced key value (e ∷ es) zero d sorted at =
-    (λ n. (same_key key e.0 (at.here d) n, value) ∷ es) ∙ sym (λ n. match_ordering (at.here d n) ((key, value) ∷ e ∷ es) ((e.0, value) ∷ es) (e ∷ insert_entry key_cmp es key value))
+    (λ n. (same_key key e.0 (at.here d) n, value) ∷ es)
+    ∙ sym (λ n. match_ordering (at.here d n) ((key, value) ∷ e ∷ es) ((e.0, value) ∷ es) (e ∷ insert_entry key_cmp es key value))
 replaced key value (e ∷ es) (suc i) d sorted at =
     ap (λ rest. e ∷ rest) (replaced key value es i d (sorted_tail key_cmp e.0 (keys_of es) sorted) (behind key e es i at))
     ∙ sym (λ n. match_ordering (above_first key e es i d sorted at n) ((key, value) ∷ e ∷ es) ((e.0, value) ∷ es) (e ∷ insert_entry key_cmp es key value))
@@ -147,20 +155,25 @@ below_others key e es gap = record {
 
 pub missing : (key : List ℕ) (es : Table) (i : ℕ) → IsGapAt key es i → lookup (is_at (key_cmp key)) es ≡ None
 missing key [] i gap = refl
-missing key (e ∷ es) zero gap = (λ n. cond (is_eq (gap.below 0 e (omega arith) (omega arith) n)) (Some e.1) (lookup (is_at (key_cmp key)) es)) ∙ missing key es 0 (below_others key e es gap)
-missing key (e ∷ es) (suc i) gap = (λ n. cond (is_eq (gap.above 0 e (omega arith) n)) (Some e.1) (lookup (is_at (key_cmp key)) es)) ∙ missing key es i (past key e es i gap)
+missing key (e ∷ es) zero gap = (λ n. cond (is_eq (gap.below 0 e (omega arith) (omega arith) n)) (Some e.1) (lookup (is_at (key_cmp key)) es))
+    ∙ missing key es 0 (below_others key e es gap)
+missing key (e ∷ es) (suc i) gap = (λ n. cond (is_eq (gap.above 0 e (omega arith) n)) (Some e.1) (lookup (is_at (key_cmp key)) es))
+    ∙ missing key es i (past key e es i gap)
 
 pub not_taken : (key : List ℕ) (es : Table) (i : ℕ) → IsGapAt key es i → remove_entry (is_at (key_cmp key)) es ≡ es
 not_taken key [] i gap = refl
 not_taken key (e ∷ es) zero gap =
-    (λ n. cond (is_eq (gap.below 0 e (omega arith) (omega arith) n)) es (e ∷ remove_entry (is_at (key_cmp key)) es)) ∙ ap (λ rest. e ∷ rest) (not_taken key es 0 (below_others key e es gap))
+    (λ n. cond (is_eq (gap.below 0 e (omega arith) (omega arith) n)) es (e ∷ remove_entry (is_at (key_cmp key)) es))
+    ∙ ap (λ rest. e ∷ rest) (not_taken key es 0 (below_others key e es gap))
 not_taken key (e ∷ es) (suc i) gap =
-    (λ n. cond (is_eq (gap.above 0 e (omega arith) n)) es (e ∷ remove_entry (is_at (key_cmp key)) es)) ∙ ap (λ rest. e ∷ rest) (not_taken key es i (past key e es i gap))
+    (λ n. cond (is_eq (gap.above 0 e (omega arith) n)) es (e ∷ remove_entry (is_at (key_cmp key)) es))
+    ∙ ap (λ rest. e ∷ rest) (not_taken key es i (past key e es i gap))
 
 pub added : (key value : List ℕ) (es : Table) (i : ℕ) → IsGapAt key es i → insert es i (key, value) ≡ insert_entry key_cmp es key value
 added key value [] zero gap = refl
 added key value [] (suc i) gap = absurd (omega (arith, gap.within))
-added key value (e ∷ es) zero gap = sym (λ n. match_ordering (gap.below 0 e (omega arith) (omega arith) n) ((key, value) ∷ e ∷ es) ((e.0, value) ∷ es) (e ∷ insert_entry key_cmp es key value))
+added key value (e ∷ es) zero gap =
+    sym (λ n. match_ordering (gap.below 0 e (omega arith) (omega arith) n) ((key, value) ∷ e ∷ es) ((e.0, value) ∷ es) (e ∷ insert_entry key_cmp es key value))
 added key value (e ∷ es) (suc i) gap =
     ap (λ rest. e ∷ rest) (added key value es i (past key e es i gap))
     ∙ sym (λ n. match_ordering (gap.above 0 e (omega arith) n) ((key, value) ∷ e ∷ es) ((e.0, value) ∷ es) (e ∷ insert_entry key_cmp es key value))
@@ -175,7 +188,8 @@ above-insert : (k key value : List ℕ) (es : Table) → key_cmp k key ≡ Less 
 above-insert k key value [] new all = (new, tt)
 above-insert k key value (e ∷ es) new all = by (key_cmp key e.0) (above-insert k key value es new all.1)
   where
-    by : (r : Ordering) → AreAbove k (insert_entry key_cmp es key value) → AreAbove k (match_ordering r ((key, value) ∷ e ∷ es) ((e.0, value) ∷ es) (e ∷ insert_entry key_cmp es key value))
+    by : (r : Ordering) → AreAbove k (insert_entry key_cmp es key value)
+        → AreAbove k (match_ordering r ((key, value) ∷ e ∷ es) ((e.0, value) ∷ es) (e ∷ insert_entry key_cmp es key value))
     by Less later = (new, all)
     by Equal later = all
     by Greater later = (all.0, later)
@@ -198,7 +212,8 @@ unfolding IsStrictlySortedBy
 AreInOrder-insert key value [] sorted = (tt, tt)
 AreInOrder-insert key value (e ∷ es) sorted = by (key_cmp key e.0) refl (AreInOrder-insert key value es sorted.1)
   where
-    by : (r : Ordering) → key_cmp key e.0 ≡ r → AreInOrder (insert_entry key_cmp es key value) → AreInOrder (match_ordering r ((key, value) ∷ e ∷ es) ((e.0, value) ∷ es) (e ∷ insert_entry key_cmp es key value))
+    by : (r : Ordering) → key_cmp key e.0 ≡ r → AreInOrder (insert_entry key_cmp es key value)
+        → AreInOrder (match_ordering r ((key, value) ∷ e ∷ es) ((e.0, value) ∷ es) (e ∷ insert_entry key_cmp es key value))
     by Less h later = ((h, above-chain key e.0 es h sorted.0), sorted)
     by Equal h later = sorted
     by Greater h later = (above-insert e.0 key value es (flip e.0 key ∙ ap ordering_reverse h) sorted.0, later)

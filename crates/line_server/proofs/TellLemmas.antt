@@ -6,7 +6,8 @@ use Rattle.line_server.specs.Tables.{Table, served_text}
 use Rattle.line_server.specs.declared.command.Asked.{Asked}
 use Rattle.line_server.specs.declared.command.Asked.TheVariants as asked
 use Rattle.lwp_types.specs.TextFields.{is_printable, is_text}
-use Rattle.std.proofs.Common.{Bool, IsTrue, List, None, Option, Some, [], ap, arith, cond, drop, false, is_some, length, refl, subst, sym, take, true, true≢false, ℕ, zero, suc, ◌≡◌, ◌≤◌, ◌∙◌, ◌∷◌}
+use Rattle.std.proofs.Common.{Bool, IsTrue, List, None, Option, Some, [], ap, arith, cond, drop, false, is_some, length, refl, subst, sym, take}
+use Rattle.std.proofs.Common.{true, true≢false, ℕ, zero, suc, ◌≡◌, ◌≤◌, ◌∙◌, ◌∷◌}
 use Rattle.std.proofs.lemmas.Bool.{leb-true}
 use Rattle.std.proofs.lemmas.List.{length-drop}
 use Rattle.std.specs.Borrow.{Bor}
@@ -74,7 +75,8 @@ dropped-value n text h =
     let small = leb-true (length text) 240 (first_so (nat_le (length text) 240) (is_printable text) h) in
     record {
       short = omega (arith, small, length-drop 1 (drop n (drop 4 text)), length-drop n (drop 4 text), length-drop 4 text);
-      printable = all-drop _ 1 (drop n (drop 4 text)) (all-drop _ n (drop 4 text) (all-drop _ 4 text (second_so (nat_le (length text) 240) (is_printable text) h)));
+      printable = all-drop _ 1 (drop n (drop 4 text))
+          (all-drop _ n (drop 4 text) (all-drop _ 4 text (second_so (nat_le (length text) 240) (is_printable text) h)));
     }
 
 command-value : (text : List ℕ) → IsTrue (is_text text) → IsValue (value_of (command_of text))
@@ -88,7 +90,8 @@ put-fits : (text key value : List ℕ) → IsTrue (is_text text) → command_of 
 put-fits text key value h e = subst (λ c. IsValue (value_of c)) e (command-value text h)
 
 -- the value of a put that was read is short and printable
-pub read-fits : (text bytes : List ℕ) (r : Option Asked) (a : Asked) (key value : Bor (List ℕ)) → IsTrue (is_text text) → bytes ≡ text → option_map read_command r ≡ command_of bytes
+pub read-fits : (text bytes : List ℕ) (r : Option Asked) (a : Asked) (key value : Bor (List ℕ)) → IsTrue (is_text text) → bytes ≡ text
+    → option_map read_command r ≡ command_of bytes
     → r ≡ Some a → a ≡ asked.Put key value → IsValue value.now
 read-fits text bytes r a key value h same e is put =
     put-fits text key.now value.now h (ap command_of (sym same) ∙ sym e ∙ ap (option_map read_command) is ∙ ap (λ x. Some (read_command x)) put)
@@ -104,13 +107,15 @@ set-is-insert {V} (e ∷ es) x new sorted there = by (nat_cmp x e.0) refl (set-i
     by : (r : Ordering) → nat_cmp x e.0 ≡ r
         → (is_some (lookup (is_at (nat_cmp x)) es) ≡ true → set_value (is_at (nat_cmp x)) es new ≡ insert_entry nat_cmp es x new)
         → is_some (cond (is_eq r) (Some e.1) (lookup (is_at (nat_cmp x)) es)) ≡ true
-        → cond (is_eq r) ((e.0, new) ∷ es) (e ∷ set_value (is_at (nat_cmp x)) es new) ≡ match_ordering r ((x, new) ∷ e ∷ es) ((e.0, new) ∷ es) (e ∷ insert_entry nat_cmp es x new)
+        → cond (is_eq r) ((e.0, new) ∷ es) (e ∷ set_value (is_at (nat_cmp x)) es new)
+        ≡ match_ordering r ((x, new) ∷ e ∷ es) ((e.0, new) ∷ es) (e ∷ insert_entry nat_cmp es x new)
     by Less h later found = absurd (true≢false (sym found ∙ ap is_some (lookup-none (is_at (nat_cmp x)) es (none_below_head nat_cmp_total x e es sorted h).1)))
     by Equal h later found = refl
     by Greater h later found = ap (λ rest. e ∷ rest) (later found)
 
 -- a table that was there was told through a reference: it was put there
-pub told-after : (es written : Tables) (x : ℕ) (text : List ℕ) (old new : Table) → IsStrictlySortedBy nat_cmp (keys_of es) → lookup (is_at (nat_cmp x)) es ≡ Some old
+pub told-after : (es written : Tables) (x : ℕ) (text : List ℕ) (old new : Table) → IsStrictlySortedBy nat_cmp (keys_of es)
+    → lookup (is_at (nat_cmp x)) es ≡ Some old
     → written ≡ set_value (is_at (nat_cmp x)) es new → new ≡ (served_text text old).table → written ≡ tables_after x text es
 told-after es written x text old new sorted there w n =
     w ∙ ap (set_value (is_at (nat_cmp x)) es) n ∙ set-is-insert es x (served_text text old).table sorted (ap is_some there)

@@ -1,7 +1,8 @@
 -- Rings of places, as functions: how they change where two places are crossed, and how a walk finds them.
 use Rattle.lists.specs.ChainLinks.{Crosses, IsWound, Spells, walk}
 use Rattle.lists.specs.ChainLists.{before, without}
-use Rattle.std.proofs.Common.{Bool, List, [], ap, arith, cond, eqb, false, inl, inr, length, not, refl, subst, suc, sym, true, zero, ℕ, ◌++◌, ◌<◌, ◌∙◌, ◌∷◌, ◌≡◌, ◌≢◌, ◌≤◌, ◌⊎◌}
+use Rattle.std.proofs.Common.{Bool, List, [], ap, arith, cond, eqb, false, inl, inr, length, not, refl, subst, suc, sym, true, zero, ℕ, ◌++◌, ◌<◌}
+use Rattle.std.proofs.Common.{◌∙◌, ◌∷◌, ◌≡◌, ◌≢◌, ◌≤◌, ◌⊎◌}
 use Rattle.std.proofs.lemmas.Bool.{cases_eq, eq-eqb, eqb-false, eqb-true, false≢true, ne_eqb, or_cases}
 use Rattle.std.proofs.lemmas.Map.Steps.{length-le_from_distinct_below}
 use Rattle.std.specs.List.{AllByRecursion, IsDistinct, list_any}
@@ -57,7 +58,8 @@ module _ (a b : ℕ) where
     | inr (inr others) ↦ rw (exchange-other x others.0 others.1) x_in
   ]
 
-module _ (next prev next' prev' : ℕ → ℕ) (a b limit : ℕ) (wound : IsWound next prev limit) (crosses : Crosses next prev next' prev' a b) (a_in : a < limit) (b_in : b < limit) where
+module _ (next prev next' prev' : ℕ → ℕ) (a b limit : ℕ) (wound : IsWound next prev limit) (crosses : Crosses next prev next' prev' a b)
+    (a_in : a < limit) (b_in : b < limit) where
   pub crossed_next : (x : ℕ) → next' x ≡ next (exchange a b x)
   unfolding Cases
   crossed_next x = elim (cases a b x) [
@@ -73,7 +75,8 @@ module _ (next prev next' prev' : ℕ → ℕ) (a b limit : ℕ) (wound : IsWoun
       | inl after_b ↦ rw (after_b, wound.there b b_in, exchange-second a b) (crosses.back_first (λ same. not_after_a (after_b ∙ same)))
       | inr not_after_b ↦
           crosses.back_others x not_after_a not_after_b
-          ∙ sym (exchange-other a b (prev x) (λ is_a. not_after_a (sym (wound.back x x_in) ∙ ap next is_a)) (λ is_b. not_after_b (sym (wound.back x x_in) ∙ ap next is_b)))
+          ∙ sym (exchange-other a b (prev x) (λ is_a. not_after_a (sym (wound.back x x_in) ∙ ap next is_a))
+          (λ is_b. not_after_b (sym (wound.back x x_in) ∙ ap next is_b)))
     ]
   ]
 
@@ -101,7 +104,8 @@ unfolding instead
 instead-other this that y differs = rw (ne_eqb y this differs) refl
 
 -- a key is crossed with the place before it: it is by itself, and the one that led to it now leads past it
-module _ (next prev next' prev' : ℕ → ℕ) (key limit : ℕ) (wound : IsWound next prev limit) (crosses : Crosses next prev next' prev' key (prev key)) (key_in : key < limit) where
+module _ (next prev next' prev' : ℕ → ℕ) (key limit : ℕ) (wound : IsWound next prev limit)
+    (crosses : Crosses next prev next' prev' key (prev key)) (key_in : key < limit) where
   pub alone : next' key ≡ key
   alone = crosses.first ∙ wound.back key key_in
 
@@ -121,13 +125,15 @@ module _ (next prev next' prev' : ℕ → ℕ) (key limit : ℕ) (wound : IsWoun
     | inr differs ↦ instead-other key (next key) (next key) differs
   ]
 
-  pub Spells-without : (at : ℕ) (keys : List ℕ) (end : ℕ) → at < limit → end ≢ key → Spells next at keys end → Spells next' (instead key (next key) at) (without key keys) end
+  pub Spells-without : (at : ℕ) (keys : List ℕ) (end : ℕ) → at < limit → end ≢ key → Spells next at keys end
+      → Spells next' (instead key (next key) at) (without key keys) end
   Spells-without at [] end at_in not_end spells =
       instead-other key (next key) at (λ same. not_end (sym spells ∙ same)) ∙ spells
   Spells-without at (k ∷ keys) end at_in not_end spells =
       by_test (eqb k key) refl (Spells-without (next k) keys end (wound.next_in k (rw (← spells.0) at_in)) not_end spells.1)
     where
-      by_test : (t : Bool) → eqb k key ≡ t → Spells next' (instead key (next key) (next k)) (without key keys) end → Spells next' (instead key (next key) at) (cond (not t) (k ∷ without key keys) (without key keys)) end
+      by_test : (t : Bool) → eqb k key ≡ t → Spells next' (instead key (next key) (next k)) (without key keys) end
+          → Spells next' (instead key (next key) at) (cond (not t) (k ∷ without key keys) (without key keys)) end
       by_test true e rest =
           let same : k ≡ key = eqb-true k key e in
           let here : instead key (next key) at ≡ next key = instead-same key (next key) at (spells.0 ∙ same) in
@@ -138,7 +144,8 @@ module _ (next prev next' prev' : ℕ → ℕ) (key limit : ℕ) (wound : IsWoun
           (instead-other key (next key) at (λ same. differs (sym spells.0 ∙ same)) ∙ spells.0, rw (past_step k (rw (← spells.0) at_in) differs) rest)
 
 -- a key that is by itself is crossed with the place before another: it stands right before that one
-module _ (next prev next' prev' : ℕ → ℕ) (key other limit : ℕ) (wound : IsWound next prev limit) (crosses : Crosses next prev next' prev' key (prev other)) (key_in : key < limit) (other_in : other < limit) (by_itself : next key ≡ key) where
+module _ (next prev next' prev' : ℕ → ℕ) (key other limit : ℕ) (wound : IsWound next prev limit)
+    (crosses : Crosses next prev next' prev' key (prev other)) (key_in : key < limit) (other_in : other < limit) (by_itself : next key ≡ key) where
   pub to_other : next' key ≡ other
   to_other = crosses.first ∙ wound.back other other_in
 
@@ -152,7 +159,8 @@ module _ (next prev next' prev' : ℕ → ℕ) (key other limit : ℕ) (wound : 
         ∙ sym (instead-other other key (next x) (λ leads. away (sym (wound.there x x_in) ∙ ap prev leads)))
   ]
 
-  pub Spells-before : (at : ℕ) (keys : List ℕ) (end : ℕ) → at < limit → end ≢ other → AllByRecursion (λ k. k ≢ key) keys → Spells next at keys end → Spells next' (instead other key at) (before key other keys) end
+  pub Spells-before : (at : ℕ) (keys : List ℕ) (end : ℕ) → at < limit → end ≢ other → AllByRecursion (λ k. k ≢ key) keys
+      → Spells next at keys end → Spells next' (instead other key at) (before key other keys) end
   Spells-before at [] end at_in not_end apart spells = instead-other other key at (λ same. not_end (sym spells ∙ same)) ∙ spells
   Spells-before at (k ∷ keys) end at_in not_end apart spells =
       by_test (eqb k other) refl (rw (toward_step k k_in apart.0) (Spells-before (next k) keys end (wound.next_in k k_in) not_end apart.1 spells.1))
@@ -160,7 +168,8 @@ module _ (next prev next' prev' : ℕ → ℕ) (key other limit : ℕ) (wound : 
       k_in : k < limit
       k_in = rw (← spells.0) at_in
 
-      by_test : (t : Bool) → eqb k other ≡ t → Spells next' (next' k) (before key other keys) end → Spells next' (instead other key at) (cond t (key ∷ k ∷ before key other keys) (k ∷ before key other keys)) end
+      by_test : (t : Bool) → eqb k other ≡ t → Spells next' (next' k) (before key other keys) end
+          → Spells next' (instead other key at) (cond t (key ∷ k ∷ before key other keys) (k ∷ before key other keys)) end
       by_test true e rest =
           let same : k ≡ other = eqb-true k other e in
           (instead-same other key at (spells.0 ∙ same), (to_other ∙ sym same, rest))
@@ -168,7 +177,8 @@ module _ (next prev next' prev' : ℕ → ℕ) (key other limit : ℕ) (wound : 
           let differs : k ≢ other = eqb-false k other e in
           (instead-other other key at (λ same. differs (sym spells.0 ∙ same)) ∙ spells.0, rest)
 
-  pub Spells-push : (at : ℕ) (keys : List ℕ) → at < limit → AllByRecursion (λ k. k ≢ key) keys → AllByRecursion (λ k. k ≢ other) keys → Spells next at keys other → Spells next' (instead other key at) (keys ++ key ∷ []) other
+  pub Spells-push : (at : ℕ) (keys : List ℕ) → at < limit → AllByRecursion (λ k. k ≢ key) keys → AllByRecursion (λ k. k ≢ other) keys
+      → Spells next at keys other → Spells next' (instead other key at) (keys ++ key ∷ []) other
   Spells-push at [] at_in apart away spells = (instead-same other key at spells, to_other)
   Spells-push at (k ∷ keys) at_in apart away spells =
       let k_in : k < limit = rw (← spells.0) at_in in (
@@ -178,7 +188,8 @@ module _ (next prev next' prev' : ℕ → ℕ) (key other limit : ℕ) (wound : 
 
 -- ---- what a walk finds
 
-pub walk_spelled : (next : ℕ → ℕ) (steps at : ℕ) (keys : List ℕ) (end : ℕ) → length keys ≤ steps → AllByRecursion (λ k. k ≢ end) keys → Spells next at keys end → walk next steps at end ≡ keys
+pub walk_spelled : (next : ℕ → ℕ) (steps at : ℕ) (keys : List ℕ) (end : ℕ) → length keys ≤ steps → AllByRecursion (λ k. k ≢ end) keys
+    → Spells next at keys end → walk next steps at end ≡ keys
 walk_spelled next zero at [] end enough away spells = refl
 walk_spelled next zero at (k ∷ keys) end enough away spells = absurd (omega arith)
 walk_spelled next (suc steps) at [] end enough away spells = rw (eq-eqb at end spells) refl
@@ -189,7 +200,8 @@ walk_spelled next (suc steps) at (k ∷ keys) end enough away spells =
 -- ---- no place comes twice on the way to an end that isn't on it
 
 module _ (next : ℕ → ℕ) (end : ℕ) where
-  same_length : (at : ℕ) (xs ys : List ℕ) → AllByRecursion (λ k. k ≢ end) xs → AllByRecursion (λ k. k ≢ end) ys → Spells next at xs end → Spells next at ys end → length xs ≡ length ys
+  same_length : (at : ℕ) (xs ys : List ℕ) → AllByRecursion (λ k. k ≢ end) xs → AllByRecursion (λ k. k ≢ end) ys → Spells next at xs end
+      → Spells next at ys end → length xs ≡ length ys
   same_length at [] [] xs_away ys_away xs_spells ys_spells = refl
   same_length at [] (y ∷ ys) xs_away ys_away xs_spells ys_spells = absurd (ys_away.0 (sym ys_spells.0 ∙ xs_spells))
   same_length at (x ∷ xs) [] xs_away ys_away xs_spells ys_spells = absurd (xs_away.0 (sym xs_spells.0 ∙ ys_spells))
@@ -198,7 +210,8 @@ module _ (next : ℕ → ℕ) (end : ℕ) where
       ap suc (same_length (next x) xs ys xs_away.1 ys_away.1 xs_spells.1 (subst (λ k. Spells next (next k) ys end) same ys_spells.1))
 
   -- the place is on no shorter way
-  not_on : (z : ℕ) (whole : List ℕ) → AllByRecursion (λ k. k ≢ end) whole → Spells next (next z) whole end → (at : ℕ) (rest : List ℕ) → length rest ≤ length whole → AllByRecursion (λ k. k ≢ end) rest → Spells next at rest end → AllByRecursion (λ y. eqb z y ≡ false) rest
+  not_on : (z : ℕ) (whole : List ℕ) → AllByRecursion (λ k. k ≢ end) whole → Spells next (next z) whole end → (at : ℕ) (rest : List ℕ)
+      → length rest ≤ length whole → AllByRecursion (λ k. k ≢ end) rest → Spells next at rest end → AllByRecursion (λ y. eqb z y ≡ false) rest
   not_on z whole whole_away whole_spells at [] shorter away spells = tt
   not_on z whole whole_away whole_spells at (y ∷ rest) shorter away spells = (
     ne_eqb z y (λ same.
@@ -211,7 +224,8 @@ module _ (next : ℕ → ℕ) (end : ℕ) where
   IsDistinct-spelled : (at : ℕ) (keys : List ℕ) → AllByRecursion (λ k. k ≢ end) keys → Spells next at keys end → IsDistinct eqb keys
   unfolding IsDistinct
   IsDistinct-spelled at [] away spells = tt
-  IsDistinct-spelled at (k ∷ keys) away spells = (not_on k keys away.1 spells.1 (next k) keys (omega arith) away.1 spells.1, IsDistinct-spelled (next k) keys away.1 spells.1)
+  IsDistinct-spelled at (k ∷ keys) away spells =
+      (not_on k keys away.1 spells.1 (next k) keys (omega arith) away.1 spells.1, IsDistinct-spelled (next k) keys away.1 spells.1)
 
   module _ (limit : ℕ) (bound : (x : ℕ) → x < limit → next x < limit) where
     below : (q at : ℕ) (keys : List ℕ) → at < limit → Spells next at keys end → list_any (eqb q) keys ≡ true → q < limit

@@ -1,9 +1,11 @@
 -- Each change of the links leaves them sound, and the lists changed as said.
 use Rattle.lists.proofs.ChainRings.{IsWound-crossed, Spells-before, Spells-push, Spells-without, alone, instead, past_step, toward_step, walk_all}
 use Rattle.lists.specs.ChainLinks.{Crosses, Grows, IsRing, IsSound, IsWound, Spells, keys_of, lists_of, next_of, no_link, prev_of}
-use Rattle.lists.specs.ChainLists.{Lists, after_clear, after_move_before, after_move_to_back, after_push, after_remove, before, empty_lists, items, with_limit, without}
+use Rattle.lists.specs.ChainLists.{Lists, after_clear, after_move_before, after_move_to_back, after_push, after_remove, before, empty_lists, items}
+use Rattle.lists.specs.ChainLists.{with_limit, without}
 use Rattle.lists.specs.declared.chain_links.Link.{Link}
-use Rattle.std.proofs.Common.{Bool, List, None, Some, [], ap, arith, cond, eqb, false, get_or, inl, inr, length, map, max, not, refl, replicate, slice_get, subst, suc, sym, true, zero, ℕ, ◌++◌, ◌+◌, ◌<◌, ◌∙◌, ◌∷◌, ◌≡◌, ◌≢◌, ◌≤◌}
+use Rattle.std.proofs.Common.{Bool, List, None, Some, [], ap, arith, cond, eqb, false, get_or, inl, inr, length, map, max, not, refl, replicate}
+use Rattle.std.proofs.Common.{slice_get, subst, suc, sym, true, zero, ℕ, ◌++◌, ◌+◌, ◌<◌, ◌∙◌, ◌∷◌, ◌≡◌, ◌≢◌, ◌≤◌}
 use Rattle.std.proofs.lemmas.Bool.{cases_eq, cases_lt, eq-eqb, eqb-false, ne_eqb}
 use Rattle.std.proofs.lemmas.List.FromFn.{get_or-map-range_with_len, length-map-range_with_len}
 use Rattle.std.specs.List.{AllByRecursion, range_with_len}
@@ -39,7 +41,8 @@ All-gone : (key : ℕ) (keys : List ℕ) → AllByRecursion (λ k. k ≢ key) (w
 All-gone key [] = tt
 All-gone key (k ∷ keys) = by_test (eqb k key) refl (All-gone key keys)
   where
-    by_test : (t : Bool) → eqb k key ≡ t → AllByRecursion (λ k. k ≢ key) (without key keys) → AllByRecursion (λ k. k ≢ key) (cond (not t) (k ∷ without key keys) (without key keys))
+    by_test : (t : Bool) → eqb k key ≡ t → AllByRecursion (λ k. k ≢ key) (without key keys)
+        → AllByRecursion (λ k. k ≢ key) (cond (not t) (k ∷ without key keys) (without key keys))
     by_test true e rest = rest
     by_test false e rest = (eqb-false k key e, rest)
 
@@ -49,7 +52,8 @@ away_from heads list head keys are_keys = All-weaker (λ k. heads ≤ k) (λ k. 
 
 -- ---- lists by their numbers
 
-map-range_same : (f g : ℕ → List ℕ) (h : List ℕ → List ℕ) (a n : ℕ) → ((i : ℕ) → i < a + n → f i ≡ h (g i)) → map f (range_with_len a n) ≡ map h (map g (range_with_len a n))
+map-range_same : (f g : ℕ → List ℕ) (h : List ℕ → List ℕ) (a n : ℕ) → ((i : ℕ) → i < a + n → f i ≡ h (g i))
+    → map f (range_with_len a n) ≡ map h (map g (range_with_len a n))
 map-range_same f g h a zero same = refl
 map-range_same f g h a (suc n) same =
     let here : f a ≡ h (g a) = same a (omega arith) in
@@ -63,7 +67,8 @@ range_same f g a (suc n) same =
     let rest = range_same f g (a + 1) n (λ i from below. same i (omega arith) (omega arith)) in
     cc
 
-range_pushed : (f g : ℕ → List ℕ) (key l a n list : ℕ) → a + l ≡ list → l < n → f list ≡ g list ++ key ∷ [] → ((i : ℕ) → i < a + n → i ≢ list → f i ≡ g i) → map f (range_with_len a n) ≡ after_push l key (map g (range_with_len a n))
+range_pushed : (f g : ℕ → List ℕ) (key l a n list : ℕ) → a + l ≡ list → l < n → f list ≡ g list ++ key ∷ []
+    → ((i : ℕ) → i < a + n → i ≢ list → f i ≡ g i) → map f (range_with_len a n) ≡ after_push l key (map g (range_with_len a n))
 range_pushed f g key l a zero list at inside here same = absurd (omega arith)
 range_pushed f g key zero a (suc n) list at inside here same =
     let first : a ≡ list = omega arith in
@@ -79,18 +84,23 @@ range_pushed f g key (suc l) a (suc n) list at inside here same =
 
 module _ (links : List Link) (heads : ℕ) (few : heads ≤ length links) (wound : IsWound (next_of links) (prev_of links) (length links)) where
   -- what the links spell is what a contract sees
-  found : (list : ℕ) (keys : List ℕ) → list < heads → AllByRecursion (λ k. heads ≤ k) keys → Spells (next_of links) (next_of links list) keys list → keys_of links list ≡ keys
+  found : (list : ℕ) (keys : List ℕ) → list < heads → AllByRecursion (λ k. heads ≤ k) keys
+      → Spells (next_of links) (next_of links list) keys list → keys_of links list ≡ keys
   unfolding keys_of
   found list keys head are_keys spells =
-      walk_all (next_of links) list (length links) wound.next_in (next_of links list) keys (wound.next_in list (omega arith)) (away_from heads list head keys are_keys) spells
+      walk_all (next_of links) list (length links) wound.next_in (next_of links list) keys (wound.next_in list (omega arith))
+      (away_from heads list head keys are_keys) spells
 
-  pub IsRing-found : (list : ℕ) (keys : List ℕ) → list < heads → AllByRecursion (λ k. heads ≤ k) keys → Spells (next_of links) (next_of links list) keys list → IsRing (next_of links) heads list (keys_of links list)
+  pub IsRing-found : (list : ℕ) (keys : List ℕ) → list < heads → AllByRecursion (λ k. heads ≤ k) keys
+      → Spells (next_of links) (next_of links list) keys list → IsRing (next_of links) heads list (keys_of links list)
   IsRing-found list keys head are_keys spells =
       subst (IsRing (next_of links) heads list) (sym (found list keys head are_keys spells)) (record { closes = spells; are_keys = are_keys })
 
 -- ---- a key leaves its list
 
-module _ (links links' : List Link) (heads key : ℕ) (sound : IsSound links heads) (len : length links' ≡ length links) (is_key : heads ≤ key) (key_in : key < length links) (crosses : Crosses (next_of links) (prev_of links) (next_of links') (prev_of links') key (prev_of links key)) where
+module _ (links links' : List Link) (heads key : ℕ) (sound : IsSound links heads) (len : length links' ≡ length links)
+    (is_key : heads ≤ key) (key_in : key < length links)
+    (crosses : Crosses (next_of links) (prev_of links) (next_of links') (prev_of links') key (prev_of links key)) where
   pub wound_removed : IsWound (next_of links') (prev_of links') (length links')
   wound_removed = rw len (IsWound-crossed _ _ _ _ key (prev_of links key) (length links) sound.wound crosses key_in (sound.wound.prev_in key key_in))
 
@@ -105,7 +115,8 @@ module _ (links links' : List Link) (heads key : ℕ) (sound : IsSound links hea
       let list_in : list < length links = omega (arith, sound.few) in
       let other : list ≢ key = λ same. absurd (omega arith) in
       rw (past_step _ _ _ _ key (length links) sound.wound crosses key_in list list_in other)
-      (Spells-without _ _ _ _ key (length links) sound.wound crosses key_in (next_of links list) (keys_of links list) list (sound.wound.next_in list list_in) other (sound.rings list head).closes)
+      (Spells-without _ _ _ _ key (length links) sound.wound crosses key_in (next_of links list) (keys_of links list) list
+      (sound.wound.next_in list list_in) other (sound.rings list head).closes)
 
   pub keys_of-removed : (list : ℕ) → list < heads → keys_of links' list ≡ without key (keys_of links list)
   keys_of-removed list head = found links' heads few_removed wound_removed list _ head (keys_removed list head) (spells_removed list head)
@@ -130,7 +141,10 @@ module _ (links links' : List Link) (heads key : ℕ) (sound : IsSound links hea
 
 -- ---- a key that is in no list joins one
 
-module _ (links links' : List Link) (heads key other : ℕ) (sound : IsSound links heads) (len : length links' ≡ length links) (is_key : heads ≤ key) (key_in : key < length links) (other_in : other < length links) (by_itself : next_of links key ≡ key) (gone : (list : ℕ) → list < heads → AllByRecursion (λ k. k ≢ key) (keys_of links list)) (crosses : Crosses (next_of links) (prev_of links) (next_of links') (prev_of links') key (prev_of links other)) where
+module _ (links links' : List Link) (heads key other : ℕ) (sound : IsSound links heads) (len : length links' ≡ length links)
+    (is_key : heads ≤ key) (key_in : key < length links) (other_in : other < length links) (by_itself : next_of links key ≡ key)
+    (gone : (list : ℕ) → list < heads → AllByRecursion (λ k. k ≢ key) (keys_of links list))
+    (crosses : Crosses (next_of links) (prev_of links) (next_of links') (prev_of links') key (prev_of links other)) where
   wound_joined : IsWound (next_of links') (prev_of links') (length links')
   wound_joined = rw len (IsWound-crossed _ _ _ _ key (prev_of links other) (length links) sound.wound crosses key_in (sound.wound.prev_in other other_in))
 
@@ -138,7 +152,8 @@ module _ (links links' : List Link) (heads key other : ℕ) (sound : IsSound lin
   few_joined = omega (arith, sound.few)
 
   toward : (list : ℕ) → list < heads → next_of links' list ≡ instead other key (next_of links list)
-  toward list head = toward_step _ _ _ _ key other (length links) sound.wound crosses key_in other_in by_itself list (omega (arith, sound.few)) (λ same. absurd (omega arith))
+  toward list head = toward_step _ _ _ _ key other (length links) sound.wound crosses key_in other_in by_itself list
+      (omega (arith, sound.few)) (λ same. absurd (omega arith))
 
   keys_before : (list : ℕ) → list < heads → AllByRecursion (λ k. heads ≤ k) (before key other (keys_of links list))
   keys_before list head = All-before (λ k. heads ≤ k) key other (keys_of links list) is_key (sound.rings list head).are_keys
@@ -146,7 +161,8 @@ module _ (links links' : List Link) (heads key other : ℕ) (sound : IsSound lin
   spells_before : (list : ℕ) → list < heads → list ≢ other → Spells (next_of links') (next_of links' list) (before key other (keys_of links list)) list
   spells_before list head differs =
       rw (toward list head)
-      (Spells-before _ _ _ _ key other (length links) sound.wound crosses key_in other_in by_itself (next_of links list) (keys_of links list) list (sound.wound.next_in list (omega (arith, sound.few))) differs (gone list head) (sound.rings list head).closes)
+      (Spells-before _ _ _ _ key other (length links) sound.wound crosses key_in other_in by_itself (next_of links list)
+      (keys_of links list) list (sound.wound.next_in list (omega (arith, sound.few))) differs (gone list head) (sound.rings list head).closes)
 
   keys_of-before : (list : ℕ) → list < heads → list ≢ other → keys_of links' list ≡ before key other (keys_of links list)
   keys_of-before list head differs = found links' heads few_joined wound_joined list _ head (keys_before list head) (spells_before list head differs)
@@ -163,7 +179,8 @@ module _ (links links' : List Link) (heads key other : ℕ) (sound : IsSound lin
 
     pub lists_before : lists_of links' heads ≡ record { lists = map (before key other) (lists_of links heads).lists; limit = length links }
     lists_before =
-        let lists = map-range_same (keys_of links') (keys_of links) (before key other) 0 heads (λ list below. keys_of-before list (omega arith) (no_head list (omega arith))) in
+        let lists = map-range_same (keys_of links') (keys_of links) (before key other) 0 heads
+        (λ list below. keys_of-before list (omega arith) (no_head list (omega arith))) in
         cc (lists, len)
 
   module _ (head : other < heads) where
@@ -174,7 +191,9 @@ module _ (links links' : List Link) (heads key other : ℕ) (sound : IsSound lin
     spells_push =
         let ring = sound.rings other head in
         rw (toward other head)
-        (Spells-push _ _ _ _ key other (length links) sound.wound crosses key_in other_in by_itself (next_of links other) (keys_of links other) (sound.wound.next_in other other_in) (gone other head) (away_from heads other head (keys_of links other) ring.are_keys) ring.closes)
+        (Spells-push _ _ _ _ key other (length links) sound.wound crosses key_in other_in by_itself (next_of links other)
+        (keys_of links other) (sound.wound.next_in other other_in) (gone other head)
+        (away_from heads other head (keys_of links other) ring.are_keys) ring.closes)
 
     keys_of-push : keys_of links' other ≡ keys_of links other ++ key ∷ []
     keys_of-push = found links' heads few_joined wound_joined other _ head keys_push spells_push
@@ -198,7 +217,8 @@ module _ (links links' : List Link) (heads key other : ℕ) (sound : IsSound lin
 
     pub lists_push : lists_of links' heads ≡ record { lists = after_push other key (lists_of links heads).lists; limit = length links }
     lists_push =
-        let lists = range_pushed (keys_of links') (keys_of links) key other 0 heads other (omega arith) head keys_of-push (λ list below differs. keys_of-before list (omega arith) differs ∙ before_none _ (sound.rings list (omega arith)).are_keys) in
+        let lists = range_pushed (keys_of links') (keys_of links) key other 0 heads other (omega arith) head keys_of-push
+        (λ list below differs. keys_of-before list (omega arith) differs ∙ before_none _ (sound.rings list (omega arith)).are_keys) in
         cc (lists, len)
 
 -- ---- what a contract sees
@@ -208,7 +228,10 @@ list_count links heads = length-map-range_with_len (keys_of links) 0 heads
 
 -- ---- a key leaves its list and joins another
 
-module _ (links links₁ links₂ : List Link) (heads key other : ℕ) (sound : IsSound links heads) (len₁ : length links₁ ≡ length links) (len₂ : length links₂ ≡ length links₁) (is_key : heads ≤ key) (key_in : key < length links) (other_in : other < length links) (out : Crosses (next_of links) (prev_of links) (next_of links₁) (prev_of links₁) key (prev_of links key)) (into : Crosses (next_of links₁) (prev_of links₁) (next_of links₂) (prev_of links₂) key (prev_of links₁ other)) where
+module _ (links links₁ links₂ : List Link) (heads key other : ℕ) (sound : IsSound links heads) (len₁ : length links₁ ≡ length links)
+    (len₂ : length links₂ ≡ length links₁) (is_key : heads ≤ key) (key_in : key < length links) (other_in : other < length links)
+    (out : Crosses (next_of links) (prev_of links) (next_of links₁) (prev_of links₁) key (prev_of links key))
+    (into : Crosses (next_of links₁) (prev_of links₁) (next_of links₂) (prev_of links₂) key (prev_of links₁ other)) where
   between : IsSound links₁ heads
   between = IsSound-removed links links₁ heads key sound len₁ is_key key_in out
 
@@ -245,7 +268,8 @@ module _ (links links₁ links₂ : List Link) (heads key other : ℕ) (sound : 
 
 -- ---- a key that is the last of its list already
 
-module _ (links : List Link) (heads key list : ℕ) (sound : IsSound links heads) (is_key : heads ≤ key) (key_in : key < length links) (head : list < heads) (last : prev_of links list ≡ key) where
+module _ (links : List Link) (heads key list : ℕ) (sound : IsSound links heads) (is_key : heads ≤ key) (key_in : key < length links)
+    (head : list < heads) (last : prev_of links list ≡ key) where
   -- it leads to the head of its list
   leads : next_of links key ≡ list
   leads = ap (next_of links) (sym last) ∙ sound.wound.back list (omega (arith, sound.few))
@@ -256,7 +280,8 @@ module _ (links : List Link) (heads key list : ℕ) (sound : IsSound links heads
   none_behind at (k ∷ keys) end are_keys spells same = absurd (omega (arith, are_keys.0, spells.0, same, head))
 
   -- and no other list has it
-  elsewhere : (at : ℕ) (keys : List ℕ) (end : ℕ) → AllByRecursion (λ k. heads ≤ k) keys → Spells (next_of links) at keys end → end ≢ list → without key keys ≡ keys
+  elsewhere : (at : ℕ) (keys : List ℕ) (end : ℕ) → AllByRecursion (λ k. heads ≤ k) keys → Spells (next_of links) at keys end → end ≢ list
+      → without key keys ≡ keys
   elsewhere at [] end are_keys spells away = refl
   elsewhere at (k ∷ keys) end are_keys spells away = elim (cases_eq k key) [
     | inl same ↦
@@ -266,7 +291,8 @@ module _ (links : List Link) (heads key list : ℕ) (sound : IsSound links heads
     | inr differs ↦ rw (ne_eqb k key differs) (ap (λ ks. k ∷ ks) (elsewhere (next_of links k) keys end are_keys.1 spells.1 away))
   ]
 
-  at_end : (at : ℕ) (keys : List ℕ) → at < length links → AllByRecursion (λ k. heads ≤ k) keys → Spells (next_of links) at keys list → at ≢ list → without key keys ++ key ∷ [] ≡ keys
+  at_end : (at : ℕ) (keys : List ℕ) → at < length links → AllByRecursion (λ k. heads ≤ k) keys → Spells (next_of links) at keys list
+      → at ≢ list → without key keys ++ key ∷ [] ≡ keys
   at_end at [] at_in are_keys spells away = absurd (away spells)
   at_end at (k ∷ keys) at_in are_keys spells away = elim (cases_eq k key) [
     | inl same ↦
@@ -281,21 +307,26 @@ module _ (links : List Link) (heads key list : ℕ) (sound : IsSound links heads
   keys_here : keys_of links list ≡ without key (keys_of links list) ++ key ∷ []
   keys_here =
       let list_in : list < length links = omega (arith, sound.few) in
-      let away : next_of links list ≢ list = λ alone. absurd (omega (arith, sym (sound.wound.there list list_in) ∙ ap (prev_of links) alone ∙ last, is_key, head)) in
-      sym (at_end (next_of links list) (keys_of links list) (sound.wound.next_in list list_in) (sound.rings list head).are_keys (sound.rings list head).closes away)
+      let away : next_of links list
+      ≢ list = λ alone. absurd (omega (arith, sym (sound.wound.there list list_in) ∙ ap (prev_of links) alone ∙ last, is_key, head)) in
+      sym (at_end (next_of links list) (keys_of links list) (sound.wound.next_in list list_in) (sound.rings list head).are_keys
+      (sound.rings list head).closes away)
 
   keys_there : (other : ℕ) → other < heads → other ≢ list → keys_of links other ≡ without key (keys_of links other)
-  keys_there other below differs = sym (elsewhere (next_of links other) (keys_of links other) other (sound.rings other below).are_keys (sound.rings other below).closes differs)
+  keys_there other below differs =
+      sym (elsewhere (next_of links other) (keys_of links other) other (sound.rings other below).are_keys (sound.rings other below).closes differs)
 
   pub lists_stay : lists_of links heads ≡ after_move_to_back (lists_of links heads) list key
   lists_stay =
       let each = map-range_same (λ l. without key (keys_of links l)) (keys_of links) (without key) 0 heads (λ l below. refl) in
-      let lists = range_pushed (keys_of links) (λ l. without key (keys_of links l)) key list 0 heads list (omega arith) head keys_here (λ l below differs. keys_there l (omega arith) differs) in
+      let lists = range_pushed (keys_of links) (λ l. without key (keys_of links l)) key list 0 heads list (omega arith) head keys_here
+      (λ l below differs. keys_there l (omega arith) differs) in
       ap (λ ls. record { lists = ls; limit = length links }) (lists ∙ ap (after_push list key) each)
 
 -- ---- further places
 
-module _ (links links' : List Link) (wound : IsWound (next_of links) (prev_of links) (length links)) (grows : Grows links links') (longer : length links ≤ length links') where
+module _ (links links' : List Link) (wound : IsWound (next_of links) (prev_of links) (length links)) (grows : Grows links links')
+    (longer : length links ≤ length links') where
   next_kept : (x : ℕ) → x < length links → next_of links' x ≡ next_of links x
   next_kept x x_in = ap (λ (link : Link). link.next) (grows.kept x x_in)
 
@@ -345,7 +376,8 @@ module _ (links links' : List Link) (heads : ℕ) (sound : IsSound links heads) 
   spells_grown list head =
       let list_in : list < length links = omega (arith, sound.few) in
       rw (next_kept links links' sound.wound grows longer list list_in)
-      (Spells-grown links links' sound.wound grows longer (next_of links list) (keys_of links list) list (sound.wound.next_in list list_in) (sound.rings list head).closes)
+      (Spells-grown links links' sound.wound grows longer (next_of links list) (keys_of links list) list (sound.wound.next_in list list_in)
+      (sound.rings list head).closes)
 
   pub IsSound-grown : IsSound links' heads
   IsSound-grown = record {
@@ -356,13 +388,21 @@ module _ (links links' : List Link) (heads : ℕ) (sound : IsSound links heads) 
 
   pub lists_grown : lists_of links' heads ≡ with_limit (lists_of links heads) (length links')
   lists_grown =
-      let lists = range_same (keys_of links') (keys_of links) 0 heads (λ list from below. found links' heads few_grown wound_grown list _ (omega arith) (sound.rings list (omega arith)).are_keys (spells_grown list (omega arith))) in
+      let lists = range_same (keys_of links') (keys_of links) 0 heads (λ list from below.
+      found links' heads few_grown wound_grown list _ (omega arith) (sound.rings list (omega arith)).are_keys (spells_grown list (omega arith))) in
       let limit : max (length links) (length links') ≡ length links' = omega arith in
       rw (lists, limit) refl
 
 module _ (links : List Link) (grows : Grows [] links) where
   wound_new : IsWound (next_of links) (prev_of links) (length links)
-  wound_new = IsWound-grown [] links (record { next_in = λ x none. absurd (omega arith); prev_in = λ x none. absurd (omega arith); there = λ x none. absurd (omega arith); back = λ x none. absurd (omega arith) }) grows (omega arith)
+  wound_new = IsWound-grown [] links
+      (record {
+        next_in = λ x none. absurd (omega arith);
+        prev_in = λ x none. absurd (omega arith);
+        there = λ x none. absurd (omega arith);
+        back = λ x none. absurd (omega arith);
+      })
+      grows (omega arith)
 
   spells_new : (list : ℕ) → list < length links → Spells (next_of links) (next_of links list) [] list
   spells_new list head = ap (λ (link : Link). link.next) (grows.alone list (omega arith) head)
@@ -383,12 +423,14 @@ module _ (links : List Link) (grows : Grows [] links) where
 
   pub lists_new : lists_of links (length links) ≡ empty_lists (length links)
   lists_new =
-      let lists = range_empty (keys_of links) 0 (length links) (λ list below. found links (length links) (omega arith) wound_new list [] (omega arith) tt (spells_new list (omega arith))) in
+      let lists = range_empty (keys_of links) 0 (length links)
+      (λ list below. found links (length links) (omega arith) wound_new list [] (omega arith) tt (spells_new list (omega arith))) in
       rw lists refl
 
 -- ---- each place leads to itself
 
-module _ (links : List Link) (heads : ℕ) (few : heads ≤ length links) (alone : (x : ℕ) → x < length links → get_or links x no_link ≡ record { next = x; prev = x }) where
+module _ (links : List Link) (heads : ℕ) (few : heads ≤ length links) (alone : (x : ℕ) → x < length links
+    → get_or links x no_link ≡ record { next = x; prev = x }) where
   grows_reset : Grows [] links
   grows_reset = record { kept = λ x none. absurd (omega arith); alone = λ x none inside. alone x inside }
 
@@ -407,7 +449,8 @@ module _ (links : List Link) (heads : ℕ) (few : heads ≤ length links) (alone
 
   pub lists_reset : (old : List Link) → length links ≡ length old → lists_of links heads ≡ after_clear (lists_of old heads)
   lists_reset old len =
-      let lists = map-range_same (keys_of links) (keys_of old) (λ keys. []) 0 heads (λ list below. found links heads few wound_reset list [] (omega arith) tt (spells_reset list (omega arith))) in
+      let lists = map-range_same (keys_of links) (keys_of old) (λ keys. []) 0 heads
+      (λ list below. found links heads few wound_reset list [] (omega arith) tt (spells_reset list (omega arith))) in
       rw (lists, len) refl
 
 -- ---- the first key of a list
@@ -423,7 +466,8 @@ module _ (links : List Link) (heads list : ℕ) (sound : IsSound links heads) (h
   none_spelled at [] are_keys spells same = refl
   none_spelled at (k ∷ keys) are_keys spells same = absurd (omega (arith, are_keys.0, spells.0, head))
 
-  some_spelled : (at : ℕ) (keys : List ℕ) → AllByRecursion (λ k. heads ≤ k) keys → Spells (next_of links) at keys list → at ≢ list → (slice_get keys 0 ≡ Some at) × (heads ≤ at)
+  some_spelled : (at : ℕ) (keys : List ℕ) → AllByRecursion (λ k. heads ≤ k) keys → Spells (next_of links) at keys list → at ≢ list
+      → (slice_get keys 0 ≡ Some at) × (heads ≤ at)
   some_spelled at [] are_keys spells differs = absurd (differs spells)
   some_spelled at (k ∷ keys) are_keys spells differs = (ap Some (sym spells.0), omega (arith, are_keys.0, spells.0))
 
@@ -435,7 +479,8 @@ module _ (links : List Link) (heads list : ℕ) (sound : IsSound links heads) (h
 
   -- after a key of the list come the keys that follow it
 
-  spelled_behind : (at : ℕ) (front back : List ℕ) (key : ℕ) → Spells (next_of links) at (front ++ key ∷ back) list → Spells (next_of links) (next_of links key) back list
+  spelled_behind : (at : ℕ) (front back : List ℕ) (key : ℕ) → Spells (next_of links) at (front ++ key ∷ back) list
+      → Spells (next_of links) (next_of links key) back list
   spelled_behind at [] back key spells = spells.1
   spelled_behind at (k ∷ front) back key spells = spelled_behind (next_of links k) front back key spells.1
 

@@ -1,8 +1,11 @@
 -- The index: strays by rising numbers, and cells.
 use Rattle.lwp_types.specs.State.{passes}
-use Rattle.lists.specs.ThreadIndex.{IsAbsent, IsAt, IsEmpty, IsGapAt, IsHome, IsIndexed, IsKept, IsMask, IsRising, Puts, cell_in, home, is_entry_of, place_in, place_of, place_or, no_entry, without_entry}
+use Rattle.lists.specs.ThreadIndex.{IsAbsent, IsAt, IsEmpty, IsGapAt, IsHome, IsIndexed, IsKept, IsMask, IsRising, Puts, cell_in, home, is_entry_of}
+use Rattle.lists.specs.ThreadIndex.{place_in, place_of, place_or, no_entry, without_entry}
 use Rattle.lists.specs.declared.thread_index.Entry.{Entry}
-use Rattle.std.proofs.Common.{Bool, Err, IfNone, IfSome, IsSome, Ok, Result, get_or, get_or-set_other, get_or-set_same, inl, inr, is_some, length-set, replicate, set, suc, zero, ◌<◌, List, None, Option, Some, [], ap, arith, cond, eqb, false, length, not, option_map, refl, subst, sym, true, ℕ, ◌+◌, ◌∙◌, ◌∷◌, ◌≡◌, ◌≢◌, ◌≤◌}
+use Rattle.std.proofs.Common.{Bool, Err, IfNone, IfSome, IsSome, Ok, Result, get_or, get_or-set_other, get_or-set_same, inl, inr, is_some}
+use Rattle.std.proofs.Common.{length-set, replicate, set, suc, zero, ◌<◌, List, None, Option, Some, [], ap, arith, cond, eqb, false, length, not}
+use Rattle.std.proofs.Common.{option_map, refl, subst, sym, true, ℕ, ◌+◌, ◌∙◌, ◌∷◌, ◌≡◌, ◌≢◌, ◌≤◌}
 use Rattle.lists.proofs.LivingLemmas.{held, living-set, none_living}
 use Rattle.lists.specs.Living.{living}
 use Rattle.std.proofs.lemmas.Bool.{cases_eq, cases_lt, eq-eqb, eqb-false, eqb-true, ne_eqb}
@@ -21,7 +24,8 @@ find_gone : (n : ℕ) (es : List Entry) → find (is_entry_of n) (without_entry 
 find_gone n [] = refl
 find_gone n (e ∷ es) = by_test (eqb e.number n) refl (find_gone n es)
   where
-    by_test : (t : Bool) → eqb e.number n ≡ t → find (is_entry_of n) (without_entry n es) ≡ None → find (is_entry_of n) (cond (not t) (e ∷ without_entry n es) (without_entry n es)) ≡ None
+    by_test : (t : Bool) → eqb e.number n ≡ t → find (is_entry_of n) (without_entry n es) ≡ None
+        → find (is_entry_of n) (cond (not t) (e ∷ without_entry n es) (without_entry n es)) ≡ None
     by_test true is rest = rest
     by_test false is rest = rw is rest
 
@@ -29,7 +33,8 @@ find_kept : (n m : ℕ) (es : List Entry) → m ≢ n → find (is_entry_of m) (
 find_kept n m [] differs = refl
 find_kept n m (e ∷ es) differs = by_test (eqb e.number n) refl (find_kept n m es differs)
   where
-    by_test : (t : Bool) → eqb e.number n ≡ t → find (is_entry_of m) (without_entry n es) ≡ find (is_entry_of m) es → find (is_entry_of m) (cond (not t) (e ∷ without_entry n es) (without_entry n es)) ≡ cond (eqb e.number m) (Some e) (find (is_entry_of m) es)
+    by_test : (t : Bool) → eqb e.number n ≡ t → find (is_entry_of m) (without_entry n es) ≡ find (is_entry_of m) es
+        → find (is_entry_of m) (cond (not t) (e ∷ without_entry n es) (without_entry n es)) ≡ cond (eqb e.number m) (Some e) (find (is_entry_of m) es)
     by_test true is rest =
         let other : eqb e.number m ≡ false = ne_eqb _ _ (λ same. differs (sym same ∙ eqb-true _ _ is)) in
         rw other rest
@@ -55,7 +60,8 @@ rises (e ∷ es) zero (suc j) d rising lt within = All-at (λ f. e.number < f.nu
 rises (e ∷ es) (suc i) zero d rising lt within = absurd (omega arith)
 rises (e ∷ es) (suc i) (suc j) d rising lt within = rises es i j d rising.1 (omega arith) (omega arith)
 
-pub find_at : (n : ℕ) (es : List Entry) (i : ℕ) (d : Entry) → IsRising es → i < length es → (get_or es i d).number ≡ n → find (is_entry_of n) es ≡ Some (get_or es i d)
+pub find_at : (n : ℕ) (es : List Entry) (i : ℕ) (d : Entry) → IsRising es → i < length es → (get_or es i d).number ≡ n
+    → find (is_entry_of n) es ≡ Some (get_or es i d)
 find_at n [] i d rising within here = absurd (omega arith)
 find_at n (e ∷ es) zero d rising within here = rw (eq-eqb e.number n here) refl
 find_at n (e ∷ es) (suc i) d rising within here =
@@ -86,11 +92,13 @@ module _ (es : List Entry) (rising : IsRising es) (n : ℕ) where
   -- the entries are sorted by their comparison with n
   sorted : IsNonDecreasingBy (λ e. ordering_index (nat_cmp e.number n)) es
   sorted = IsNonDecreasingBy-from_default (λ e. ordering_index (nat_cmp e.number n)) es no_entry (λ i j le within.
-      let numbers_rise : (get_or es i no_entry).number ≤ (get_or es j no_entry).number = grind (arith, rises es i j no_entry rising, λ (same : i ≡ j). ap (λ k. (get_or es k no_entry).number) same) in
+      let numbers_rise : (get_or es i no_entry).number
+      ≤ (get_or es j no_entry).number = grind (arith, rises es i j no_entry rising, λ (same : i ≡ j). ap (λ k. (get_or es k no_entry).number) same) in
       grind (arith, nat_tests))
 
   -- what the search answers: the place of n, or that there is none
-  pub searched : (r : Result ℕ ℕ) → IsSearchInRange r (length es) → IsBinarySearchResult (λ e. nat_cmp e.number n) es r → record { absent : IfNone (result_ok r) (IsAbsent n es); found : IfSome (result_ok r) (IsAt n es) }
+  pub searched : (r : Result ℕ ℕ) → IsSearchInRange r (length es) → IsBinarySearchResult (λ e. nat_cmp e.number n) es r
+      → record { absent : IfNone (result_ok r) (IsAbsent n es); found : IfSome (result_ok r) (IsAt n es) }
   searched (Ok at) within equal = record { absent = tt; found = record { within = within; here = λ d. ranked _ n _ (sym (equal d)) } }
   searched (Err at) within parted =
       let smaller = (parted sorted).0 in
@@ -104,7 +112,8 @@ module _ (es : List Entry) (rising : IsRising es) (n : ℕ) where
       }
 
   -- where n belongs, or that it is there
-  pub parted : (r : Result ℕ ℕ) → IsSearchInRange r (length es) → IsBinarySearchResult (λ e. nat_cmp e.number n) es r → record { gap : IfSome (result_err r) (IsGapAt n es); found : IfNone (result_err r) (IsSome (find (is_entry_of n) es)) }
+  pub parted : (r : Result ℕ ℕ) → IsSearchInRange r (length es) → IsBinarySearchResult (λ e. nat_cmp e.number n) es r
+      → record { gap : IfSome (result_err r) (IsGapAt n es); found : IfNone (result_err r) (IsSome (find (is_entry_of n) es)) }
   parted (Ok at) within equal = record { gap = tt; found = rw (find_at n es at no_entry rising within (ranked _ n _ (sym (equal no_entry)))) refl }
   parted (Err at) within split =
       let smaller = (split sorted).0 in
@@ -126,7 +135,10 @@ All-insert P [] (suc at) e within all of_e = absurd (omega arith)
 All-insert P (f ∷ es) (suc at) e within all of_e = (all.0, All-insert P es at e (omega arith) all.1 of_e)
 
 pub IsRising-insert : (es : List Entry) (at : ℕ) (e : Entry) → IsRising es → IsGapAt e.number es at → IsRising (insert es at e)
-IsRising-insert es zero e rising gap = (recursion_from_All (λ f. e.number < f.number) es (All-from_get_or (λ f. e.number < f.number) es no_entry (λ j lt. gap.above j no_entry (omega arith) lt)), rising)
+IsRising-insert es zero e rising gap = (
+  recursion_from_All (λ f. e.number < f.number) es (All-from_get_or (λ f. e.number < f.number) es no_entry (λ j lt. gap.above j no_entry (omega arith) lt)),
+  rising,
+)
 IsRising-insert [] (suc at) e rising gap = absurd (omega (arith, gap.within))
 IsRising-insert (f ∷ es) (suc at) e rising gap = (
   All-insert (λ g. f.number < g.number) es at e (omega (arith, gap.within)) rising.0 (gap.below 0 no_entry (omega arith)),
@@ -137,16 +149,22 @@ IsRising-insert (f ∷ es) (suc at) e rising gap = (
   }),
 )
 
-find_inserted : (n place : ℕ) (es : List Entry) (at : ℕ) → at ≤ length es → find (is_entry_of n) es ≡ None → find (is_entry_of n) (insert es at (record { number = n; place = place })) ≡ Some (record { number = n; place = place })
+find_inserted : (n place : ℕ) (es : List Entry) (at : ℕ) → at ≤ length es → find (is_entry_of n) es ≡ None
+    → find (is_entry_of n) (insert es at (record { number = n; place = place })) ≡ Some (record { number = n; place = place })
 find_inserted n place es zero within none = rw (eq-eqb n n refl) refl
 find_inserted n place [] (suc at) within none = absurd (omega arith)
 find_inserted n place (e ∷ es) (suc at) within none = by_test (eqb e.number n) (find_inserted n place es at (omega arith)) none
   where
-    by_test : (t : Bool) → (find (is_entry_of n) es ≡ None → find (is_entry_of n) (insert es at (record { number = n; place = place })) ≡ Some (record { number = n; place = place })) → cond t (Some e) (find (is_entry_of n) es) ≡ None → cond t (Some e) (find (is_entry_of n) (insert es at (record { number = n; place = place }))) ≡ Some (record { number = n; place = place })
+    by_test : (t : Bool)
+        → (find (is_entry_of n) es ≡ None
+        → find (is_entry_of n) (insert es at (record { number = n; place = place })) ≡ Some (record { number = n; place = place }))
+        → cond t (Some e) (find (is_entry_of n) es) ≡ None
+        → cond t (Some e) (find (is_entry_of n) (insert es at (record { number = n; place = place }))) ≡ Some (record { number = n; place = place })
     by_test true rest none = absurd (cc)
     by_test false rest none = rest none
 
-find_past : (n m place : ℕ) (es : List Entry) (at : ℕ) → at ≤ length es → m ≢ n → find (is_entry_of m) (insert es at (record { number = n; place = place })) ≡ find (is_entry_of m) es
+find_past : (n m place : ℕ) (es : List Entry) (at : ℕ) → at ≤ length es → m ≢ n
+    → find (is_entry_of m) (insert es at (record { number = n; place = place })) ≡ find (is_entry_of m) es
 find_past n m place es zero within differs = rw (ne_eqb n m (λ same. differs (sym same))) refl
 find_past n m place [] (suc at) within differs = absurd (omega arith)
 find_past n m place (e ∷ es) (suc at) within differs = ap (λ o. cond (eqb e.number m) (Some e) o) (find_past n m place es at (omega arith) differs)
@@ -155,7 +173,8 @@ none_under : (o : Option Entry) → option_map (λ (e : Entry). e.place) o ≡ N
 none_under None is = refl
 none_under (Some e) is = absurd (cc)
 
-pub Puts-inserted : (n place : ℕ) (es es' : List Entry) (at : ℕ) → es' ≡ insert es at (record { number = n; place = place }) → at ≤ length es → place_in es n ≡ None → Puts (place_in es) (place_in es') n (Some place)
+pub Puts-inserted : (n place : ℕ) (es es' : List Entry) (at : ℕ) → es' ≡ insert es at (record { number = n; place = place })
+    → at ≤ length es → place_in es n ≡ None → Puts (place_in es) (place_in es') n (Some place)
 Puts-inserted n place es es' at is within none = record {
   here = rw is (ap (option_map (λ (e : Entry). e.place)) (find_inserted n place es at within (none_under (find (is_entry_of n) es) none)));
   others = λ m differs. rw is (ap (option_map (λ (e : Entry). e.place)) (find_past n m place es at within differs));
@@ -183,7 +202,9 @@ pub one_gone : (n : ℕ) (es : List Entry) → IsRising es → IsSome (place_in 
 one_gone n [] rising some = absurd (cc)
 one_gone n (e ∷ es) rising some = by_test (eqb e.number n) refl (one_gone n es rising.1) some
   where
-    by_test : (t : Bool) → eqb e.number n ≡ t → (IsSome (place_in es n) → length (without_entry n es) + 1 ≡ length es) → IsSome (option_map (λ (p : Entry). p.place) (cond t (Some e) (find (is_entry_of n) es))) → length (cond (not t) (e ∷ without_entry n es) (without_entry n es)) + 1 ≡ length (e ∷ es)
+    by_test : (t : Bool) → eqb e.number n ≡ t → (IsSome (place_in es n) → length (without_entry n es) + 1 ≡ length es)
+        → IsSome (option_map (λ (p : Entry). p.place) (cond t (Some e) (find (is_entry_of n) es)))
+        → length (cond (not t) (e ∷ without_entry n es) (without_entry n es)) + 1 ≡ length (e ∷ es)
     by_test true is rest some =
         let same : e.number ≡ n = eqb-true e.number n is in
         omega (arith, ap length (absent_stays n es (All-absent n es (rw same at rising.0))))
@@ -197,7 +218,8 @@ remove_at n (e ∷ es) zero rising here =
 remove_at n (e ∷ es) (suc at) rising here =
     let is : (get_or es at no_entry).number ≡ n = here.here no_entry in
     let less : e.number < (get_or es at no_entry).number = All-at (λ f. e.number < f.number) es at no_entry (omega (arith, here.within)) rising.0 in
-    rw (ne_eqb e.number n (λ same. absurd (omega (arith, less, is, same)))) (ap (λ fs. e ∷ fs) (remove_at n es at rising.1 (record { within = omega (arith, here.within); here = λ d. here.here d })))
+    rw (ne_eqb e.number n (λ same. absurd (omega (arith, less, is, same)))) (ap (λ fs. e ∷ fs)
+    (remove_at n es at rising.1 (record { within = omega (arith, here.within); here = λ d. here.here d })))
 
 -- ---- the cells
 
@@ -246,11 +268,14 @@ module _ (cells : List (Option Entry)) (mask : ℕ) (strays : List Entry) (was :
     ]
 
     -- the others are found as before
-    others_set : (passed : (m : ℕ) → m ≢ n → passes (is_entry_of m) c ≡ false) → ((m : ℕ) → m ≢ n → passes (is_entry_of m) (cell_in cells mask n) ≡ false) → (m : ℕ) → m ≢ n → place_or m (place_in strays m) (cell_in (set cells (home mask n) c) mask m) ≡ place_or m (place_in strays m) (cell_in cells mask m)
+    others_set : (passed : (m : ℕ) → m ≢ n → passes (is_entry_of m) c ≡ false)
+        → ((m : ℕ) → m ≢ n → passes (is_entry_of m) (cell_in cells mask n) ≡ false) → (m : ℕ) → m ≢ n
+        → place_or m (place_in strays m) (cell_in (set cells (home mask n) c) mask m) ≡ place_or m (place_in strays m) (cell_in cells mask m)
     others_set passed before m away = elim (cases_eq (home mask m) (home mask n)) [
       | inl same ↦
           let was_cell : cell_in cells mask m ≡ cell_in cells mask n = ap (λ j. get_or cells j None) same in
-          rw (cell_here m same, was_cell) (not_by_cell m (place_in strays m) c (passed m away) ∙ sym (not_by_cell m (place_in strays m) (cell_in cells mask n) (before m away)))
+          rw (cell_here m same, was_cell)
+          (not_by_cell m (place_in strays m) c (passed m away) ∙ sym (not_by_cell m (place_in strays m) (cell_in cells mask n) (before m away)))
       | inr apart ↦ rw (cell_other m apart) refl
     ]
 
@@ -261,9 +286,14 @@ module _ (cells : List (Option Entry)) (mask : ℕ) (strays : List Entry) (was :
       no_stray = sym (ap (place_or n (place_in strays n)) empty) ∙ new
 
       pub IsIndexed-put : IsIndexed (set cells (home mask n) (Some (entry_of n place))) mask strays
-      IsIndexed-put = record { masked = masked_set n some (Some (entry_of n place)); rising = was.rising; homes = homes_set n some (Some (entry_of n place)) (record { cell = refl; alone = no_stray }) }
+      IsIndexed-put = record {
+        masked = masked_set n some (Some (entry_of n place));
+        rising = was.rising;
+        homes = homes_set n some (Some (entry_of n place)) (record { cell = refl; alone = no_stray });
+      }
 
-      pub Puts-cell : Puts (place_of (record { cells = cells; mask = mask; strays = strays; room = room })) (place_of (record { cells = set cells (home mask n) (Some (entry_of n place)); mask = mask; strays = strays; room = room })) n (Some place)
+      pub Puts-cell : Puts (place_of (record { cells = cells; mask = mask; strays = strays; room = room }))
+          (place_of (record { cells = set cells (home mask n) (Some (entry_of n place)); mask = mask; strays = strays; room = room })) n (Some place)
       Puts-cell = record {
         here = ap (place_or n (place_in strays n)) (cell_here n some (Some (entry_of n place)) n refl) ∙ (rw (eq-eqb n n refl) refl);
         others = others_set n some (Some (entry_of n place)) (λ m away. foreign m (entry_of n place) (λ same. away (sym same))) (λ m away. rw empty refl);
@@ -274,7 +304,8 @@ module _ (cells : List (Option Entry)) (mask : ℕ) (strays : List Entry) (was :
 
     -- its own entry goes
     module _ (own : passes (is_entry_of n) (cell_in cells mask n) ≡ true) where
-      entry_there : (c : Option Entry) → cell_in cells mask n ≡ c → passes (is_entry_of n) c ≡ true → (place_in strays n ≡ None) × (held c ≡ 1) × ((m : ℕ) → m ≢ n → passes (is_entry_of m) c ≡ false)
+      entry_there : (c : Option Entry) → cell_in cells mask n ≡ c → passes (is_entry_of n) c ≡ true
+          → (place_in strays n ≡ None) × (held c ≡ 1) × ((m : ℕ) → m ≢ n → passes (is_entry_of m) c ≡ false)
       entry_there None is passed = absurd (cc)
       entry_there (Some e) is passed =
           let homed = subst (λ c. IfSome c (IsHome mask strays (home mask n))) is (was.homes (home mask n)) in
@@ -287,7 +318,8 @@ module _ (cells : List (Option Entry)) (mask : ℕ) (strays : List Entry) (was :
       pub IsIndexed-take : IsIndexed (set cells (home mask n) None) mask strays
       IsIndexed-take = record { masked = masked_set n some None; rising = was.rising; homes = homes_set n some None tt }
 
-      pub Puts-take : Puts (place_of (record { cells = cells; mask = mask; strays = strays; room = room })) (place_of (record { cells = set cells (home mask n) None; mask = mask; strays = strays; room = room })) n None
+      pub Puts-take : Puts (place_of (record { cells = cells; mask = mask; strays = strays; room = room }))
+          (place_of (record { cells = set cells (home mask n) None; mask = mask; strays = strays; room = room })) n None
       Puts-take = record {
         here = ap (place_or n (place_in strays n)) (cell_here n some None n refl) ∙ facts.0;
         others = others_set n some None (λ m away. refl) facts.2;
@@ -298,7 +330,8 @@ module _ (cells : List (Option Entry)) (mask : ℕ) (strays : List Entry) (was :
 
   -- ---- the strays change
 
-  module _ (n room : ℕ) (away : passes (is_entry_of n) (cell_in cells mask n) ≡ false) (strays' : List Entry) (o : Option ℕ) (rising : IsRising strays') (puts : Puts (place_in strays) (place_in strays') n o) where
+  module _ (n room : ℕ) (away : passes (is_entry_of n) (cell_in cells mask n) ≡ false) (strays' : List Entry) (o : Option ℕ)
+      (rising : IsRising strays') (puts : Puts (place_in strays) (place_in strays') n o) where
     pub IsIndexed-strays : IsIndexed cells mask strays'
     IsIndexed-strays = record { masked = was.masked; rising = rising; homes = λ i. by_cell i (get_or cells i None) refl (was.homes i) }
       where
@@ -306,7 +339,8 @@ module _ (cells : List (Option Entry)) (mask : ℕ) (strays : List Entry) (was :
         by_cell i None is homed = tt
         by_cell i (Some e) is homed = record { cell = homed.cell; alone = puts.others e.number (not_elsewhere n away i e is) ∙ homed.alone }
 
-    pub Puts-strays : Puts (place_of (record { cells = cells; mask = mask; strays = strays; room = room })) (place_of (record { cells = cells; mask = mask; strays = strays'; room = room })) n o
+    pub Puts-strays : Puts (place_of (record { cells = cells; mask = mask; strays = strays; room = room }))
+        (place_of (record { cells = cells; mask = mask; strays = strays'; room = room })) n o
     Puts-strays = record {
       here = not_by_cell n (place_in strays' n) (cell_in cells mask n) away ∙ puts.here;
       others = λ m differs. ap (λ other. place_or m other (cell_in cells mask m)) (puts.others m differs);
@@ -316,7 +350,8 @@ module _ (cells : List (Option Entry)) (mask : ℕ) (strays : List Entry) (was :
 pub IsIndexed-bare : (cells : List (Option Entry)) (mask : ℕ) → IsMask mask cells → ((i : ℕ) → get_or cells i None ≡ None) → IsIndexed cells mask []
 IsIndexed-bare cells mask masked none = record { masked = masked; rising = tt; homes = λ i. rw (none i) tt }
 
-pub IsEmpty-bare : (cells : List (Option Entry)) (mask room : ℕ) → ((i : ℕ) → get_or cells i None ≡ None) → IsEmpty (record { cells = cells; mask = mask; strays = []; room = room })
+pub IsEmpty-bare : (cells : List (Option Entry)) (mask room : ℕ) → ((i : ℕ) → get_or cells i None ≡ None)
+    → IsEmpty (record { cells = cells; mask = mask; strays = []; room = room })
 IsEmpty-bare cells mask room none = record { nobody = λ t. rw (none (home mask t)) refl; none = omega (arith, ap length (none_living cells none)) }
 
 abbrev pub no_cell : Option Entry

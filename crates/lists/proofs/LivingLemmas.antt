@@ -8,7 +8,8 @@ held None = 0
 held (Some x) = 1
 
 module _ {A : Type 0} where
-  pub living-set : (xs : List (Option A)) (i : ℕ) (o : Option A) → i < length xs → length (living (set xs i o)) + held (get_or xs i None) ≡ length (living xs) + held o
+  pub living-set : (xs : List (Option A)) (i : ℕ) (o : Option A) → i < length xs
+      → length (living (set xs i o)) + held (get_or xs i None) ≡ length (living xs) + held o
   living-set [] i o within = absurd (omega arith)
   living-set (None ∷ xs) zero None within = refl
   living-set (None ∷ xs) zero (Some y) within = omega arith

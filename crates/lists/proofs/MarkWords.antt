@@ -2,7 +2,8 @@
 use Rattle.lists.specs.EventMarks.{is_marked}
 use Rattle.std.proofs.Common.{ap, arith, false, inl, inr, min, sym, w64, ℕ, ◌-◌, ◌*◌, ◌%◌, ◌<◌, ◌≤◌, ◌^◌, ◌∙◌, ◌≡◌, ◌⊎◌}
 use Rattle.std.proofs.lemmas.Bool.{cases_lt}
-use Rattle.std.proofs.lemmas.Nat.Bits.{bit_at-lt, bit_at-trailing_zeros, bit_at-zero, bit_at_above, bit_at_and, bit_at_mask_above, bit_at_mask_below, bit_at_mask_inside, ones_shl}
+use Rattle.std.proofs.lemmas.Nat.Bits.{bit_at-lt, bit_at-trailing_zeros, bit_at-zero, bit_at_above, bit_at_and, bit_at_mask_above, bit_at_mask_below}
+use Rattle.std.proofs.lemmas.Nat.Bits.{bit_at_mask_inside, ones_shl}
 use Rattle.std.specs.Int.{bit_at, trailing_zeros}
 use Rattle.std.specs.Prelude.{eqb}
 use Rattle.std.specs.Slice.Scan.{HoldsNowhere, IsFirstPlace}

@@ -1,5 +1,6 @@
 -- Texts by their spans.
-use Rattle.std.proofs.Common.{◌≡◌, ℕ, zero, suc, ◌+◌, ◌≤◌, ◌<◌, true, List, [], ◌∷◌, ◌++◌, length, take, drop, Some, refl, sym, ap, subst, ◌∙◌, arith, length-append}
+use Rattle.std.proofs.Common.{◌≡◌, ℕ, zero, suc, ◌+◌, ◌≤◌, ◌<◌, true, List, [], ◌∷◌, ◌++◌, length, take, drop, Some, refl, sym, ap, subst, ◌∙◌}
+use Rattle.std.proofs.Common.{arith, length-append}
 use Rattle.std.specs.Prelude.{IsTrue, Result, Ok, Err, OnErr, slice_get, slice_index_or}
 use Rattle.std.specs.List.{AllByRecursion}
 use Rattle.std.proofs.Math.Seq.{take-length}
@@ -21,14 +22,16 @@ part_last (x ∷ xs) ys = part_last xs ys
 -- the texts of these spans stay, whatever comes after their bytes
 pub texts_same : (spans : List Span) (xs ys : List ℕ) → AreWithin (length xs) spans → texts_in (xs ++ ys) spans ≡ texts_in xs spans
 texts_same [] xs ys h = refl
-texts_same (s ∷ spans) xs ys h = ap (λ l. l ∷ texts_in (xs ++ ys) spans) (part_same s.len s.start xs ys h.0) ∙ ap (λ l. text_in xs s ∷ l) (texts_same spans xs ys h.1)
+texts_same (s ∷ spans) xs ys h = ap (λ l. l ∷ texts_in (xs ++ ys) spans) (part_same s.len s.start xs ys h.0)
+    ∙ ap (λ l. text_in xs s ∷ l) (texts_same spans xs ys h.1)
 
 map_push : (bytes : List ℕ) (spans : List Span) (s : Span) → texts_in bytes (spans ++ s ∷ []) ≡ texts_in bytes spans ++ text_in bytes s ∷ []
 map_push bytes [] s = refl
 map_push bytes (x ∷ spans) s = ap (λ l. text_in bytes x ∷ l) (map_push bytes spans s)
 
 -- one text more
-pub texts_push : (spans : List Span) (bytes text : List ℕ) (start : ℕ) → start ≡ length bytes → AreWithin (length bytes) spans → texts_in (bytes ++ text) (spans ++ record { start = start; len = length text } ∷ []) ≡ texts_in bytes spans ++ text ∷ []
+pub texts_push : (spans : List Span) (bytes text : List ℕ) (start : ℕ) → start ≡ length bytes → AreWithin (length bytes) spans
+    → texts_in (bytes ++ text) (spans ++ record { start = start; len = length text } ∷ []) ≡ texts_in bytes spans ++ text ∷ []
 texts_push spans bytes text start e h =
     map_push (bytes ++ text) spans (record { start = start; len = length text })
     ∙ ap (λ l. l ++ text_in (bytes ++ text) (record { start = start; len = length text }) ∷ []) (texts_same spans bytes text h)
@@ -42,19 +45,25 @@ all_push : {A : Type 0} (P : A → Type 0) (xs : List A) (x : A) → AllByRecurs
 all_push P [] x h k = (k, tt)
 all_push P (y ∷ ys) x h k = (h.0, all_push P ys x h.1 k)
 
-pub within_push : (spans : List Span) (bytes text : List ℕ) (start : ℕ) → start ≡ length bytes → AreWithin (length bytes) spans → AreWithin (length (bytes ++ text)) (spans ++ record { start = start; len = length text } ∷ [])
+pub within_push : (spans : List Span) (bytes text : List ℕ) (start : ℕ) → start ≡ length bytes → AreWithin (length bytes) spans
+    → AreWithin (length (bytes ++ text)) (spans ++ record { start = start; len = length text } ∷ [])
 within_push spans bytes text start e h =
     let n = length-append bytes text in
-    all_push _ spans (record { start = start; len = length text }) (within_more spans (length bytes) (length (bytes ++ text)) (omega (arith, n)) h) (omega (arith, n, e))
+    all_push _ spans (record { start = start; len = length text })
+    (within_more spans (length bytes) (length (bytes ++ text)) (omega (arith, n)) h) (omega (arith, n, e))
 
-pub are_push : (spans : List Span) (bytes text : List ℕ) (start : ℕ) → start ≡ length bytes → AreWithin (length bytes) spans → AllByRecursion (λ x. IsTrue (is_text x)) (texts_in bytes spans) → IsTrue (is_text text) → AllByRecursion (λ x. IsTrue (is_text x)) (texts_in (bytes ++ text) (spans ++ record { start = start; len = length text } ∷ []))
-are_push spans bytes text start e h k t = rw (texts_push spans bytes text start e h) (all_push (λ (x : List ℕ). IsTrue (is_text x)) (texts_in bytes spans) text k t)
+pub are_push : (spans : List Span) (bytes text : List ℕ) (start : ℕ) → start ≡ length bytes → AreWithin (length bytes) spans
+    → AllByRecursion (λ x. IsTrue (is_text x)) (texts_in bytes spans) → IsTrue (is_text text)
+    → AllByRecursion (λ x. IsTrue (is_text x)) (texts_in (bytes ++ text) (spans ++ record { start = start; len = length text } ∷ []))
+are_push spans bytes text start e h k t =
+    rw (texts_push spans bytes text start e h) (all_push (λ (x : List ℕ). IsTrue (is_text x)) (texts_in bytes spans) text k t)
 
 -- the bytes alone are more
 pub within_bytes : (spans : List Span) (bytes text : List ℕ) → AreWithin (length bytes) spans → AreWithin (length (bytes ++ text)) spans
 within_bytes spans bytes text h = within_more spans (length bytes) (length (bytes ++ text)) (omega (arith, length-append bytes text)) h
 
-pub are_bytes : (spans : List Span) (bytes text : List ℕ) → AreWithin (length bytes) spans → AllByRecursion (λ x. IsTrue (is_text x)) (texts_in bytes spans) → AllByRecursion (λ x. IsTrue (is_text x)) (texts_in (bytes ++ text) spans)
+pub are_bytes : (spans : List Span) (bytes text : List ℕ) → AreWithin (length bytes) spans
+    → AllByRecursion (λ x. IsTrue (is_text x)) (texts_in bytes spans) → AllByRecursion (λ x. IsTrue (is_text x)) (texts_in (bytes ++ text) spans)
 are_bytes spans bytes text h k = rw (texts_same spans bytes text h) k
 
 -- a span and its text, by place
@@ -79,7 +88,8 @@ is_text_at (x ∷ texts) zero h = h.0
 is_text_at (x ∷ texts) (suc i) h = is_text_at texts i h.1
 
 -- the text of a span
-pub span_is_text : (spans : List Span) (bytes : List ℕ) (i : ℕ) (s d : Span) → AllByRecursion (λ x. IsTrue (is_text x)) (texts_in bytes spans) → i < length spans → s ≡ slice_index_or spans i d → IsTrue (is_text (text_in bytes s))
+pub span_is_text : (spans : List Span) (bytes : List ℕ) (i : ℕ) (s d : Span)
+    → AllByRecursion (λ x. IsTrue (is_text x)) (texts_in bytes spans) → i < length spans → s ≡ slice_index_or spans i d → IsTrue (is_text (text_in bytes s))
 span_is_text [] bytes i s d h lt e = absurd (omega (arith, lt))
 span_is_text (x ∷ spans) bytes zero s d h lt e = subst (λ y. IsTrue (is_text (text_in bytes y))) (sym e) h.0
 span_is_text (x ∷ spans) bytes (suc i) s d h lt e = span_is_text spans bytes i s d h.1 (omega (arith, lt)) e

@@ -1,6 +1,7 @@
 -- The index from threads to places.
 use Rattle.std.specs.List.{AllByRecursion, filter, find}
-use Rattle.std.specs.Prelude.{bit_and, Bool, IfSome, List, None, Option, Some, [], if◌then◌else◌, length, not, option_map, slice_index_or, ℕ, ◌+◌, ◌<◌, ◌==◌, ◌∷◌, ◌≡◌, ◌≢◌, ◌≤◌}
+use Rattle.std.specs.Prelude.{bit_and, Bool, IfSome, List, None, Option, Some, [], if◌then◌else◌, length, not, option_map, slice_index_or, ℕ, ◌+◌}
+use Rattle.std.specs.Prelude.{◌<◌, ◌==◌, ◌∷◌, ◌≡◌, ◌≢◌, ◌≤◌}
 use Rattle.lists.specs.Living.{living}
 use Rattle.lists.specs.declared.thread_index.Entry.{Entry}
 

@@ -7,9 +7,11 @@ use Rattle.std.specs.Cmp.Lexicographic.{pointwise}
 use Rattle.std.specs.Str.{bytes_eq}
 
 -- where other bytes begin with its lead, it has them if what comes after is the same
-pub rest_decides : (lead rest tail text bytes : List ℕ) (r : Bool) → lead ++ rest ≡ text → bytes ≡ lead ++ tail → r ≡ pointwise eqb tail rest → r ≡ bytes_eq text bytes
+pub rest_decides : (lead rest tail text bytes : List ℕ) (r : Bool) → lead ++ rest ≡ text → bytes ≡ lead ++ tail
+    → r ≡ pointwise eqb tail rest → r ≡ bytes_eq text bytes
 rest_decides lead rest tail text bytes r parts begins same = same_from_decides r (bytes_eq text bytes)
-    (Decides-like r (λ e. sym parts ∙ ap (λ xs. lead ++ xs) (sym e) ∙ sym begins) (λ e. append_cancel_left lead tail rest (sym begins ∙ sym e ∙ sym parts)) (slice_eq-Decides Decides-eqb tail rest r same))
+    (Decides-like r (λ e. sym parts ∙ ap (λ xs. lead ++ xs) (sym e) ∙ sym begins)
+    (λ e. append_cancel_left lead tail rest (sym begins ∙ sym e ∙ sym parts)) (slice_eq-Decides Decides-eqb tail rest r same))
     (bytes_eq-Decides text bytes)
 
 -- and where they don't begin so, it has others

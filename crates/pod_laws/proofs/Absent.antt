@@ -21,13 +21,15 @@ use Rattle.lwp_types.specs.Time.{after_tick, due_threads, tick, time_out}
 use Rattle.lwp_types.specs.declared.call.Answer.{Answer}
 use Rattle.lwp_types.specs.declared.call.ExitCall.{ExitCall}
 use Rattle.lwp_types.specs.declared.call.ExitCall.TheVariants as exit
-use Rattle.pod_laws.specs.Forgotten.{CondSendRefusesTheAbsent, DeliveriesAreQuiet, ExitsRefuseTheAbsent, IsQuiet, TheAbsentAreRefused, asks_for, exit_asks_for, is_died}
+use Rattle.pod_laws.specs.Forgotten.{CondSendRefusesTheAbsent, DeliveriesAreQuiet, ExitsRefuseTheAbsent, IsQuiet, TheAbsentAreRefused, asks_for}
+use Rattle.pod_laws.specs.Forgotten.{exit_asks_for, is_died}
 use Rattle.pod_laws.specs.Once.{is_exit_passing}
 use Rattle.std.proofs.Common.{Bool, List, Some, [], ap, arith, cond, eqb, false, not, refl, true, ℕ, ◌++◌, ◌+◌, ◌∙◌, ◌∷◌, ◌≡◌}
 use Rattle.std.proofs.lemmas.Bool.{eqb-true, or_parts}
 
 -- the first check strikes
-first_strikes : (s : State) (b : Bool) (e : LwpErr) (checks : List Check) (otherwise : Case) → b ≡ true → unless s ((b, e) ∷ checks) otherwise ≡ refusal_case s e
+first_strikes : (s : State) (b : Bool) (e : LwpErr) (checks : List Check) (otherwise : Case) → b ≡ true
+    → unless s ((b, e) ∷ checks) otherwise ≡ refusal_case s e
 unfolding unless
 first_strikes s true e checks otherwise strikes = refl
 first_strikes s false e checks otherwise strikes = absurd (cc)
@@ -65,7 +67,8 @@ module _ (s : State) (t n : ℕ) (absent : is_id s n ≡ false) where
   exit_absent_refused (exit.Note text) asks = absurd (cc)
 
 -- the third check strikes, where the first two don't
-third_strikes : (s : State) (a b c : Bool) (e f g : LwpErr) (checks : List Check) (otherwise : Case) → a ≡ false → b ≡ false → c ≡ true → unless s ((a, e) ∷ (b, f) ∷ (c, g) ∷ checks) otherwise ≡ refusal_case s g
+third_strikes : (s : State) (a b c : Bool) (e f g : LwpErr) (checks : List Check) (otherwise : Case) → a ≡ false → b ≡ false → c ≡ true
+    → unless s ((a, e) ∷ (b, f) ∷ (c, g) ∷ checks) otherwise ≡ refusal_case s g
 unfolding unless
 third_strikes s false false true e f g checks otherwise first second third = refl
 third_strikes s false false false e f g checks otherwise first second third = absurd (cc)
@@ -92,7 +95,8 @@ quiet_then s first more one two = record {
   deaths = λ n. omega (arith, one.deaths n, two.deaths n, count-append (is_died n) first.effects (more first.after).effects);
 }
 
-quiet_each : {A : Type 0} (change : A → State → Outcome) → ((x : A) (s : State) → IsQuiet s (change x s)) → (xs : List A) (s : State) → IsQuiet s (for_each change xs s)
+quiet_each : {A : Type 0} (change : A → State → Outcome) → ((x : A) (s : State) → IsQuiet s (change x s)) → (xs : List A) (s : State)
+    → IsQuiet s (for_each change xs s)
 unfolding for_each
 quiet_each change quiet [] s = record { marks = λ p. refl; exits = λ p. refl; deaths = λ n. refl }
 quiet_each change quiet (x ∷ xs) s = quiet_then s (change x s) (for_each change xs) (quiet x s) (quiet_each change quiet xs (change x s).after)
@@ -105,12 +109,16 @@ unblock_quiet a t s = record { marks = λ p. block_kept p t block.Not s.threads;
 post_quiet : (l : Letter) (s : State) → IsQuiet s (post l s)
 post_quiet l s = by_test (passes (λ (row : ThreadRow). takes_from l.from row.block) (thread_of s l.to))
   where
-    by_test : (b : Bool) → IsQuiet s (cond b (unblock (as_answer l) l.to (record s { letters = s.letters ++ as_received l ∷ [] })) (still (record s { letters = s.letters ++ l ∷ [] })))
+    by_test : (b : Bool)
+        → IsQuiet s (cond b (unblock (as_answer l) l.to (record s { letters = s.letters ++ as_received l ∷ [] }))
+        (still (record s { letters = s.letters ++ l ∷ [] })))
     by_test true = record { marks = λ p. block_kept p l.to block.Not s.threads; exits = λ p. refl; deaths = λ n. refl }
     by_test false = record { marks = λ p. refl; exits = λ p. refl; deaths = λ n. refl }
 
 delivered_quiet : (text : List ℕ) (row : AgentRow) (s : State) → IsQuiet s (deliver_to text row s)
-delivered_quiet text row s = quiet_then s (record { after = record s { agents = with_holding row.number true s.agents }; effects = effect.Delivered row.number row.event ∷ [] }) (post (message text row))
+delivered_quiet text row s =
+    quiet_then s (record { after = record s { agents = with_holding row.number true s.agents }; effects = effect.Delivered row.number row.event ∷ [] })
+    (post (message text row))
     (record { marks = λ p. refl; exits = λ p. refl; deaths = λ n. refl })
     (post_quiet (message text row) (record s { agents = with_holding row.number true s.agents }))
 

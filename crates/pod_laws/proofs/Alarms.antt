@@ -64,7 +64,8 @@ module _ (start : State) where
 pub ticks_answer_the_due : TicksAnswerTheDue
 unfolding and_then
 ticks_answer_the_due s was = record {
-  told = ap (λ es. effect.Ticked (s.now + 1) ∷ es) (all_told s (due_threads (after_tick s)) (after_tick s) (record { before = record { nine = was.nine }; waits = λ t some. refl }) refl);
+  told = ap (λ es. effect.Ticked (s.now + 1) ∷ es)
+      (all_told s (due_threads (after_tick s)) (after_tick s) (record { before = record { nine = was.nine }; waits = λ t some. refl }) refl);
   once = λ t. omega (arith, keys_times (λ (row : TimerRow). row.tid) (is_due (s.now + 1)) t s.timers, timers_once s None was.nine t);
   gone = (drains (Before s.now) due_threads time_out (time_out_first s.now) (due_threads (after_tick s)) (after_tick s) (record { nine = was.nine }) refl).1;
 }

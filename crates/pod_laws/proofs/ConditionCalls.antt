@@ -8,7 +8,8 @@ use Rattle.lwp_types.specs.FirstLaws.{finds_best}
 use Rattle.lwp_types.specs.Lawful.{NineParts}
 use Rattle.lwp_types.specs.MonitorRelease.{last_lock}
 use Rattle.lwp_types.specs.State.{State, is_empty, member, passes, priority_in}
-use Rattle.lwp_types.specs.Conditions.{after_wake_all, broadcast, cond_send, condition_create, condition_destroy, condition_of, condition_waiters, is_condition, is_lock_of, notify, wait_of, waits_on, waking}
+use Rattle.lwp_types.specs.Conditions.{after_wake_all, broadcast, cond_send, condition_create, condition_destroy, condition_of, condition_waiters}
+use Rattle.lwp_types.specs.Conditions.{is_condition, is_lock_of, notify, wait_of, waits_on, waking}
 use Rattle.lwp_types.specs.declared.rows.CondRow.{CondRow}
 use Rattle.lwp_types.specs.declared.rows.WaitRow.{WaitRow}
 use Rattle.lwp_types.specs.declared.call.LwpErr.TheVariants as error
@@ -44,9 +45,11 @@ module _ (s : State) (d : Option ℕ) (was : NineParts s d) where
   }
 
   pub best_among : (c : ℕ) → Among s c (option_to_list (best_by (λ (w : WaitRow). priority_in s w.tid) (waits_on s.waits c)))
-  best_among c = by_best (best_by (λ (w : WaitRow). priority_in s w.tid) (waits_on s.waits c)) (finds_best (λ (w : WaitRow). priority_in s w.tid) (waits_on s.waits c))
+  best_among c = by_best (best_by (λ (w : WaitRow). priority_in s w.tid) (waits_on s.waits c))
+      (finds_best (λ (w : WaitRow). priority_in s w.tid) (waits_on s.waits c))
     where
-      by_best : (o : Option WaitRow) → MatchOption o (waits_on s.waits c ≡ []) (IsFirstBest (λ (w : WaitRow). priority_in s w.tid) (waits_on s.waits c)) → Among s c (option_to_list o)
+      by_best : (o : Option WaitRow)
+          → MatchOption o (waits_on s.waits c ≡ []) (IsFirstBest (λ (w : WaitRow). priority_in s w.tid) (waits_on s.waits c)) → Among s c (option_to_list o)
       by_best None best = record { few = λ v. omega arith; deep = refl }
       by_best (Some w) best = record {
         few = λ v. omega (
@@ -57,7 +60,10 @@ module _ (s : State) (d : Option ℕ) (was : NineParts s d) where
           count-cons (λ (q : WaitRow). eqb q.tid v) w best.after,
           count-cons (λ (q : WaitRow). eqb q.tid v) w [],
         );
-        deep = and_from (is_depth w.depth) true (all_at (λ (q : WaitRow). is_depth q.depth) best.before w best.after (ap (list_all (λ (q : WaitRow). is_depth q.depth)) (sym best.splits) ∙ (all_among c).deep)) refl;
+        deep = and_from (is_depth w.depth) true
+            (all_at (λ (q : WaitRow). is_depth q.depth) best.before w best.after
+            (ap (list_all (λ (q : WaitRow). is_depth q.depth)) (sym best.splits) ∙ (all_among c).deep))
+            refl;
       }
 
   one_among : (c to : ℕ) → Among s c (wait_of s.waits c to)
@@ -67,7 +73,8 @@ module _ (s : State) (d : Option ℕ) (was : NineParts s d) where
   }
 
   -- a condition that is there, of the monitor that t acquired last
-  pub waking_begins : (t c : ℕ) (ws : List WaitRow) → Among s c ws → (row : CondRow) → condition_of s.conditions c ≡ Some row → passes (λ lock. is_lock_of lock (Some row)) (last_lock s.locks t) ≡ true → Waking d t c row ws s
+  pub waking_begins : (t c : ℕ) (ws : List WaitRow) → Among s c ws → (row : CondRow) → condition_of s.conditions c ≡ Some row
+      → passes (λ lock. is_lock_of lock (Some row)) (last_lock s.locks t) ≡ true → Waking d t c row ws s
   waking_begins t c ws among row e last = record {
     nine = was;
     owns = last_owner s d was t row.mon last;
@@ -80,7 +87,8 @@ module _ (s : State) (d : Option ℕ) (was : NineParts s d) where
   waking_keeps : (t c : ℕ) (more : List Check) (ws : List WaitRow) → Among s c ws → NineParts (waking s t c more ws).after d
   waking_keeps t c more ws among = unless_keeps (λ s. NineParts s d) s _ _ was (λ passed. by_row (condition_of s.conditions c) refl (true_of _ passed.1.0))
     where
-      by_row : (o : Option CondRow) → condition_of s.conditions c ≡ o → passes (λ lock. is_lock_of lock o) (last_lock s.locks t) ≡ true → NineParts (after_wake_all o ws s) d
+      by_row : (o : Option CondRow) → condition_of s.conditions c ≡ o → passes (λ lock. is_lock_of lock o) (last_lock s.locks t) ≡ true
+          → NineParts (after_wake_all o ws s) d
       by_row None e last = was
       by_row (Some row) e last = NineParts-waked_all d t c row ws s (waking_begins t c ws among row e last)
 
@@ -94,7 +102,8 @@ module _ (s : State) (d : Option ℕ) (was : NineParts s d) where
   cond_send_keeps t c to = waking_keeps t c (is_no_thread s to ∷ (is_empty (wait_of s.waits c to), error.NoWait) ∷ []) _ (one_among c to)
 
   pub condition_create_keeps : (m : ℕ) → NineParts (condition_create s m).after d
-  condition_create_keeps m = unless_keeps (λ s. NineParts s d) s _ _ was (λ passed. NineParts-condition_made s d was m (true_of _ passed.0) (leb-false 256 (length s.conditions) passed.1.0))
+  condition_create_keeps m = unless_keeps (λ s. NineParts s d) s _ _ was
+      (λ passed. NineParts-condition_made s d was m (true_of _ passed.0) (leb-false 256 (length s.conditions) passed.1.0))
 
   pub condition_destroy_keeps : (c : ℕ) → NineParts (condition_destroy s c).after d
   condition_destroy_keeps c = unless_keeps (λ s. NineParts s d) s _ _ was (λ passed. NineParts-condition_gone s d was c passed.1.0)

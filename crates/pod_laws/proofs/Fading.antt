@@ -2,13 +2,17 @@
 use Rattle.lwp_types.specs.Agents.{after_agent_birth, after_agent_end, deliver, deliver_to, end_agent, event_agents, message, new_agent}
 use Rattle.lwp_types.specs.Case.{Case, Check, refusal_case, silent_case, unless, value_case, with_zero}
 use Rattle.lwp_types.specs.Choice.{choice}
-use Rattle.lwp_types.specs.Death.{answer_joiners, bury, death, destroy_case, end_agents, refuse_receivers, refuse_sender, refuse_senders, release_all, run_all_exits, withdraw}
+use Rattle.lwp_types.specs.Death.{answer_joiners, bury, death, destroy_case, end_agents, refuse_receivers, refuse_sender, refuse_senders}
+use Rattle.lwp_types.specs.Death.{release_all, run_all_exits, withdraw}
 use Rattle.lwp_types.specs.Exits.{catch_case, exit_case, leave_frame, excnotify_case_by, run_exit, unwind}
-use Rattle.lwp_types.specs.Messages.{after_reply, as_answer, as_received, agent_with_holding, next_letter, post, receive_by, receivers_of, takes_from, with_holding, without_letter}
+use Rattle.lwp_types.specs.Messages.{after_reply, as_answer, as_received, agent_with_holding, next_letter, post, receive_by, receivers_of}
+use Rattle.lwp_types.specs.Messages.{takes_from, with_holding, without_letter}
 use Rattle.lwp_types.specs.Monitors.{after_exit, after_request, depth_in, enter_case, is_owned_by_other, with_depth}
 use Rattle.lwp_types.specs.Exceptions.{caught_marks, exits_of, first_frames, frames, handler_of, later_frames, with_match}
 use Rattle.lwp_types.specs.MonitorRelease.{grant, last_lock, next_owner, release, without_lock}
-use Rattle.lwp_types.specs.State.{Outcome, State, ThreadRow, agent_of, and_then, row_with_block, for_each, in_order, is_agent, is_agent_row, is_number, is_thread, marks_in, row_with_marks, passes, row_with_priority, still, row_with_suspension, thread_of, with_block, with_marks, with_marks_of, with_suspension}
+use Rattle.lwp_types.specs.State.{Outcome, State, ThreadRow, agent_of, and_then, row_with_block, for_each, in_order, is_agent, is_agent_row}
+use Rattle.lwp_types.specs.State.{is_number, is_thread, marks_in, row_with_marks, passes, row_with_priority, still, row_with_suspension, thread_of}
+use Rattle.lwp_types.specs.State.{with_block, with_marks, with_marks_of, with_suspension}
 use Rattle.lwp_types.specs.Step.{case_of, step, step_by, step_if}
 use Rattle.lwp_types.specs.Threads.{after_create, new_thread}
 use Rattle.lwp_types.specs.Time.{after_tick, due_threads, tick, time_out}
@@ -63,22 +67,27 @@ module _ (n : ℕ) where
   }
 
   -- neither threads nor agents come
-  fades_of : (s after : State) → after.births ≡ s.births → (is_thread s n ≡ false → is_thread after n ≡ false) → (is_agent s n ≡ false → is_agent after n ≡ false) → Fades n s after
+  fades_of : (s after : State) → after.births ≡ s.births → (is_thread s n ≡ false → is_thread after n ≡ false)
+      → (is_agent s n ≡ false → is_agent after n ≡ false) → Fades n s after
   fades_of s after same threads agents = record { births = omega (arith, same); threads = λ given. threads; agents = λ given. agents }
 
   -- the rows of threads change, and keep their numbers
-  rows_fade : (s after : State) (g : ThreadRow → ThreadRow) → KeepsNumber g → after.births ≡ s.births → after.threads ≡ map g s.threads → after.agents ≡ s.agents → Fades n s after
+  rows_fade : (s after : State) (g : ThreadRow → ThreadRow) → KeepsNumber g → after.births ≡ s.births → after.threads ≡ map g s.threads
+      → after.agents ≡ s.agents → Fades n s after
   rows_fade s after g keeps same rows agents = fades_of s after same
       (λ gone. ap (λ rs. is_some (find (is_number n) rs)) rows ∙ live_rowed g keeps s.threads n ∙ gone)
       (λ gone. ap (λ rs. is_some (agent_of rs n)) agents ∙ gone)
 
-  fades_block : (s after : State) (t : ℕ) (b : Block) → after.births ≡ s.births → after.threads ≡ with_block t b s.threads → after.agents ≡ s.agents → Fades n s after
+  fades_block : (s after : State) (t : ℕ) (b : Block) → after.births ≡ s.births → after.threads ≡ with_block t b s.threads
+      → after.agents ≡ s.agents → Fades n s after
   fades_block s after t b same rows agents = rows_fade s after (row_with_block t b) (λ row. refl) same rows agents
 
-  fades_suspension : (s after : State) (t : ℕ) (b : Bool) → after.births ≡ s.births → after.threads ≡ with_suspension t b s.threads → after.agents ≡ s.agents → Fades n s after
+  fades_suspension : (s after : State) (t : ℕ) (b : Bool) → after.births ≡ s.births → after.threads ≡ with_suspension t b s.threads
+      → after.agents ≡ s.agents → Fades n s after
   fades_suspension s after t b same rows agents = rows_fade s after (row_with_suspension t b) (λ row. refl) same rows agents
 
-  fades_marks : (s after : State) (t : ℕ) (ms : List Mark) → after.births ≡ s.births → after.threads ≡ with_marks t ms s.threads → after.agents ≡ s.agents → Fades n s after
+  fades_marks : (s after : State) (t : ℕ) (ms : List Mark) → after.births ≡ s.births → after.threads ≡ with_marks t ms s.threads
+      → after.agents ≡ s.agents → Fades n s after
   fades_marks s after t ms same rows agents = rows_fade s after (row_with_marks t ms) (λ row. refl) same rows agents
 
   -- one that isn't in a list isn't in a part of it
@@ -86,11 +95,13 @@ module _ (n : ℕ) where
   filter_none p keep [] none = refl
   filter_none p keep (x ∷ xs) none = by_test (p x) refl none (filter_none p keep xs)
     where
-      by_keep : (b k : Bool) → p x ≡ b → b ≡ false → (is_some (find p xs) ≡ false → is_some (find p (filter keep xs)) ≡ false) → is_some (find p xs) ≡ false → is_some (find p (cond k (x ∷ filter keep xs) (filter keep xs))) ≡ false
+      by_keep : (b k : Bool) → p x ≡ b → b ≡ false → (is_some (find p xs) ≡ false → is_some (find p (filter keep xs)) ≡ false)
+          → is_some (find p xs) ≡ false → is_some (find p (cond k (x ∷ filter keep xs) (filter keep xs))) ≡ false
       by_keep b true e off rest none = rw (e ∙ off) (rest none)
       by_keep b false e off rest none = rest none
 
-      by_test : (b : Bool) → p x ≡ b → is_some (cond b (Some x) (find p xs)) ≡ false → (is_some (find p xs) ≡ false → is_some (find p (filter keep xs)) ≡ false) → is_some (find p (filter keep (x ∷ xs))) ≡ false
+      by_test : (b : Bool) → p x ≡ b → is_some (cond b (Some x) (find p xs)) ≡ false
+          → (is_some (find p xs) ≡ false → is_some (find p (filter keep xs)) ≡ false) → is_some (find p (filter keep (x ∷ xs))) ≡ false
       by_test true e none rest = absurd (cc)
       by_test false e none rest = by_keep false (keep x) e refl rest none
 
@@ -114,10 +125,12 @@ module _ (n : ℕ) where
   }
 
   fades_release : (m : ℕ) (s : State) → Fades n s (release m s).after
-  fades_release m s = fades_like s (record s { locks = without_lock m s.locks }) _ refl refl refl (fades_grant (next_owner s m) (record s { locks = without_lock m s.locks }))
+  fades_release m s = fades_like s (record s { locks = without_lock m s.locks }) _ refl refl refl
+      (fades_grant (next_owner s m) (record s { locks = without_lock m s.locks }))
 
   fades_plain : (s after : State) → after.births ≡ s.births → after.threads ≡ s.threads → after.agents ≡ s.agents → Fades n s after
-  fades_plain s after births threads agents = fades_of s after births (λ gone. ap (λ rs. is_some (find (is_number n) rs)) threads ∙ gone) (λ gone. ap (λ rs. is_some (agent_of rs n)) agents ∙ gone)
+  fades_plain s after births threads agents =
+      fades_of s after births (λ gone. ap (λ rs. is_some (find (is_number n) rs)) threads ∙ gone) (λ gone. ap (λ rs. is_some (agent_of rs n)) agents ∙ gone)
 
   fades_exited : (m : ℕ) (s : State) → Fades n s (after_exit m s).after
   fades_exited m s = by_depth (nat_le (depth_in s.locks m) 1)
@@ -129,20 +142,27 @@ module _ (n : ℕ) where
   fades_post : (letter : Letter) (s : State) → Fades n s (post letter s).after
   fades_post letter s = by_test (passes (λ (row : ThreadRow). takes_from letter.from row.block) (thread_of s letter.to))
     where
-      by_test : (b : Bool) → Fades n s (cond b (unblock (as_answer letter) letter.to (record s { letters = s.letters ++ as_received letter ∷ [] })) (still (record s { letters = s.letters ++ letter ∷ [] }))).after
+      by_test : (b : Bool)
+          → Fades n s (cond b (unblock (as_answer letter) letter.to (record s { letters = s.letters ++ as_received letter ∷ [] }))
+          (still (record s { letters = s.letters ++ letter ∷ [] }))).after
       by_test true = fades_block s _ letter.to block.Not refl refl refl
       by_test false = fades_plain s _ refl refl refl
 
   -- an agent holds a message, or no longer
-  fades_holding : (s after : State) (a : ℕ) (b : Bool) → after.births ≡ s.births → after.threads ≡ s.threads → after.agents ≡ with_holding a b s.agents → Fades n s after
+  fades_holding : (s after : State) (a : ℕ) (b : Bool) → after.births ≡ s.births → after.threads ≡ s.threads
+      → after.agents ≡ with_holding a b s.agents → Fades n s after
   fades_holding s after a b births threads agents = fades_of s after births
       (λ gone. ap (λ rs. is_some (find (is_number n) rs)) threads ∙ gone)
-      (λ gone. ap (λ rs. is_some (find (is_agent_row n) rs)) agents ∙ ap is_some (find_map (is_agent_row n) (is_agent_row n) (agent_with_holding a b) (λ row. refl) s.agents) ∙ is_some_map (agent_with_holding a b) (find (is_agent_row n) s.agents) ∙ gone)
+      (λ gone. ap (λ rs. is_some (find (is_agent_row n) rs)) agents
+      ∙ ap is_some (find_map (is_agent_row n) (is_agent_row n) (agent_with_holding a b) (λ row. refl) s.agents)
+      ∙ is_some_map (agent_with_holding a b) (find (is_agent_row n) s.agents) ∙ gone)
 
   fades_replied : (u : ℕ) (text : List ℕ) (s : State) → Fades n s (after_reply u text s).after
   fades_replied u text s = by_agent (is_agent s u)
     where
-      by_agent : (b : Bool) → Fades n s (cond b (still (record s { letters = without_letter u s.letters; agents = with_holding u false s.agents })) (unblock (answer.Reply text) u (record s { letters = without_letter u s.letters }))).after
+      by_agent : (b : Bool)
+          → Fades n s (cond b (still (record s { letters = without_letter u s.letters; agents = with_holding u false s.agents }))
+          (unblock (answer.Reply text) u (record s { letters = without_letter u s.letters }))).after
       by_agent true = fades_holding s _ u false refl refl refl
       by_agent false = fades_block s _ u block.Not refl refl refl
 
@@ -160,7 +180,8 @@ module _ (n : ℕ) where
       let waits = after_block (record s { waits = s.waits ++ record { cond = c; tid = t; depth = lock.depth } ∷ [] }) t (block.Waiting c) in
       fades_then s waits _ (fades_block s waits t (block.Waiting c) refl refl refl) (fades_release lock.mon waits)
 
-  fades_each : {A : Type 0} (change : A → State → Outcome) → ((x : A) (s : State) → Fades n s (change x s).after) → (xs : List A) (s : State) → Fades n s (for_each change xs s).after
+  fades_each : {A : Type 0} (change : A → State → Outcome) → ((x : A) (s : State) → Fades n s (change x s).after)
+      → (xs : List A) (s : State) → Fades n s (for_each change xs s).after
   unfolding for_each and_then
   fades_each change one [] s = fades_still s
   fades_each change one (x ∷ xs) s = fades_then s (change x s).after _ (one x s) (fades_each change one xs (change x s).after)
@@ -172,7 +193,8 @@ module _ (n : ℕ) where
   unfolding and_then
   fades_end_agent a s =
       let woke = for_each (unblock nonexist) (receivers_of s a) s in
-      fades_then s woke.after (after_agent_end a woke.after) (fades_each (unblock nonexist) (fades_unblock nonexist) (receivers_of s a) s) (fades_gone a woke.after)
+      fades_then s woke.after (after_agent_end a woke.after) (fades_each (unblock nonexist) (fades_unblock nonexist) (receivers_of s a) s)
+      (fades_gone a woke.after)
 
   unless_fades : (s : State) (checks : List Check) (otherwise : Case) → Fades n s otherwise.after → Fades n s (unless s checks otherwise).after
   unless_fades s checks otherwise fine = unless_keeps (λ after. Fades n s after) s checks otherwise (fades_still s) (λ passed. fine)
@@ -188,7 +210,8 @@ module _ (n : ℕ) where
   exit_case_fades s t (exit.Note text) = fades_still s
 
   fades_unwind : (t : ℕ) (kept gone : List Mark) (s : State) → Fades n s (unwind t kept gone s).after
-  fades_unwind t kept gone s = fades_then s (with_marks_of s t kept) _ (fades_marks s _ t kept refl refl refl) (fades_each (run_exit t) (λ x s. exit_case_fades s t x.call) (exits_of gone) (with_marks_of s t kept))
+  fades_unwind t kept gone s = fades_then s (with_marks_of s t kept) _ (fades_marks s _ t kept refl refl refl)
+      (fades_each (run_exit t) (λ x s. exit_case_fades s t x.call) (exits_of gone) (with_marks_of s t kept))
 
   fades_withdraw : (t : ℕ) (s : State) → Fades n s (withdraw t s).after
   fades_withdraw t s =
@@ -198,7 +221,8 @@ module _ (n : ℕ) where
   fades_bury : (t : ℕ) (s : State) → Fades n s (bury t s).after
   fades_bury t s = fades_of s (bury t s).after refl (λ gone. filter_none (is_number n) (λ row. not (row.number == t)) s.threads gone) (λ gone. gone)
 
-  fades_first : (change : State → Outcome) (changes : List (State → Outcome)) (s : State) → Fades n s (change s).after → Fades n (change s).after (in_order changes (change s).after).after → Fades n s (in_order (change ∷ changes) s).after
+  fades_first : (change : State → Outcome) (changes : List (State → Outcome)) (s : State) → Fades n s (change s).after
+      → Fades n (change s).after (in_order changes (change s).after).after → Fades n s (in_order (change ∷ changes) s).after
   unfolding in_order and_then
   fades_first change changes s one two = fades_then s (change s).after _ one two
 
@@ -241,10 +265,12 @@ module _ (n : ℕ) where
   fades_received s t from mode.Poll (Some letter) = fades_plain s _ refl refl refl
   fades_received s t from mode.Block None = fades_block s _ t (block.Receiving from) refl refl refl
   fades_received s t from mode.Block (Some letter) = fades_plain s _ refl refl refl
-  fades_received s t from (mode.Until ticks) None = cond_fades s (eqb ticks 0) (refusal_case s error.Timeout) (silent_case (still (after_block_for s t (block.Receiving from) ticks))) (fades_still s) (fades_block s _ t (block.Receiving from) refl refl refl)
+  fades_received s t from (mode.Until ticks) None = cond_fades s (eqb ticks 0) (refusal_case s error.Timeout)
+      (silent_case (still (after_block_for s t (block.Receiving from) ticks))) (fades_still s) (fades_block s _ t (block.Receiving from) refl refl refl)
   fades_received s t from (mode.Until ticks) (Some letter) = fades_plain s _ refl refl refl
 
-  fades_match : (s : State) (on_match : Found → Case) (o : Option Found) → ((f : Found) → Fades n s (on_match f).after) → Fades n s (with_match s on_match o).after
+  fades_match : (s : State) (on_match : Found → Case) (o : Option Found) → ((f : Found) → Fades n s (on_match f).after)
+      → Fades n s (with_match s on_match o).after
   fades_match s on_match None fine = fades_still s
   fades_match s on_match (Some f) fine = fine f
 
@@ -269,16 +295,19 @@ module _ (n : ℕ) where
   case_fades s t (call.Suspend u) = unless_fades s _ _ (fades_suspension s _ u true refl refl refl)
   case_fades s t (call.Resume u) = unless_fades s _ _ (fades_suspension s _ u false refl refl refl)
   case_fades s t (call.Join u) = unless_fades s _ _ (fades_block s _ t (block.Joining u) refl refl refl)
-  case_fades s t (call.Sleep ticks) = cond_fades s (eqb ticks 0) (value_case s 0) (silent_case (still (after_block_for s t block.Sleeping ticks))) (fades_still s) (fades_block s _ t block.Sleeping refl refl refl)
+  case_fades s t (call.Sleep ticks) = cond_fades s (eqb ticks 0) (value_case s 0)
+      (silent_case (still (after_block_for s t block.Sleeping ticks))) (fades_still s) (fades_block s _ t block.Sleeping refl refl refl)
   case_fades s t call.Me = fades_still s
   case_fades s t call.GetExit = fades_still s
   case_fades s t call.Threads = fades_still s
-  case_fades s t (call.Send u room text) = unless_fades s _ _ (fades_then s (after_block s t block.Sending) _ (fades_block s _ t block.Sending refl refl refl) (fades_post (record { from = t; to = u; text = text; room = room; received = false }) (after_block s t block.Sending)))
+  case_fades s t (call.Send u room text) = unless_fades s _ _ (fades_then s (after_block s t block.Sending) _ (fades_block s _ t
+      block.Sending refl refl refl) (fades_post (record { from = t; to = u; text = text; room = room; received = false }) (after_block s t block.Sending)))
   case_fades s t (call.Recv from how) = unless_fades s _ _ (fades_received s t from how (next_letter s.letters t from))
   case_fades s t (call.Reply u text) = unless_fades s _ _ (fades_replied u text s)
   case_fades s t call.Senders = fades_still s
   case_fades s t call.Receivers = fades_still s
-  case_fades s t (call.Enter m) = unless_fades s _ _ (cond_fades s (is_owned_by_other s.locks t m) (silent_case (still (after_request s t m))) (enter_case s t m) (fades_block s _ t (block.Entering m) refl refl refl) (fades_plain s _ refl refl refl))
+  case_fades s t (call.Enter m) = unless_fades s _ _ (cond_fades s (is_owned_by_other s.locks t m)
+      (silent_case (still (after_request s t m))) (enter_case s t m) (fades_block s _ t (block.Entering m) refl refl refl) (fades_plain s _ refl refl refl))
   case_fades s t (call.MonExit m) = unless_fades s _ _ (fades_exited m s)
   case_fades s t (call.MonBreak m) = unless_fades s _ _ (fades_release m s)
   case_fades s t call.Monitors = fades_still s
@@ -290,12 +319,14 @@ module _ (n : ℕ) where
   case_fades s t call.Conds = fades_still s
   case_fades s t (call.CvWaiters c) = unless_fades s _ _ (fades_still s)
   case_fades s t (call.CallProc number) = unless_fades s _ _ (fades_marks s _ t _ refl refl refl)
-  case_fades s t call.Return = cond_fades s (nat_le 2 (frames (marks_in s t))) (leave_frame s t) (silent_case (death t s)) (fades_unwind t (first_frames (frames (marks_in s t) - 1) (marks_in s t)) (later_frames (frames (marks_in s t) - 1) (marks_in s t)) s) (fades_death t s)
+  case_fades s t call.Return = cond_fades s (nat_le 2 (frames (marks_in s t))) (leave_frame s t) (silent_case (death t s))
+      (fades_unwind t (first_frames (frames (marks_in s t) - 1) (marks_in s t)) (later_frames (frames (marks_in s t) - 1) (marks_in s t)) s) (fades_death t s)
   case_fades s t (call.Handle pat func arg) = unless_fades s _ _ (fades_marks s _ t _ refl refl refl)
   case_fades s t call.Unhandle = unless_fades s _ _ (fades_marks s _ t _ refl refl refl)
   case_fades s t (call.OnExit e) = unless_fades s _ _ (fades_marks s _ t _ refl refl refl)
   case_fades s t (call.Raise q) = unless_fades s _ _ (fades_match s (catch_case s t q) (handler_of s t q) (λ f. fades_caught s t q f))
-  case_fades s t (call.ExcNotify q) = unless_fades s _ _ (fades_match s (λ f. excnotify_case_by s t q f f.func) (handler_of s t q) (λ f. fades_notified s t q f f.func))
+  case_fades s t (call.ExcNotify q) =
+      unless_fades s _ _ (fades_match s (λ f. excnotify_case_by s t q f f.func) (handler_of s t q) (λ f. fades_notified s t q f f.func))
   case_fades s t (call.Bound q) = unless_fades s _ _ (fades_match s _ (handler_of s t q) (λ f. fades_still s))
   case_fades s t (call.Agent e) = unless_fades s _ _ (fades_agent_born s t e)
   case_fades s t call.Agents = fades_still s
@@ -313,7 +344,8 @@ module _ (n : ℕ) where
 
   fades_tick : (s : State) → Fades n s (tick s).after
   unfolding and_then
-  fades_tick s = fades_then s (after_tick s) _ (fades_plain s _ refl refl refl) (fades_each time_out (λ t s. fades_block s _ t block.Not refl refl refl) (due_threads (after_tick s)) (after_tick s))
+  fades_tick s = fades_then s (after_tick s) _ (fades_plain s _ refl refl refl)
+      (fades_each time_out (λ t s. fades_block s _ t block.Not refl refl refl) (due_threads (after_tick s)) (after_tick s))
 
   fades_delivered : (text : List ℕ) (row : AgentRow) (s : State) → Fades n s (deliver_to text row s).after
   unfolding and_then

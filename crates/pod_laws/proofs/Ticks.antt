@@ -37,12 +37,14 @@ module _ (s : State) (d : Option ℕ) (was : NineParts s d) where
   timed_row t some = by_row (thread_of s t) refl
     where
       by_row : (o : Option ThreadRow) → thread_of s t ≡ o → TimedRow s t
-      by_row None e = absurd (omega (arith, some, was.blocks.4.0 t, count_and-le (is_number t) (λ row. is_timed row.block) s.threads, count_not_found (is_number t) s.threads e))
+      by_row None e = absurd
+          (omega (arith, some, was.blocks.4.0 t, count_and-le (is_number t) (λ row. is_timed row.block) s.threads, count_not_found (is_number t) s.threads e))
       by_row (Some row) e = record { row = row; known = e; timed = by_test (is_timed row.block) refl }
         where
           by_test : (b : Bool) → is_timed row.block ≡ b → b ≡ true
           by_test true f = refl
-          by_test false f = absurd (omega (arith, some, was.blocks.4.0 t, count_found_and (is_number t) (λ row. is_timed row.block) s.threads row e (once_threads s d was t), ap one f))
+          by_test false f = absurd (omega
+              (arith, some, was.blocks.4.0 t, count_found_and (is_number t) (λ row. is_timed row.block) s.threads row e (once_threads s d was t), ap one f))
 
   -- nobody has two
   pub timers_once : (t : ℕ) → timers_of s.timers t ≤ 1
@@ -59,15 +61,23 @@ pub record Before (n : ℕ) (s : State) : Type 0 where
   pub nine : NineParts (record s { now = n }) None
 
 -- the thread that is due first goes on, and the others remain
-pub time_out_first : (n t : ℕ) (ts : List ℕ) (s : State) → Before n s → due_threads s ≡ t ∷ ts → Before n (time_out t s).after × (due_threads (time_out t s).after ≡ ts)
+pub time_out_first : (n t : ℕ) (ts : List ℕ) (s : State) → Before n s → due_threads s ≡ t ∷ ts
+    → Before n (time_out t s).after × (due_threads (time_out t s).after ≡ ts)
 time_out_first n t ts s was listed = (
   record { nine = NineParts-timed_out (record s { now = n }) None was.nine t some },
   keys_without (λ (row : TimerRow). row.tid) (is_due s.now) t s.timers
-      ∙ without_first t ts (due_threads s) listed (omega (arith, keys_times (λ (row : TimerRow). row.tid) (is_due s.now) t s.timers, timers_once (record s { now = n }) None was.nine t)),
+      ∙ without_first t ts (due_threads s) listed (omega
+      (arith, keys_times (λ (row : TimerRow). row.tid) (is_due s.now) t s.timers, timers_once (record s { now = n }) None was.nine t)),
 )
   where
     some : 1 ≤ timers_of s.timers t
-    some = omega (arith, ap (λ ns. times_in ns t) listed, count-cons (λ k. eqb k t) t ts, ap one (eq-eqb t t refl), keys_times (λ (row : TimerRow). row.tid) (is_due s.now) t s.timers)
+    some = omega (
+      arith,
+      ap (λ ns. times_in ns t) listed,
+      count-cons (λ k. eqb k t) t ts,
+      ap one (eq-eqb t t refl),
+      keys_times (λ (row : TimerRow). row.tid) (is_due s.now) t s.timers,
+    )
 
 -- where nobody is due, the state is lawful at its own time too
 NineParts-later : (n : ℕ) (s : State) → Before n s → due_threads s ≡ [] → NineParts s None
@@ -85,7 +95,8 @@ NineParts-later n s was none = record {
 }
   where
     ahead : list_all (is_ahead s.now) s.timers ≡ true
-    ahead = all_weaker (λ row. not (is_due s.now row)) (is_ahead s.now) (λ row h. lt-ltb s.now row.due (leb-false row.due s.now (false_of _ h))) s.timers (none_pass (λ (row : TimerRow). row.tid) (is_due s.now) s.timers none)
+    ahead = all_weaker (λ row. not (is_due s.now row)) (is_ahead s.now)
+        (λ row h. lt-ltb s.now row.due (leb-false row.due s.now (false_of _ h))) s.timers (none_pass (λ (row : TimerRow). row.tid) (is_due s.now) s.timers none)
 
 pub tick_keeps : (s : State) → NineParts s None → NineParts (tick s).after None
 unfolding and_then

@@ -4,14 +4,16 @@ use Rattle.lwp_types.specs.Case.{Case, Check, refusal_case, silent_case, unless,
 use Rattle.lwp_types.specs.Choice.{choice, is_eligible, is_eligible_in}
 use Rattle.lwp_types.specs.CountLaws.{count-append, count-filter-le, count_found_and, one}
 use Rattle.lwp_types.specs.Counts.{is_timed, timers_of}
-use Rattle.lwp_types.specs.Death.{answer_joiners, bury, death, destroy_case, end_agents, refuse_receivers, refuse_sender, refuse_senders, release_all, run_all_exits, withdraw}
+use Rattle.lwp_types.specs.Death.{answer_joiners, bury, death, destroy_case, end_agents, refuse_receivers, refuse_sender, refuse_senders}
+use Rattle.lwp_types.specs.Death.{release_all, run_all_exits, withdraw}
 use Rattle.lwp_types.specs.Exits.{catch_case, exit_case, leave_frame, excnotify_case_by, run_exit, unwind}
 use Rattle.lwp_types.specs.Lawful.{Lawful}
 use Rattle.lwp_types.specs.Messages.{after_reply, as_answer, as_received, next_letter, post, receive_by, receivers_of, takes_from, with_holding, without_letter}
 use Rattle.lwp_types.specs.Monitors.{after_exit, after_request, depth_in, enter_case, is_owned_by_other, with_depth}
 use Rattle.lwp_types.specs.Exceptions.{caught_marks, exits_of, first_frames, frames, handler_of, later_frames, with_match}
 use Rattle.lwp_types.specs.MonitorRelease.{grant, last_lock, next_owner, release, without_lock}
-use Rattle.lwp_types.specs.State.{Outcome, State, ThreadRow, and_then, for_each, in_order, is_agent, is_not_blocked, is_number, marks_in, passes, still, thread_of, with_marks_of}
+use Rattle.lwp_types.specs.State.{Outcome, State, ThreadRow, and_then, for_each, in_order, is_agent, is_not_blocked, is_number, marks_in, passes}
+use Rattle.lwp_types.specs.State.{still, thread_of, with_marks_of}
 use Rattle.lwp_types.specs.Step.{case_of, step, step_by, step_if}
 use Rattle.lwp_types.specs.Time.{after_tick, due_threads, tick, time_out}
 use Rattle.lwp_types.specs.Unblock.{after_block, after_block_for, after_unblock, is_timer_of, nonexist, timer_for, unblock, zero_answer}
@@ -52,7 +54,12 @@ running_untimed : (s : State) → Lawful s None → (t : ℕ) → is_eligible_in
 running_untimed s was t runs = by_row (thread_of s t) refl runs
   where
     none : (row : ThreadRow) → thread_of s t ≡ Some row → is_timed row.block ≡ false → timers_of s.timers t ≡ 0
-    none row known free = omega (arith, was.nine.blocks.4.0 t, count_found_and (is_number t) (λ row. is_timed row.block) s.threads row known (once_threads s None was.nine t), ap one free)
+    none row known free = omega (
+      arith,
+      was.nine.blocks.4.0 t,
+      count_found_and (is_number t) (λ row. is_timed row.block) s.threads row known (once_threads s None was.nine t),
+      ap one free,
+    )
 
     by_row : (o : Option ThreadRow) → thread_of s t ≡ o → passes is_eligible o ≡ true → timers_of s.timers t ≡ 0
     by_row None known h = absurd (cc)
@@ -100,14 +107,18 @@ module _ (p : TimerRow → Bool) where
   quiet_post : (letter : Letter) (s : State) → Among p s.timers (post letter s).after
   quiet_post letter s = by_test (passes (λ (row : ThreadRow). takes_from letter.from row.block) (thread_of s letter.to))
     where
-      by_test : (b : Bool) → Among p s.timers (cond b (unblock (as_answer letter) letter.to (record s { letters = s.letters ++ as_received letter ∷ [] })) (still (record s { letters = s.letters ++ letter ∷ [] }))).after
+      by_test : (b : Bool)
+          → Among p s.timers (cond b (unblock (as_answer letter) letter.to (record s { letters = s.letters ++ as_received letter ∷ [] }))
+          (still (record s { letters = s.letters ++ letter ∷ [] }))).after
       by_test true = quiet_unblocked s.timers letter.to _ refl
       by_test false = quiet_same s _ refl
 
   quiet_replied : (u : ℕ) (text : List ℕ) (s : State) → Among p s.timers (after_reply u text s).after
   quiet_replied u text s = by_agent (is_agent s u)
     where
-      by_agent : (b : Bool) → Among p s.timers (cond b (still (record s { letters = without_letter u s.letters; agents = with_holding u false s.agents })) (unblock (answer.Reply text) u (record s { letters = without_letter u s.letters }))).after
+      by_agent : (b : Bool)
+          → Among p s.timers (cond b (still (record s { letters = without_letter u s.letters; agents = with_holding u false s.agents }))
+          (unblock (answer.Reply text) u (record s { letters = without_letter u s.letters }))).after
       by_agent true = quiet_same s _ refl
       by_agent false = quiet_unblocked s.timers u _ refl
 
@@ -121,9 +132,11 @@ module _ (p : TimerRow → Bool) where
 
   quiet_waited : (t c : ℕ) (o : Option Lock) (s : State) → Among p s.timers (after_wait t c o s).after
   quiet_waited t c None s = quiet_still s
-  quiet_waited t c (Some lock) s = quiet_release lock.mon (after_block (record s { waits = s.waits ++ record { cond = c; tid = t; depth = lock.depth } ∷ [] }) t (block.Waiting c))
+  quiet_waited t c (Some lock) s =
+      quiet_release lock.mon (after_block (record s { waits = s.waits ++ record { cond = c; tid = t; depth = lock.depth } ∷ [] }) t (block.Waiting c))
 
-  quiet_each : {A : Type 0} (change : A → State → Outcome) → ((x : A) (s : State) → Among p s.timers (change x s).after) → (xs : List A) (s : State) → Among p s.timers (for_each change xs s).after
+  quiet_each : {A : Type 0} (change : A → State → Outcome) → ((x : A) (s : State) → Among p s.timers (change x s).after)
+      → (xs : List A) (s : State) → Among p s.timers (for_each change xs s).after
   unfolding for_each and_then
   quiet_each change one [] s = quiet_still s
   quiet_each change one (x ∷ xs) s = quiet_then s.timers (change x s).after _ (one x s) (quiet_each change one xs (change x s).after)
@@ -132,9 +145,11 @@ module _ (p : TimerRow → Bool) where
   unfolding and_then
   quiet_end_agent a s =
       let woke = for_each (unblock nonexist) (receivers_of s a) s in
-      quiet_then s.timers woke.after (after_agent_end a woke.after) (quiet_each (unblock nonexist) (quiet_unblock nonexist) (receivers_of s a) s) (quiet_same woke.after _ refl)
+      quiet_then s.timers woke.after (after_agent_end a woke.after)
+      (quiet_each (unblock nonexist) (quiet_unblock nonexist) (receivers_of s a) s) (quiet_same woke.after _ refl)
 
-  unless_quiet : (s : State) (timers : List TimerRow) (checks : List Check) (otherwise : Case) → count_by p s.timers ≤ count_by p timers → Among p timers otherwise.after → Among p timers (unless s checks otherwise).after
+  unless_quiet : (s : State) (timers : List TimerRow) (checks : List Check) (otherwise : Case) → count_by p s.timers ≤ count_by p timers
+      → Among p timers otherwise.after → Among p timers (unless s checks otherwise).after
   unless_quiet s timers checks otherwise more fine = unless_keeps (λ after. Among p timers after) s checks otherwise (record { fewer = more }) (λ passed. fine)
 
   exit_case_quiet : (s : State) (t : ℕ) (call : ExitCall) → Among p s.timers (exit_case s t call).after
@@ -156,7 +171,8 @@ module _ (p : TimerRow → Bool) where
   quiet_bury : (t : ℕ) (s : State) → Among p s.timers (bury t s).after
   quiet_bury t s = quiet_same s _ refl
 
-  quiet_first : (change : State → Outcome) (changes : List (State → Outcome)) (s : State) → Among p s.timers (change s).after → Among p (change s).after.timers (in_order changes (change s).after).after → Among p s.timers (in_order (change ∷ changes) s).after
+  quiet_first : (change : State → Outcome) (changes : List (State → Outcome)) (s : State) → Among p s.timers (change s).after
+      → Among p (change s).after.timers (in_order changes (change s).after).after → Among p s.timers (in_order (change ∷ changes) s).after
   unfolding in_order and_then
   quiet_first change changes s one two = quiet_then s.timers (change s).after _ one two
 
@@ -175,11 +191,13 @@ module _ (p : TimerRow → Bool) where
       (quiet_first (answer_joiners t) _ _ (quiet_each (unblock zero_answer) (quiet_unblock zero_answer) _ _)
       (quiet_first (bury t) _ _ (quiet_bury t _) (quiet_last _))))))))
 
-  cond_quiet : (timers : List TimerRow) (b : Bool) (one two : Case) → Among p timers one.after → Among p timers two.after → Among p timers (cond b one two).after
+  cond_quiet : (timers : List TimerRow) (b : Bool) (one two : Case) → Among p timers one.after → Among p timers two.after
+      → Among p timers (cond b one two).after
   cond_quiet timers true one two first second = first
   cond_quiet timers false one two first second = second
 
-  quiet_match : (s : State) (on_match : Found → Case) (o : Option Found) → ((f : Found) → Among p s.timers (on_match f).after) → Among p s.timers (with_match s on_match o).after
+  quiet_match : (s : State) (on_match : Found → Case) (o : Option Found) → ((f : Found) → Among p s.timers (on_match f).after)
+      → Among p s.timers (with_match s on_match o).after
   quiet_match s on_match None fine = quiet_still s
   quiet_match s on_match (Some f) fine = fine f
 
@@ -203,12 +221,14 @@ module _ (p : TimerRow → Bool) where
   quiet_timed : (s : State) (t : ℕ) (b : Block) (ticks : ℕ) → Among p (s.timers ++ timer_for s t ticks ∷ []) (after_block_for s t b ticks)
   quiet_timed s t b ticks = record { fewer = omega arith }
 
-  quiet_received : (s : State) (t : ℕ) (from : Option ℕ) (how : Mode) (o : Option Letter) → Among p (s.timers ++ timers_by s t (ticks_in how)) (receive_by s t from how o).after
+  quiet_received : (s : State) (t : ℕ) (from : Option ℕ) (how : Mode) (o : Option Letter)
+      → Among p (s.timers ++ timers_by s t (ticks_in how)) (receive_by s t from how o).after
   quiet_received s t from mode.Poll None = record { fewer = more_timers s [] }
   quiet_received s t from mode.Poll (Some letter) = record { fewer = more_timers s [] }
   quiet_received s t from mode.Block None = record { fewer = more_timers s [] }
   quiet_received s t from mode.Block (Some letter) = record { fewer = more_timers s [] }
-  quiet_received s t from (mode.Until ticks) None = cond_quiet (s.timers ++ timer_for s t ticks ∷ []) (eqb ticks 0) (refusal_case s error.Timeout) (silent_case (still (after_block_for s t (block.Receiving from) ticks)))
+  quiet_received s t from (mode.Until ticks) None = cond_quiet (s.timers ++ timer_for s t ticks ∷ []) (eqb ticks 0)
+      (refusal_case s error.Timeout) (silent_case (still (after_block_for s t (block.Receiving from) ticks)))
       (record { fewer = more_timers s (timer_for s t ticks ∷ []) }) (quiet_timed s t (block.Receiving from) ticks)
   quiet_received s t from (mode.Until ticks) (Some letter) = record { fewer = more_timers s (timer_for s t ticks ∷ []) }
 
@@ -219,17 +239,21 @@ module _ (p : TimerRow → Bool) where
   case_quiet : (s : State) (t : ℕ) (c : Call) → Among p (s.timers ++ timers_by s t (ticks_of c)) (case_of s t c).after
   case_quiet s t (call.Destroy u) = none_asked s _ (unless_quiet s s.timers _ _ (omega arith) (quiet_destroyed s t u))
   case_quiet s t (call.Ping u) = none_asked s _ (unless_quiet s s.timers _ _ (omega arith) (quiet_still s))
-  case_quiet s t (call.Sleep ticks) = cond_quiet (s.timers ++ timer_for s t ticks ∷ []) (eqb ticks 0) (value_case s 0) (silent_case (still (after_block_for s t block.Sleeping ticks)))
+  case_quiet s t (call.Sleep ticks) =
+      cond_quiet (s.timers ++ timer_for s t ticks ∷ []) (eqb ticks 0) (value_case s 0) (silent_case (still (after_block_for s t block.Sleeping ticks)))
       (record { fewer = more_timers s (timer_for s t ticks ∷ []) }) (quiet_timed s t block.Sleeping ticks)
   case_quiet s t call.Me = none_asked s _ (quiet_still s)
   case_quiet s t call.GetExit = none_asked s _ (quiet_still s)
   case_quiet s t call.Threads = none_asked s _ (quiet_still s)
-  case_quiet s t (call.Send u room text) = none_asked s _ (unless_quiet s s.timers _ _ (omega arith) (quiet_post (record { from = t; to = u; text = text; room = room; received = false }) (after_block s t block.Sending)))
-  case_quiet s t (call.Recv from how) = unless_quiet s (s.timers ++ timers_by s t (ticks_in how)) _ _ (more_timers s (timers_by s t (ticks_in how))) (quiet_received s t from how (next_letter s.letters t from))
+  case_quiet s t (call.Send u room text) = none_asked s _ (unless_quiet s s.timers _ _ (omega arith)
+      (quiet_post (record { from = t; to = u; text = text; room = room; received = false }) (after_block s t block.Sending)))
+  case_quiet s t (call.Recv from how) = unless_quiet s (s.timers ++ timers_by s t (ticks_in how)) _ _
+      (more_timers s (timers_by s t (ticks_in how))) (quiet_received s t from how (next_letter s.letters t from))
   case_quiet s t (call.Reply u text) = none_asked s _ (unless_quiet s s.timers _ _ (omega arith) (quiet_replied u text s))
   case_quiet s t call.Senders = none_asked s _ (quiet_still s)
   case_quiet s t call.Receivers = none_asked s _ (quiet_still s)
-  case_quiet s t (call.Enter m) = none_asked s _ (unless_quiet s s.timers _ _ (omega arith) (cond_quiet s.timers (is_owned_by_other s.locks t m) (silent_case (still (after_request s t m))) (enter_case s t m) (quiet_same s _ refl) (quiet_same s _ refl)))
+  case_quiet s t (call.Enter m) = none_asked s _ (unless_quiet s s.timers _ _ (omega arith) (cond_quiet s.timers
+      (is_owned_by_other s.locks t m) (silent_case (still (after_request s t m))) (enter_case s t m) (quiet_same s _ refl) (quiet_same s _ refl)))
   case_quiet s t (call.MonExit m) = none_asked s _ (unless_quiet s s.timers _ _ (omega arith) (quiet_exited m s))
   case_quiet s t (call.MonBreak m) = none_asked s _ (unless_quiet s s.timers _ _ (omega arith) (quiet_release m s))
   case_quiet s t call.Monitors = none_asked s _ (quiet_still s)
@@ -240,9 +264,13 @@ module _ (p : TimerRow → Bool) where
   case_quiet s t (call.CvSend c u) = none_asked s _ (unless_quiet s s.timers _ _ (omega arith) (quiet_woken_all (condition_of s.conditions c) _ s))
   case_quiet s t call.Conds = none_asked s _ (quiet_still s)
   case_quiet s t (call.CvWaiters c) = none_asked s _ (unless_quiet s s.timers _ _ (omega arith) (quiet_still s))
-  case_quiet s t call.Return = none_asked s _ (cond_quiet s.timers (nat_le 2 (frames (marks_in s t))) (leave_frame s t) (silent_case (death t s)) (quiet_unwind t (first_frames (frames (marks_in s t) - 1) (marks_in s t)) (later_frames (frames (marks_in s t) - 1) (marks_in s t)) s) (quiet_death t s))
-  case_quiet s t (call.Raise q) = none_asked s _ (unless_quiet s s.timers _ _ (omega arith) (quiet_match s (catch_case s t q) (handler_of s t q) (λ f. quiet_caught s t q f)))
-  case_quiet s t (call.ExcNotify q) = none_asked s _ (unless_quiet s s.timers _ _ (omega arith) (quiet_match s (λ f. excnotify_case_by s t q f f.func) (handler_of s t q) (λ f. quiet_notified s t q f f.func)))
+  case_quiet s t call.Return =
+      none_asked s _ (cond_quiet s.timers (nat_le 2 (frames (marks_in s t))) (leave_frame s t) (silent_case (death t s))
+      (quiet_unwind t (first_frames (frames (marks_in s t) - 1) (marks_in s t)) (later_frames (frames (marks_in s t) - 1) (marks_in s t)) s) (quiet_death t s))
+  case_quiet s t (call.Raise q) =
+      none_asked s _ (unless_quiet s s.timers _ _ (omega arith) (quiet_match s (catch_case s t q) (handler_of s t q) (λ f. quiet_caught s t q f)))
+  case_quiet s t (call.ExcNotify q) = none_asked s _ (unless_quiet s s.timers _ _ (omega arith)
+      (quiet_match s (λ f. excnotify_case_by s t q f f.func) (handler_of s t q) (λ f. quiet_notified s t q f f.func)))
   case_quiet s t (call.Bound q) = none_asked s _ (unless_quiet s s.timers _ _ (omega arith) (quiet_match s _ (handler_of s t q) (λ f. quiet_still s)))
   case_quiet s t call.Agents = none_asked s _ (quiet_still s)
   case_quiet s t (call.Trap e) = none_asked s _ (quiet_still s)
@@ -255,7 +283,8 @@ module _ (p : TimerRow → Bool) where
     where
       by_choice : (o : Option ℕ) → Among p (s.timers ++ timers_of_call s o c) (step_if s c o).after
       by_choice None = none_asked s _ (quiet_still s)
-      by_choice (Some t) = quiet_then (s.timers ++ timers_by s t (ticks_of c)) (case_of s t c).after _ (case_quiet s t c) (quiet_same (case_of s t c).after _ refl)
+      by_choice (Some t) = quiet_then (s.timers ++ timers_by s t (ticks_of c)) (case_of s t c).after _ (case_quiet s t c)
+          (quiet_same (case_of s t c).after _ refl)
 
   quiet_tick : (s : State) → Among p s.timers (tick s).after
   unfolding and_then

@@ -38,14 +38,16 @@ free_wakes b e = untimed_wakes b (free_untimed b e)
 
 -- the timers of u are gone, and those of others stay
 pub dropped_own : (u : ℕ) (rows : List TimerRow) → timers_of (without_timer u rows) u ≡ 0
-dropped_own u rows = count-filter (is_timer_of u) (λ row. not (is_timer_of u row)) rows ∙ count_never (λ row. not (is_timer_of u row) && is_timer_of u row) (λ row. apart (is_timer_of u row)) rows
+dropped_own u rows = count-filter (is_timer_of u) (λ row. not (is_timer_of u row)) rows
+    ∙ count_never (λ row. not (is_timer_of u row) && is_timer_of u row) (λ row. apart (is_timer_of u row)) rows
   where
     apart : (b : Bool) → (not b && b) ≡ false
     apart true = refl
     apart false = refl
 
 pub dropped_others : (u t : ℕ) → u ≢ t → (rows : List TimerRow) → timers_of (without_timer u rows) t ≡ timers_of rows t
-dropped_others u t away rows = count-filter (is_timer_of t) (λ row. not (is_timer_of u row)) rows ∙ count_agree (λ row. not (is_timer_of u row) && is_timer_of t row) (is_timer_of t) others rows
+dropped_others u t away rows = count-filter (is_timer_of t) (λ row. not (is_timer_of u row)) rows
+    ∙ count_agree (λ row. not (is_timer_of u row) && is_timer_of t row) (is_timer_of t) others rows
   where
     others : (row : TimerRow) → (not (is_timer_of u row) && is_timer_of t row) ≡ is_timer_of t row
     others row = elim (cases_eq row.tid u) [

@@ -14,7 +14,7 @@ use std::marker::{Brand, Model};
 use std::sync::ledger::{Blank, Ledger};
 
 // So many threads are found at one look.
-const CELLS: usize = 4096;
+const CELLS: usize = 1024;
 
 /// Who is known, and who may run after whom. It is seen as a schedule in which nobody has a timer.
 pub struct Turns {

@@ -9,7 +9,8 @@ use Rattle.search.specs.Known.{AreTried, ComesBefore, ComesUpTo, Grows, HasRowsI
 use Rattle.search.specs.Moves.{IsReachable, KeysDiffer, Moves, walk}
 use Rattle.search.specs.Seen.{Adds, is_seen}
 use Rattle.search.specs.declared.found.Row.{Row}
-use Rattle.std.proofs.Common.{List, None, Option, Some, [], ap, arith, false, inl, inr, length, map, refl, subst, suc, sym, true, true≢false, zero, ℕ, ◌++◌, ◌+◌, ◌<◌, ◌∙◌, ◌∷◌, ◌≡◌, ◌≤◌}
+use Rattle.std.proofs.Common.{List, None, Option, Some, [], ap, arith, false, inl, inr, length, map, refl, subst, suc, sym, true, true≢false, zero}
+use Rattle.std.proofs.Common.{ℕ, ◌++◌, ◌+◌, ◌<◌, ◌∙◌, ◌∷◌, ◌≡◌, ◌≤◌}
 use Rattle.std.proofs.lemmas.Grind.{fold-append}
 use Rattle.std.proofs.lemmas.List.{length-append, map-append}
 use Rattle.std.proofs.lemmas.Option.{slice_get_within}

@@ -1,14 +1,16 @@
 -- What the rows of a search say, whether it is at its end or not.
 use Rattle.search.proofs.KnownLemmas.{as_many}
 use Rattle.search.proofs.Parents.{path_step}
-use Rattle.search.proofs.PathLemmas.{UpTo, before_left, before_none, before_last, before_short, before_strip, longer, numbers_rise, numbers_up_to, rises, split_le, up_to_before, up_to_left, up_to_trans}
+use Rattle.search.proofs.PathLemmas.{UpTo, before_left, before_none, before_last, before_short, before_strip, longer, numbers_rise, numbers_up_to}
+use Rattle.search.proofs.PathLemmas.{rises, split_le, up_to_before, up_to_left, up_to_trans}
 use Rattle.search.proofs.Places.{get_within}
 use Rattle.search.specs.Found.{HasBefore, IsFirst, IsInOrder, IsShortest, cores_of, path_of}
 use Rattle.search.specs.Known.{ComesBefore, IsFound, IsKnown}
 use Rattle.search.specs.Moves.{IsPath, Moves, walk}
 use Rattle.search.specs.Paths.{IsBefore}
 use Rattle.search.specs.declared.found.Row.{Row}
-use Rattle.std.proofs.Common.{List, None, Option, Some, [], ap, append_assoc, arith, inl, inr, length, refl, subst, suc, sym, zero, ℕ, ◌++◌, ◌+◌, ◌<◌, ◌∙◌, ◌∷◌, ◌≡◌, ◌≤◌}
+use Rattle.std.proofs.Common.{List, None, Option, Some, [], ap, append_assoc, arith, inl, inr, length, refl, subst, suc, sym, zero, ℕ, ◌++◌, ◌+◌}
+use Rattle.std.proofs.Common.{◌<◌, ◌∙◌, ◌∷◌, ◌≡◌, ◌≤◌}
 use Rattle.std.proofs.lemmas.List.{append-nil, length-append}
 use Rattle.std.proofs.lemmas.Option.{slice_get_within}
 use Rattle.std.specs.Prelude.{option_and_then, slice_get}

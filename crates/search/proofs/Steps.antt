@@ -1,5 +1,6 @@
 -- What is known after a step, after the steps of a core, and at the end.
-use Rattle.search.proofs.KnownLemmas.{as_many, grows_more, has_more, is_sound, known_more, led_is, not_seen, some_same, tried_one_more, up_to_more, walks_stay, was_seen}
+use Rattle.search.proofs.KnownLemmas.{as_many, grows_more, has_more, is_sound, known_more, led_is, not_seen, some_same, tried_one_more, up_to_more}
+use Rattle.search.proofs.KnownLemmas.{walks_stay, was_seen}
 use Rattle.search.proofs.PathLemmas.{split_le}
 use Rattle.search.proofs.Places.{get_cases, get_within}
 use Rattle.search.proofs.Walks.{walk_push}
@@ -8,7 +9,8 @@ use Rattle.search.specs.Known.{AreOf, AreStanding, AreTried, Exploring, Grows, H
 use Rattle.search.specs.Moves.{IsPath, IsReachable, KeysDiffer, Moves, walk}
 use Rattle.search.specs.Seen.{Adds, is_seen}
 use Rattle.search.specs.declared.found.Row.{Row}
-use Rattle.std.proofs.Common.{Bool, List, Some, [], ap, arith, false, inl, inr, length, max, refl, subst, suc, sym, true, zero, ℕ, ◌++◌, ◌+◌, ◌-◌, ◌<◌, ◌^◌, ◌∙◌, ◌∷◌, ◌≡◌, ◌≤◌}
+use Rattle.std.proofs.Common.{Bool, List, Some, [], ap, arith, false, inl, inr, length, max, refl, subst, suc, sym, true, zero, ℕ, ◌++◌, ◌+◌, ◌-◌}
+use Rattle.std.proofs.Common.{◌<◌, ◌^◌, ◌∙◌, ◌∷◌, ◌≡◌, ◌≤◌}
 use Rattle.std.proofs.lemmas.Option.{slice_get_within}
 use Rattle.std.specs.Option.{option_map_or}
 use Rattle.std.specs.Prelude.{IsSome, is_some, min, option_and_then, slice_get}

@@ -1,5 +1,6 @@
 -- A registry that is copied birth by birth.
-use Rattle.std.proofs.Common.{List, Option, None, Some, IsSome, [], ap, arith, drop, get_or, length, suc, sym, take, zero, ℕ, ◌++◌, ◌+◌, ◌<◌, ◌≤◌, ◌∙◌, ◌∷◌, ◌≡◌, refl}
+use Rattle.std.proofs.Common.{List, Option, None, Some, IsSome, [], ap, arith, drop, get_or, length, suc, sym, take, zero, ℕ, ◌++◌, ◌+◌, ◌<◌, ◌≤◌}
+use Rattle.std.proofs.Common.{◌∙◌, ◌∷◌, ◌≡◌, refl}
 use Rattle.std.specs.List.{AllByRecursion, slice_get}
 use Rattle.stale_ids.proofs.IndexLemmas.{All-weaker}
 use Rattle.stale_ids.specs.declared.index.Place.{Place}
@@ -38,11 +39,14 @@ module _ {T : Type 0} where
   more_onto n (Some w) ps i some = refl
 
   -- the pair at a place of the index
-  pub pair : (slots : List (Option T)) (es : List Place) (i : ℕ) (e : Place) (v : T) → AreFull slots es → i < length es → e ≡ get_or es i e → get_or slots e.slot None ≡ Some v
+  pub pair : (slots : List (Option T)) (es : List Place) (i : ℕ) (e : Place) (v : T) → AreFull slots es → i < length es → e ≡ get_or es i e
+      → get_or slots e.slot None ≡ Some v
       → slice_get (pairs slots es) i ≡ Some (e.number, v)
   pair slots [] i e v full within read is = absurd (omega arith)
-  pair slots (f ∷ es) zero e v full within read is = (let is' : get_or slots f.slot None ≡ Some v = rw (read) at is in rw (read) (one_onto f.number (get_or slots f.slot None) v (pairs slots es) is'))
-  pair slots (f ∷ es) (suc i) e v full within read is = more_onto f.number (get_or slots f.slot None) (pairs slots es) i full.0 ∙ pair slots es i e v full.1 (omega arith) read is
+  pair slots (f ∷ es) zero e v full within read is =
+      (let is' : get_or slots f.slot None ≡ Some v = rw (read) at is in rw (read) (one_onto f.number (get_or slots f.slot None) v (pairs slots es) is'))
+  pair slots (f ∷ es) (suc i) e v full within read is = more_onto f.number (get_or slots f.slot None) (pairs slots es) i full.0
+      ∙ pair slots es i e v full.1 (omega arith) read is
 
 -- the registry with so many of the living copied
 pub record IsCopied {T : Type 0} (r copy : Register T) (i : ℕ) : Type 0 where
@@ -53,7 +57,8 @@ pub record IsCopied {T : Type 0} (r copy : Register T) (i : ℕ) : Type 0 where
   pub most : copy.births ≤ r.births
 
 -- the next of the living is copied
-pub copied_next : {T : Type 0} (r copy : Register T) (i n : ℕ) (v : T) → AreRising r.live → AreBorn r.births r.live → slice_get r.live i ≡ Some (n, v) → IsCopied r copy i
+pub copied_next : {T : Type 0} (r copy : Register T) (i n : ℕ) (v : T) → AreRising r.live → AreBorn r.births r.live
+    → slice_get r.live i ≡ Some (n, v) → IsCopied r copy i
     → IsCopied r (after_insert (record copy { births = n }) v) (i + 1)
 copied_next {T} r copy i n v rising born here copied =
     let on : i + 1 ≡ suc i = omega arith in

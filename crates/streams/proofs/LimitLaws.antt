@@ -1,6 +1,7 @@
 -- What was read of a source, once it ends or enough was read.
 use Rattle.lwp_types.specs.Streams.{Reads}
-use Rattle.std.proofs.Common.{List, None, Ok, Err, OnErr, Option, Result, Some, [], ap, arith, drop, length, length-take, refl, sym, take, take_all, ℕ, ◌++◌, ◌+◌, ◌<◌, ◌∙◌, ◌∷◌, ◌≡◌, ◌≤◌}
+use Rattle.std.proofs.Common.{List, None, Ok, Err, OnErr, Option, Result, Some, [], ap, arith, drop, length, length-take, refl, sym, take, take_all}
+use Rattle.std.proofs.Common.{ℕ, ◌++◌, ◌+◌, ◌<◌, ◌∙◌, ◌∷◌, ◌≡◌, ◌≤◌}
 use Rattle.std.proofs.Math.Seq.{drop-append-add}
 use Rattle.std.proofs.lemmas.List.{drop_all, take-append-drop, take-append-le}
 use Rattle.streams.proofs.ReadLaws.{read_end}
@@ -16,7 +17,8 @@ front-full most None now bytes h full = tt
 front-full most (Some told) now bytes h full = sym (ap (take most) h.2 ∙ take-front most bytes h.0 full)
 
 -- no more is there
-pub front-end : (most : ℕ) (left now after : Option (List ℕ)) (bytes got : List ℕ) (n : ℕ) → ReadSoFar left now bytes → Reads now after got n → n ≡ 0 → length bytes ≤ most → HasFront most left bytes
+pub front-end : (most : ℕ) (left now after : Option (List ℕ)) (bytes got : List ℕ) (n : ℕ) → ReadSoFar left now bytes
+    → Reads now after got n → n ≡ 0 → length bytes ≤ most → HasFront most left bytes
 front-end most None now after bytes got n h r none short = tt
 front-end most (Some told) now after bytes got n h r none short =
     let all = read_end (Some told) now after bytes got n h r none in sym (ap (take most) all.0 ∙ take_all most bytes short)
@@ -41,7 +43,8 @@ after-more : (left now : Option (List ℕ)) (bytes : List ℕ) (n : ℕ) → Rea
 after-more None now bytes n h = ap (left_after n) h
 after-more (Some told) now bytes n h = ap (left_after n) h.1 ∙ ap (λ xs. Some xs) (sym (ap (drop (length bytes + n)) h.2 ∙ drop-append-add bytes h.0 n))
 
-pub part-read : (most : ℕ) (left now after : Option (List ℕ)) (bytes got : List ℕ) (n : ℕ) → ReadSoFar left now bytes → Reads now after got n → length bytes + n ≤ most → IsReadWithin most left after
+pub part-read : (most : ℕ) (left now after : Option (List ℕ)) (bytes got : List ℕ) (n : ℕ) → ReadSoFar left now bytes
+    → Reads now after got n → length bytes + n ≤ most → IsReadWithin most left after
 part-read most left now after bytes got n h r within = (length bytes + n, within, after-read now after got n r ∙ after-more left now bytes n h)
 
 -- no more may be read
@@ -49,7 +52,8 @@ pub up-full : (most : ℕ) (left now : Option (List ℕ)) (bytes : List ℕ) →
 up-full most left now bytes h full = after-so_far left now bytes h ∙ ap (λ n. left_after n left) full
 
 -- no more is there
-pub up-end : (most : ℕ) (left now after : Option (List ℕ)) (bytes got : List ℕ) (n : ℕ) → ReadSoFar left now bytes → Reads now after got n → n ≡ 0 → length bytes ≤ most → IsReadUp most left after
+pub up-end : (most : ℕ) (left now after : Option (List ℕ)) (bytes got : List ℕ) (n : ℕ) → ReadSoFar left now bytes → Reads now after got n
+    → n ≡ 0 → length bytes ≤ most → IsReadUp most left after
 up-end most None now after bytes got n h r none within = read_end None now after bytes got n h r none
 up-end most (Some told) now after bytes got n h r none within =
     let all = read_end (Some told) now after bytes got n h r none in
@@ -58,7 +62,8 @@ up-end most (Some told) now after bytes got n h r none within =
 -- ---- without a limit
 
 -- fewer bytes were read than might have been: they are all that there were
-pub read-all : (most : ℕ) (left now : Option (List ℕ)) (text : List ℕ) → HasFront most left text → IsReadUp most left now → length text < most → HasRead left now text
+pub read-all : (most : ℕ) (left now : Option (List ℕ)) (text : List ℕ) → HasFront most left text → IsReadUp most left now
+    → length text < most → HasRead left now text
 read-all most None now text front up short = up
 read-all most (Some told) now text front up short =
     let all : length told ≤ most = omega (arith, length-take most told, ap length front, short) in

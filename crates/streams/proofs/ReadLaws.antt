@@ -14,7 +14,8 @@ so_far-none None = refl
 so_far-none (Some told) = (told, refl, refl)
 
 -- one more read
-pub so_far-more : (left now after : Option (List ℕ)) (bytes got : List ℕ) (n : ℕ) → ReadSoFar left now bytes → Reads now after got n → ReadSoFar left after (bytes ++ got)
+pub so_far-more : (left now after : Option (List ℕ)) (bytes got : List ℕ) (n : ℕ) → ReadSoFar left now bytes → Reads now after got n
+    → ReadSoFar left after (bytes ++ got)
 so_far-more None None after bytes got n h r = r
 so_far-more None (Some rest) after bytes got n h r = let no : Some rest ≡ None = h in absurd (cc)
 so_far-more (Some told) None after bytes got n h r = let no : None ≡ Some h.0 = h.1 in absurd (cc)
@@ -24,7 +25,8 @@ so_far-more (Some told) (Some rest) after bytes got n h r =
     (drop n rest, r.1, h.2 ∙ ap (λ xs. bytes ++ xs) (sym same ∙ sym all) ∙ sym (append_assoc bytes got (drop n rest)))
 
 -- no more is there
-pub read_end : (left now after : Option (List ℕ)) (bytes got : List ℕ) (n : ℕ) → ReadSoFar left now bytes → Reads now after got n → n ≡ 0 → HasRead left after bytes
+pub read_end : (left now after : Option (List ℕ)) (bytes got : List ℕ) (n : ℕ) → ReadSoFar left now bytes → Reads now after got n → n ≡ 0
+    → HasRead left after bytes
 read_end None None after bytes got n h r none = r
 read_end None (Some rest) after bytes got n h r none = let no : Some rest ≡ None = h in absurd (cc)
 read_end (Some told) None after bytes got n h r none = let no : None ≡ Some h.0 = h.1 in absurd (cc)

@@ -1,7 +1,8 @@
 -- Those that wait for the same with the same priority, who need no keys, and how they come to have them.
 use Rattle.lwp_types.specs.Choice.{better_by}
 use Rattle.lwp_types.specs.CountLaws.{count-cons, one}
-use Rattle.std.proofs.Common.{Bool, List, Some, [], ap, arith, cond, count_by, eqb, false, get_or, length, map, refl, suc, sym, true, zero, ℕ, ◌++◌, ◌<◌, ◌∙◌, ◌∷◌, ◌≡◌, ◌≤◌}
+use Rattle.std.proofs.Common.{Bool, List, Some, [], ap, arith, cond, count_by, eqb, false, get_or, length, map, refl, suc, sym, true, zero, ℕ, ◌++◌}
+use Rattle.std.proofs.Common.{◌<◌, ◌∙◌, ◌∷◌, ◌≡◌, ◌≤◌}
 use Rattle.std.proofs.lemmas.Bool.{eq-eqb, le-leb, ne_eqb}
 use Rattle.std.specs.List.{AllByRecursion, filter, fold, remove}
 use Rattle.lists.specs.WaitingList.Entries.{AreAlike, IsFiled, IsFrontAt, IsLike, IsSortedOut, arrival_key, is_entry_for, rank_of, waiting_of}
@@ -15,7 +16,8 @@ pub alike_push : (es : List Entry) (e : Entry) → AreAlike es → IsLike e es �
 alike_push [] e alike like = tt
 alike_push (x ∷ es) e alike like = all_push es alike
   where
-    all_push : (xs : List Entry) → AllByRecursion (λ (f : Entry). (f.what ≡ x.what) × (f.prio ≡ x.prio)) xs → AllByRecursion (λ (f : Entry). (f.what ≡ x.what) × (f.prio ≡ x.prio)) (xs ++ e ∷ [])
+    all_push : (xs : List Entry) → AllByRecursion (λ (f : Entry). (f.what ≡ x.what) × (f.prio ≡ x.prio)) xs
+        → AllByRecursion (λ (f : Entry). (f.what ≡ x.what) × (f.prio ≡ x.prio)) (xs ++ e ∷ [])
     all_push [] all = (like e (omega arith), tt)
     all_push (y ∷ ys) all = (all.0, all_push ys all.1)
 
@@ -24,7 +26,8 @@ alike_tail : (e : Entry) (es : List Entry) → AreAlike (e ∷ es) → AreAlike 
 alike_tail e [] alike = tt
 alike_tail e (x ∷ xs) alike = all_same xs alike.1
   where
-    all_same : (ys : List Entry) → AllByRecursion (λ (f : Entry). (f.what ≡ e.what) × (f.prio ≡ e.prio)) ys → AllByRecursion (λ (f : Entry). (f.what ≡ x.what) × (f.prio ≡ x.prio)) ys
+    all_same : (ys : List Entry) → AllByRecursion (λ (f : Entry). (f.what ≡ e.what) × (f.prio ≡ e.prio)) ys
+        → AllByRecursion (λ (f : Entry). (f.what ≡ x.what) × (f.prio ≡ x.prio)) ys
     all_same [] all = tt
     all_same (y ∷ ys) all = ((all.0.0 ∙ sym alike.0.0, all.0.1 ∙ sym alike.0.1), all_same ys all.1)
 
@@ -34,7 +37,8 @@ alike_remove [] (suc i) alike = tt
 alike_remove (e ∷ es) zero alike = alike_tail e es alike
 alike_remove (e ∷ es) (suc i) alike = all_remove es i alike
   where
-    all_remove : (xs : List Entry) (j : ℕ) → AllByRecursion (λ (f : Entry). (f.what ≡ e.what) × (f.prio ≡ e.prio)) xs → AllByRecursion (λ (f : Entry). (f.what ≡ e.what) × (f.prio ≡ e.prio)) (remove xs j)
+    all_remove : (xs : List Entry) (j : ℕ) → AllByRecursion (λ (f : Entry). (f.what ≡ e.what) × (f.prio ≡ e.prio)) xs
+        → AllByRecursion (λ (f : Entry). (f.what ≡ e.what) × (f.prio ≡ e.prio)) (remove xs j)
     all_remove [] zero all = tt
     all_remove [] (suc j) all = tt
     all_remove (x ∷ xs) zero all = all.1
@@ -65,7 +69,8 @@ module _ (es : List Entry) where
   when_alike [] arrived none sorted = sorted
   when_alike (k ∷ ks) arrived none sorted = absurd (omega (arith, none))
 
-  pub when_filed : (ranks arrived : List Key) → (length ranks ≡ 0 → ⊥) → IsSortedOut es ranks arrived → IsFiled rank_of es ranks × IsFiled arrival_key es arrived
+  pub when_filed : (ranks arrived : List Key) → (length ranks ≡ 0 → ⊥) → IsSortedOut es ranks arrived
+      → IsFiled rank_of es ranks × IsFiled arrival_key es arrived
   when_filed [] arrived some sorted = absurd (some refl)
   when_filed (k ∷ ks) arrived some sorted = sorted
 
@@ -76,14 +81,21 @@ module _ (es : List Entry) where
 -- ---- the first that came
 
 module _ (n : ℕ) where
-  stays_best : (e : Entry) (xs : List Entry) → AllByRecursion (λ (f : Entry). (f.what ≡ e.what) × (f.prio ≡ e.prio)) xs → fold (better_by (λ (w : Waiting). w.prio)) (Some (waiting_of e)) (filter (is_for n) (map waiting_of xs)) ≡ Some (waiting_of e)
+  stays_best : (e : Entry) (xs : List Entry) → AllByRecursion (λ (f : Entry). (f.what ≡ e.what) × (f.prio ≡ e.prio)) xs
+      → fold (better_by (λ (w : Waiting). w.prio)) (Some (waiting_of e)) (filter (is_for n) (map waiting_of xs)) ≡ Some (waiting_of e)
   stays_best e [] all = refl
   stays_best e (x ∷ xs) all = by_test (stays_best e xs all.1) (eqb x.what n)
     where
       by_test : fold (better_by (λ (w : Waiting). w.prio)) (Some (waiting_of e)) (filter (is_for n) (map waiting_of xs)) ≡ Some (waiting_of e)
-          → (b : Bool) → fold (better_by (λ (w : Waiting). w.prio)) (Some (waiting_of e)) (cond b (waiting_of x ∷ filter (is_for n) (map waiting_of xs)) (filter (is_for n) (map waiting_of xs))) ≡ Some (waiting_of e)
+          → (b : Bool)
+          → fold (better_by (λ (w : Waiting). w.prio)) (Some (waiting_of e))
+          (cond b (waiting_of x ∷ filter (is_for n) (map waiting_of xs)) (filter (is_for n) (map waiting_of xs)))
+          ≡ Some (waiting_of e)
       by_test rest false = rest
-      by_test rest true = ap (λ c. fold (better_by (λ (w : Waiting). w.prio)) (cond c (Some (waiting_of e)) (Some (waiting_of x))) (filter (is_for n) (map waiting_of xs))) (le-leb x.prio e.prio (omega (arith, all.0.1))) ∙ rest
+      by_test rest true = ap
+          (λ c. fold (better_by (λ (w : Waiting). w.prio)) (cond c (Some (waiting_of e)) (Some (waiting_of x))) (filter (is_for n) (map waiting_of xs)))
+          (le-leb x.prio e.prio (omega (arith, all.0.1)))
+          ∙ rest
 
   pub front_at : (es : List Entry) (e : Entry) → AreAlike es → 0 < length es → e ≡ get_or es 0 e → e.what ≡ n → IsFrontAt n es 0
   front_at [] e alike some here same = absurd (omega (arith, some))

@@ -16,7 +16,8 @@ use Rattle.lists.specs.declared.waiting_list.rows.Entry.{Entry}
 -- ---- keys
 
 module _ (f : Entry → Key) (es : List Entry) (ks after : List Key) (was : IsFiled f es ks) where
-  pub IsFiled-push : (e : Entry) → IsSorted after → ((k : Key) → count_by (is_key k) after ≡ count_by (is_key k) ks + one (is_key k (f e))) → length after ≡ length ks + 1 → IsFiled f (es ++ e ∷ []) after
+  pub IsFiled-push : (e : Entry) → IsSorted after → ((k : Key) → count_by (is_key k) after ≡ count_by (is_key k) ks + one (is_key k (f e)))
+      → length after ≡ length ks + 1 → IsFiled f (es ++ e ∷ []) after
   IsFiled-push e sorted counts len = record {
     sorted = sorted;
     each = λ k. omega (arith, counts k, was.each k, count-push (λ e. is_key k (f e)) es e);
@@ -31,7 +32,8 @@ module _ (f : Entry → Key) (es : List Entry) (ks after : List Key) (was : IsFi
     pub key_filed : 1 ≤ count_by (is_key (f e)) ks
     key_filed = omega (arith, was.each (f e), count_at (λ x. is_key (f e) (f x)) es i e within (ap (λ x. is_key (f e) (f x)) (sym here) ∙ key_itself (f e)))
 
-    pub IsFiled-remove : IsSorted after → ((k : Key) → count_by (is_key k) after + one (is_key k (f e)) ≡ count_by (is_key k) ks) → length after + 1 ≡ length ks → IsFiled f (remove es i) after
+    pub IsFiled-remove : IsSorted after → ((k : Key) → count_by (is_key k) after + one (is_key k (f e)) ≡ count_by (is_key k) ks)
+        → length after + 1 ≡ length ks → IsFiled f (remove es i) after
     IsFiled-remove sorted counts len = record {
       sorted = sorted;
       each = λ k. omega (arith, counts k, was.each k, sum_by-remove (λ x. one (is_key k (f x))) es i e within, one_here k);
@@ -39,7 +41,9 @@ module _ (f : Entry → Key) (es : List Entry) (ks after : List Key) (was : IsFi
     }
 
     -- it has another key
-    pub IsFiled-set : (e' : Entry) → IsSorted after → ((k : Key) → count_by (is_key k) after + one (is_key k (f e)) ≡ count_by (is_key k) ks + one (is_key k (f e'))) → length after ≡ length ks → IsFiled f (set es i e') after
+    pub IsFiled-set : (e' : Entry) → IsSorted after
+        → ((k : Key) → count_by (is_key k) after + one (is_key k (f e)) ≡ count_by (is_key k) ks + one (is_key k (f e')))
+        → length after ≡ length ks → IsFiled f (set es i e') after
     IsFiled-set e' sorted counts len = record {
       sorted = sorted;
       each = λ k. omega (arith, counts k, was.each k, sum_by-set (λ x. one (is_key k (f x))) es i e' e within, one_here k);
@@ -47,10 +51,12 @@ module _ (f : Entry → Key) (es : List Entry) (ks after : List Key) (was : IsFi
     }
 
 -- it has the same key
-pub IsFiled-kept : (f : Entry → Key) (es : List Entry) (ks : List Key) (was : IsFiled f es ks) (i : ℕ) (e e' : Entry) → i < length es → e ≡ get_or es i e → f e' ≡ f e → IsFiled f (set es i e') ks
+pub IsFiled-kept : (f : Entry → Key) (es : List Entry) (ks : List Key) (was : IsFiled f es ks) (i : ℕ) (e e' : Entry) → i < length es
+    → e ≡ get_or es i e → f e' ≡ f e → IsFiled f (set es i e') ks
 IsFiled-kept f es ks was i e e' within here same = record {
   sorted = was.sorted;
-  each = λ k. omega (arith, was.each k, sum_by-set (λ x. one (is_key k (f x))) es i e' e within, ap (λ x. one (is_key k (f x))) (sym here), ap (λ x. one (is_key k x)) same);
+  each = λ k. omega
+      (arith, was.each k, sum_by-set (λ x. one (is_key k (f x))) es i e' e within, ap (λ x. one (is_key k (f x))) (sym here), ap (λ x. one (is_key k x)) same);
   len = omega (arith, was.len, length-set es i e');
 }
 
@@ -86,7 +92,8 @@ arrivals_set (x ∷ es) zero e e' within here same = ap (λ n. n ∷ arrivals es
 arrivals_set (x ∷ es) (suc i) e e' within here same = ap (λ ns. x.arrival ∷ ns) (arrivals_set es i e e' (omega (arith, within)) here same)
 
 -- the last came last
-pub last_is_most : (es : List Entry) (i : ℕ) (e : Entry) → AreRising (arrivals es) → i + 1 ≡ length es → e ≡ get_or es i e → AllByRecursion (λ n. n < e.arrival + 1) (arrivals es)
+pub last_is_most : (es : List Entry) (i : ℕ) (e : Entry) → AreRising (arrivals es) → i + 1 ≡ length es → e ≡ get_or es i e
+    → AllByRecursion (λ n. n < e.arrival + 1) (arrivals es)
 last_is_most es i e rising end here = all_from (λ n. n < e.arrival + 1) es (λ j lt.
     let last : e.arrival ≡ (get_or es i no_entry).arrival = ap (λ (x : Entry). x.arrival) (here ∙ other_default es i e no_entry (omega (arith, end))) in
     omega (arith, last, never_falls es rising j i no_entry (omega (arith, lt, end)) (omega (arith, end))))
@@ -123,7 +130,9 @@ partly_long n zero es fits = refl
 partly_long n (suc i) [] fits = absurd (omega (arith, fits))
 partly_long n (suc i) (e ∷ es) fits = ap suc (partly_long (suc n) i es (omega (arith, fits)))
 
-pub numbered_more : (n i m next : ℕ) (es : List Entry) (x : Entry) → m ≡ n + i → next ≡ suc i → i < length es → x ≡ get_or (with_arrivals n (take i es) ++ drop i es) i x → set (with_arrivals n (take i es) ++ drop i es) i (record x { arrival = m }) ≡ with_arrivals n (take next es) ++ drop next es
+pub numbered_more : (n i m next : ℕ) (es : List Entry) (x : Entry) → m ≡ n + i → next ≡ suc i → i < length es
+    → x ≡ get_or (with_arrivals n (take i es) ++ drop i es) i x
+    → set (with_arrivals n (take i es) ++ drop i es) i (record x { arrival = m }) ≡ with_arrivals n (take next es) ++ drop next es
 numbered_more n i m next [] x is then within here = absurd (omega (arith, within))
 numbered_more n zero m next (e ∷ es) x is then within here =
     let same : m ≡ n = omega (arith, is) in
@@ -136,17 +145,22 @@ take_more [] i e within here = absurd (omega (arith, within))
 take_more (x ∷ es) zero e within here = ap (λ y. y ∷ []) (sym here)
 take_more (x ∷ es) (suc i) e within here = ap (λ ys. x ∷ ys) (take_more es i e (omega (arith, within)) here)
 
-pub IsFiled-more : (f : Entry → Key) (es : List Entry) (i next : ℕ) (e : Entry) (ks after : List Key) → IsFiled f (take i es) ks → next ≡ suc i → i < length es → e ≡ get_or es i e → IsSorted after → ((k : Key) → count_by (is_key k) after ≡ count_by (is_key k) ks + one (is_key k (f e))) → length after ≡ length ks + 1 → IsFiled f (take next es) after
-IsFiled-more f es i next e ks after was then within here sorted counts len = rw (then, take_more es i e within here) (IsFiled-push f (take i es) ks after was e sorted counts len)
+pub IsFiled-more : (f : Entry → Key) (es : List Entry) (i next : ℕ) (e : Entry) (ks after : List Key) → IsFiled f (take i es) ks
+    → next ≡ suc i → i < length es → e ≡ get_or es i e → IsSorted after
+    → ((k : Key) → count_by (is_key k) after ≡ count_by (is_key k) ks + one (is_key k (f e))) → length after ≡ length ks + 1 → IsFiled f (take next es) after
+IsFiled-more f es i next e ks after was
+    then within here sorted counts len = rw (then, take_more es i e within here) (IsFiled-push f (take i es) ks after was e sorted counts len)
 
 -- ---- sorted out
 
 module _ (es : List Entry) (ranks arrived : List Key) (was : IsIndexed es ranks arrived) where
-  pub IsIndexed-push : (e : Entry) (ranks' arrived' : List Key) → AllByRecursion (λ n. n < e.arrival) (arrivals es) → IsSortedOut (es ++ e ∷ []) ranks' arrived' → IsIndexed (es ++ e ∷ []) ranks' arrived'
+  pub IsIndexed-push : (e : Entry) (ranks' arrived' : List Key) → AllByRecursion (λ n. n < e.arrival) (arrivals es)
+      → IsSortedOut (es ++ e ∷ []) ranks' arrived' → IsIndexed (es ++ e ∷ []) ranks' arrived'
   IsIndexed-push e ranks' arrived' later sorted = record { rising = rising_push es e was.rising later; sorted = sorted }
 
   pub IsIndexed-remove : (i : ℕ) (ranks' arrived' : List Key) → IsSortedOut (remove es i) ranks' arrived' → IsIndexed (remove es i) ranks' arrived'
   IsIndexed-remove i ranks' arrived' sorted = record { rising = rising_remove es i was.rising; sorted = sorted }
 
-  pub IsIndexed-set : (i : ℕ) (e e' : Entry) (ranks' arrived' : List Key) → i < length es → e ≡ get_or es i e → e'.arrival ≡ e.arrival → IsSortedOut (set es i e') ranks' arrived' → IsIndexed (set es i e') ranks' arrived'
+  pub IsIndexed-set : (i : ℕ) (e e' : Entry) (ranks' arrived' : List Key) → i < length es → e ≡ get_or es i e → e'.arrival ≡ e.arrival
+      → IsSortedOut (set es i e') ranks' arrived' → IsIndexed (set es i e') ranks' arrived'
   IsIndexed-set i e e' ranks' arrived' within here same sorted = record { rising = rw (arrivals_set es i e e' within here same) was.rising; sorted = sorted }

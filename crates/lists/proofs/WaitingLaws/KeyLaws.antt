@@ -1,6 +1,7 @@
 -- The order of keys, and where a search in it comes to.
 use Rattle.lwp_types.specs.CountLaws.{count-cons, find_none, one}
-use Rattle.std.proofs.Common.{Bool, List, None, Some, [], ap, arith, cond, count_by, eqb, false, get_or, inl, inr, leb, length, ltb, refl, set, suc, sym, true, zero, ℕ, ◌&&◌, ◌+◌, ◌-◌, ◌<◌, ◌∙◌, ◌∷◌, ◌≡◌, ◌≤◌}
+use Rattle.std.proofs.Common.{Bool, List, None, Some, [], ap, arith, cond, count_by, eqb, false, get_or, inl, inr, leb, length, ltb, refl, set, suc}
+use Rattle.std.proofs.Common.{sym, true, zero, ℕ, ◌&&◌, ◌+◌, ◌-◌, ◌<◌, ◌∙◌, ◌∷◌, ◌≡◌, ◌≤◌}
 use Rattle.std.proofs.lemmas.Bool.{and_parts, cases_eq, cases_lt, eq-eqb, eqb-true, le-ltb, leb-false, leb-true, lt-ltb, ltb-false, ltb-true, ne_eqb}
 use Rattle.std.proofs.lemmas.List.{get_or-set_same}
 use Rattle.std.proofs.lemmas.List.Edits.{length-remove}
@@ -8,7 +9,8 @@ use Rattle.std.proofs.lemmas.List.Sums.{sum_by-remove, sum_by-set}
 use Rattle.std.specs.List.{AllByRecursion, find, insert, remove}
 use Rattle.std.specs.List.Sorted.{IsNonDecreasingBy, IsPartitionPoint, IsPartitionedBy}
 use Rattle.lists.proofs.WaitingLaws.SearchLaws.{none_pass}
-use Rattle.lists.specs.WaitingList.Keys.{GoesBack, GoesForward, IsAhead, IsBehind, IsEnd, IsPlace, IsSorted, IsStart, StandsAt, by_numbers, is_before, is_key, is_of}
+use Rattle.lists.specs.WaitingList.Keys.{GoesBack, GoesForward, IsAhead, IsBehind, IsEnd, IsPlace, IsSorted, IsStart, StandsAt, by_numbers}
+use Rattle.lists.specs.WaitingList.Keys.{is_before, is_key, is_of}
 use Rattle.lists.specs.declared.waiting_list.keys.Key.{Key}
 
 -- ---- the order
@@ -27,7 +29,9 @@ mixed a b c p q r first second rest = elim (cases_eq b a) [
   ]
   | inr ba ↦ let less : a < b = omega (arith, ltb-false b a (rw (ne_eqb b a ba) at first), ba) in elim (cases_eq b c) [
     | inl bc ↦ rw (ne_eqb a c (λ e. absurd (omega (arith, e, bc, less)))) (lt-ltb a c (omega (arith, less, bc)))
-    | inr bc ↦ let later : b < c = ltb-true b c (rw (ne_eqb b c bc) at second) in rw (ne_eqb a c (λ e. absurd (omega (arith, e, later, less)))) (lt-ltb a c (omega (arith, less, later)))
+    | inr bc
+        ↦ let later : b < c = ltb-true b c (rw (ne_eqb b c bc) at second) in
+        rw (ne_eqb a c (λ e. absurd (omega (arith, e, later, less)))) (lt-ltb a c (omega (arith, less, later)))
   ]
 ]
 
@@ -40,7 +44,9 @@ mixed_back a b c p q r first second rest = elim (cases_eq a b) [
   ]
   | inr ab ↦ let less : b < a = omega (arith, ltb-false a b (rw (ne_eqb a b ab) at first), ab) in elim (cases_eq c b) [
     | inl cb ↦ rw (ne_eqb c a (λ e. absurd (omega (arith, e, cb, less)))) (lt-ltb c a (omega (arith, less, cb)))
-    | inr cb ↦ let later : c < b = ltb-true c b (rw (ne_eqb c b cb) at second) in rw (ne_eqb c a (λ e. absurd (omega (arith, e, later, less)))) (lt-ltb c a (omega (arith, less, later)))
+    | inr cb
+        ↦ let later : c < b = ltb-true c b (rw (ne_eqb c b cb) at second) in
+        rw (ne_eqb c a (λ e. absurd (omega (arith, e, later, less)))) (lt-ltb c a (omega (arith, less, later)))
   ]
 ]
 
@@ -59,7 +65,8 @@ one_way a b p q first rest = elim (cases_eq a b) [
 pub before_mixed : (k l m : Key) → is_before l k ≡ false → is_before l m ≡ true → is_before k m ≡ true
 before_mixed k l m first second =
     mixed k.what l.what m.what _ _ _ first second (λ f s.
-    mixed_back k.prio l.prio m.prio _ _ _ f s (λ g t. lt-ltb k.arrival m.arrival (omega (arith, ltb-false l.arrival k.arrival g, ltb-true l.arrival m.arrival t))))
+    mixed_back k.prio l.prio m.prio _ _ _ f s
+    (λ g t. lt-ltb k.arrival m.arrival (omega (arith, ltb-false l.arrival k.arrival g, ltb-true l.arrival m.arrival t))))
 
 pub before_same : (k l : Key) → is_before k l ≡ false → is_before l k ≡ false → (k.what ≡ l.what) × ((k.prio ≡ l.prio) × (k.arrival ≡ l.arrival))
 before_same k l first second =
@@ -116,7 +123,8 @@ parted_by_key k ks sorted i j d le within passes = before_mixed (get_or ks i d) 
 pub parted_by_what : (ks : List Key) → IsSorted ks → IsNonDecreasingBy (λ (k : Key). k.what) ks
 parted_by_what ks sorted i j d le within = before_is_of (get_or ks i d) (get_or ks j d) (ordered ks i j d sorted le within)
 
-pub place_from : (k : Key) (ks : List Key) (i : ℕ) → i ≤ length ks → IsPartitionPoint (λ l. is_before l k ≡ true) (λ l. is_before l k ≡ false) ks i → IsPlace k ks i
+pub place_from : (k : Key) (ks : List Key) (i : ℕ) → i ≤ length ks
+    → IsPartitionPoint (λ l. is_before l k ≡ true) (λ l. is_before l k ≡ false) ks i → IsPlace k ks i
 place_from k ks i within point = record { within = within; before = λ j d lt. point.0 j d (omega arith) lt; after = λ j d ge lt. point.1 j d ge lt }
 
 -- what is read past the end doesn't matter before it
@@ -126,7 +134,8 @@ other_default (k ∷ ks) zero d d' within = refl
 other_default (k ∷ ks) (suc i) d d' within = other_default ks i d d' (omega (arith, within))
 
 -- after the last of the keys, where that one stands before k
-pub place_last : (k : Key) (ks : List Key) (i : ℕ) (l : Key) → IsSorted ks → i + 1 ≡ length ks → l ≡ get_or ks i l → is_before l k ≡ true → IsPlace k ks (length ks)
+pub place_last : (k : Key) (ks : List Key) (i : ℕ) (l : Key) → IsSorted ks → i + 1 ≡ length ks → l ≡ get_or ks i l → is_before l k ≡ true
+    → IsPlace k ks (length ks)
 place_last k ks i l sorted end here less = record {
   within = omega arith;
   before = λ j d lt.
@@ -167,11 +176,13 @@ IsSorted-between ks zero k sorted within before after = (All-from (λ l. is_befo
 IsSorted-between [] (suc at) k sorted within before after = absurd (omega (arith, within))
 IsSorted-between (l ∷ ks) (suc at) k sorted within before after = (
   All-insert (λ m. is_before m l ≡ false) ks at k (omega (arith, within)) sorted.0 (before 0 l (omega arith)),
-  IsSorted-between ks at k sorted.1 (omega (arith, within)) (λ j d lt. before (suc j) d (omega (arith, lt))) (λ j d ge lt. after (suc j) d (omega (arith, ge)) (omega (arith, lt))),
+  IsSorted-between ks at k sorted.1 (omega (arith, within)) (λ j d lt. before (suc j) d (omega (arith, lt)))
+      (λ j d ge lt. after (suc j) d (omega (arith, ge)) (omega (arith, lt))),
 )
 
 pub IsSorted-insert : (ks : List Key) (at : ℕ) (k : Key) → IsSorted ks → IsPlace k ks at → IsSorted (insert ks at k)
-IsSorted-insert ks at k sorted place = IsSorted-between ks at k sorted place.within (λ j d lt. before_one_way (get_or ks j d) k (place.before j d lt)) place.after
+IsSorted-insert ks at k sorted place =
+    IsSorted-between ks at k sorted place.within (λ j d lt. before_one_way (get_or ks j d) k (place.before j d lt)) place.after
 
 -- ---- one less
 
@@ -216,14 +227,18 @@ IsSorted-set ks at k sorted within behind ahead = rw (← insert_removed ks at k
     (omega (arith, length-remove ks at within, within))
     (λ j d lt.
     let i : ℕ = at - 1 in
-    let less : is_before k (get_or (remove ks at) i d) ≡ false = ap (is_before k) (read_before ks at i d (omega (arith, lt))) ∙ behind i d (omega (arith, lt)) in
-    never_between k (get_or (remove ks at) i d) (get_or (remove ks at) j d) less (ordered (remove ks at) j i d sorted (omega (arith, lt)) (omega (arith, lt, within, length-remove ks at within))))
+    let less : is_before k (get_or (remove ks at) i d)
+    ≡ false = ap (is_before k) (read_before ks at i d (omega (arith, lt))) ∙ behind i d (omega (arith, lt)) in
+    never_between k (get_or (remove ks at) i d) (get_or (remove ks at) j d) less
+    (ordered (remove ks at) j i d sorted (omega (arith, lt)) (omega (arith, lt, within, length-remove ks at within))))
     (λ j d ge lt.
-    let more : is_before (get_or (remove ks at) at d) k ≡ false = ap (λ l. is_before l k) (read_after ks at at d (omega arith)) ∙ ahead d (omega (arith, ge, lt, length-remove ks at within)) in
+    let more : is_before (get_or (remove ks at) at d) k
+    ≡ false = ap (λ l. is_before l k) (read_after ks at at d (omega arith)) ∙ ahead d (omega (arith, ge, lt, length-remove ks at within)) in
     never_between (get_or (remove ks at) j d) (get_or (remove ks at) at d) k (ordered (remove ks at) at j d sorted ge lt) more))
 
 -- the key in the place of another counts once, and all others as before
-pub set_counts : (ks : List Key) (at : ℕ) (x k : Key) → at < length ks → count_by (is_key k) (set ks at x) ≡ count_by (is_key k) (remove ks at) + one (is_key k x)
+pub set_counts : (ks : List Key) (at : ℕ) (x k : Key) → at < length ks
+    → count_by (is_key k) (set ks at x) ≡ count_by (is_key k) (remove ks at) + one (is_key k x)
 set_counts ks at x k within = omega (arith, sum_by-set (λ l. one (is_key k l)) ks at x x within, sum_by-remove (λ l. one (is_key k l)) ks at x within)
 
 -- ---- one goes past its neighbour, which takes its place
@@ -241,13 +256,15 @@ back_kept (k ∷ l ∷ ks) zero x within here = ap (λ m. m ∷ ks) here
 back_kept (k ∷ l ∷ ks) (suc i) x within here = ap (λ ms. k ∷ ms) (back_kept (l ∷ ks) i x (omega (arith, within)) here)
 
 pub gone_forward : (ks : List Key) (at i : ℕ) (x : Key) → suc i ≡ at → at < length ks → x ≡ get_or ks i x → remove (set ks at x) i ≡ remove ks at
-gone_forward ks at i x next within here = ap (λ n. remove (set ks n x) i) (sym next) ∙ forward_kept ks i x (omega (arith, next, within)) here ∙ ap (remove ks) next
+gone_forward ks at i x next within here = ap (λ n. remove (set ks n x) i) (sym next)
+    ∙ forward_kept ks i x (omega (arith, next, within)) here ∙ ap (remove ks) next
 
 pub gone_back : (ks : List Key) (at i : ℕ) (x : Key) → i ≡ suc at → suc at < length ks → x ≡ get_or ks i x → remove (set ks at x) i ≡ remove ks at
 gone_back ks at i x next within here = ap (remove (set ks at x)) next ∙ back_kept ks at x within (here ∙ ap (λ n. get_or ks n x) next)
 
 -- it may stand before the one that it went past
-pub ahead_of_passed : (k : Key) (ks : List Key) (at i : ℕ) (x : Key) → suc i ≡ at → at < length ks → x ≡ get_or ks i x → GoesForward k ks at → IsAhead k (set ks at x) i
+pub ahead_of_passed : (k : Key) (ks : List Key) (at i : ℕ) (x : Key) → suc i ≡ at → at < length ks → x ≡ get_or ks i x → GoesForward k ks at
+    → IsAhead k (set ks at x) i
 ahead_of_passed k ks at i x next within here goes d lt =
     ap (λ l. is_before l k) (ap (λ n. get_or (set ks at x) n d) next ∙ get_or-set_same ks at x d within)
     ∙ before_one_way k x (ap (is_before k) here ∙ goes.before i x next)
@@ -262,13 +279,15 @@ behind_passed k ks at i x next here goes j d before =
 -- what belongs after the key after a place may stand after the one before it
 pub behind_both : (ks : List Key) (at : ℕ) (k : Key) → IsSorted ks → GoesBack k ks at → IsBehind k ks at
 behind_both ks at k sorted goes j d next =
-    before_one_way (get_or ks j d) k (before_mixed (get_or ks j d) (get_or ks (suc at) d) k (ordered ks j (suc at) d sorted (omega (arith, next)) goes.some) (goes.before d))
+    before_one_way (get_or ks j d) k
+    (before_mixed (get_or ks j d) (get_or ks (suc at) d) k (ordered ks j (suc at) d sorted (omega (arith, next)) goes.some) (goes.before d))
 
 -- a key that stands before the one at a place belongs no further back
 pub ahead_before : (ks : List Key) (at : ℕ) (k l : Key) → IsSorted ks → StandsAt l ks at → is_before k l ≡ true → IsAhead k ks at
 ahead_before ks at k l sorted stands less d lt =
     let here : get_or ks at d ≡ l = other_default ks at d l stands.within ∙ stands.here in
-    never_between (get_or ks (suc at) d) l k (ap (is_before (get_or ks (suc at) d)) (sym here) ∙ ordered ks at (suc at) d sorted (omega arith) lt) (before_one_way k l less)
+    never_between (get_or ks (suc at) d) l k
+    (ap (is_before (get_or ks (suc at) d)) (sym here) ∙ ordered ks at (suc at) d sorted (omega arith) lt) (before_one_way k l less)
 
 -- what doesn't stand before it belongs no further forward
 pub behind_after : (ks : List Key) (at : ℕ) (k l : Key) → IsSorted ks → StandsAt l ks at → is_before k l ≡ false → IsBehind k ks at
@@ -282,17 +301,20 @@ module _ {X : Type 0} (p : X → Bool) where
   some_at [] d some = absurd (omega (arith, some))
   some_at (x ∷ xs) d some = by_test (some_at xs d) (p x) refl
     where
-      by_test : (1 ≤ count_by p xs → (i : ℕ) × (i < length xs) × (p (get_or xs i d) ≡ true)) → (b : Bool) → p x ≡ b → (i : ℕ) × (i < length (x ∷ xs)) × (p (get_or (x ∷ xs) i d) ≡ true)
+      by_test : (1 ≤ count_by p xs → (i : ℕ) × (i < length xs) × (p (get_or xs i d) ≡ true)) → (b : Bool) → p x ≡ b
+          → (i : ℕ) × (i < length (x ∷ xs)) × (p (get_or (x ∷ xs) i d) ≡ true)
       by_test rest true e = (0, omega arith, e)
       by_test rest false e =
           let later = rest (omega (arith, some, count-cons p x xs, ap one e)) in
           (suc later.0, omega (arith, later.1), later.2)
 
   -- where the first that passes stands
-  pub found_at : (xs : List X) (i : ℕ) (d : X) → i < length xs → p (get_or xs i d) ≡ true → ((j : ℕ) → j < i → p (get_or xs j d) ≡ false) → find p xs ≡ Some (get_or xs i d)
+  pub found_at : (xs : List X) (i : ℕ) (d : X) → i < length xs → p (get_or xs i d) ≡ true → ((j : ℕ) → j < i → p (get_or xs j d) ≡ false)
+      → find p xs ≡ Some (get_or xs i d)
   found_at [] i d within passes before = absurd (omega arith)
   found_at (x ∷ xs) zero d within passes before = rw passes refl
-  found_at (x ∷ xs) (suc i) d within passes before = rw (before 0 (omega arith)) (found_at xs i d (omega arith) passes (λ j lt. before (suc j) (omega (arith, lt))))
+  found_at (x ∷ xs) (suc i) d within passes before =
+      rw (before 0 (omega arith)) (found_at xs i d (omega arith) passes (λ j lt. before (suc j) (omega (arith, lt))))
 
 key_parts : (k l : Key) → is_key k l ≡ true → (l.what ≡ k.what) × ((l.prio ≡ k.prio) × (l.arrival ≡ k.arrival))
 key_parts k l e =
@@ -337,14 +359,16 @@ module _ (k : Key) (ks : List Key) (at : ℕ) (sorted : IsSorted ks) (place : Is
 
 -- ---- the first of n
 
-pub start_from : (n : ℕ) (ks : List Key) (i : ℕ) → i ≤ length ks → IsPartitionPoint (λ (k : Key). ltb k.what n ≡ true) (λ k. ltb k.what n ≡ false) ks i → IsStart n ks i
+pub start_from : (n : ℕ) (ks : List Key) (i : ℕ) → i ≤ length ks
+    → IsPartitionPoint (λ (k : Key). ltb k.what n ≡ true) (λ k. ltb k.what n ≡ false) ks i → IsStart n ks i
 start_from n ks i within point = record {
   within = within;
   before = λ j d lt. ltb-true (get_or ks j d).what n (point.0 j d (omega (arith, lt, within)) lt);
   after = λ j d ge lt. ltb-false (get_or ks j d).what n (point.1 j d ge lt);
 }
 
-pub end_from : (n : ℕ) (ks : List Key) (i : ℕ) → i ≤ length ks → IsPartitionPoint (λ (k : Key). leb k.what n ≡ true) (λ k. leb k.what n ≡ false) ks i → IsEnd n ks i
+pub end_from : (n : ℕ) (ks : List Key) (i : ℕ) → i ≤ length ks
+    → IsPartitionPoint (λ (k : Key). leb k.what n ≡ true) (λ k. leb k.what n ≡ false) ks i → IsEnd n ks i
 end_from n ks i within point = record {
   within = within;
   before = λ j d lt. leb-true (get_or ks j d).what n (point.0 j d (omega (arith, lt, within)) lt);
@@ -376,15 +400,19 @@ front_past n ks k some here sorted more = no_first_there n ks 0 k start sorted (
     start = record {
       within = omega arith;
       before = λ j d lt. absurd (omega (arith, lt));
-      after = λ j d ge lt. omega (arith, more, ap (λ (l : Key). l.what) here, parted_by_what ks sorted 0 j k ge lt, ap (λ (l : Key). l.what) (other_default ks j k d lt));
+      after = λ j d ge lt.
+          omega (arith, more, ap (λ (l : Key). l.what) here, parted_by_what ks sorted 0 j k ge lt, ap (λ (l : Key). l.what) (other_default ks j k d lt));
     }
 
 -- of the keys of n the first that is found stands before all others
-pub first_least : (n : ℕ) (ks : List Key) (k : Key) → IsSorted ks → find (is_of n) ks ≡ Some k → AllByRecursion (λ l. is_of n l ≡ true → is_before l k ≡ false) ks
+pub first_least : (n : ℕ) (ks : List Key) (k : Key) → IsSorted ks → find (is_of n) ks ≡ Some k
+    → AllByRecursion (λ l. is_of n l ≡ true → is_before l k ≡ false) ks
 first_least n [] k sorted found = tt
 first_least n (l ∷ ks) k sorted found = by_test (first_least n ks k sorted.1) (is_of n l) refl found
   where
-    by_test : (find (is_of n) ks ≡ Some k → AllByRecursion (λ l. is_of n l ≡ true → is_before l k ≡ false) ks) → (b : Bool) → is_of n l ≡ b → cond b (Some l) (find (is_of n) ks) ≡ Some k → (is_of n l ≡ true → is_before l k ≡ false) × AllByRecursion (λ l. is_of n l ≡ true → is_before l k ≡ false) ks
+    by_test : (find (is_of n) ks ≡ Some k → AllByRecursion (λ l. is_of n l ≡ true → is_before l k ≡ false) ks) → (b : Bool) → is_of n l ≡ b
+        → cond b (Some l) (find (is_of n) ks) ≡ Some k
+        → (is_of n l ≡ true → is_before l k ≡ false) × AllByRecursion (λ l. is_of n l ≡ true → is_before l k ≡ false) ks
     by_test rest true e here =
         let same : l ≡ k = cc in
         rw (← same) ((λ is. not_before_itself l), weaker ks sorted.0)

@@ -10,7 +10,8 @@ pub none_pass : {X : Type 0} (p : X → Bool) (xs : List X) (d : X) → ((j : �
 none_pass p [] d none = refl
 none_pass p (x ∷ xs) d none = omega (arith, count-cons p x xs, ap one (none 0 (omega arith)), none_pass p xs d (λ j lt. none (suc j) (omega (arith, lt))))
 
-module _ {X : Type 0} (f : X → ℕ) (n : ℕ) (xs : List X) (at : ℕ) (d : X) (rises : IsNonDecreasingBy f xs) (point : IsPartitionPoint (λ x. ltb (f x) n ≡ true) (λ x. ltb (f x) n ≡ false) xs at) where
+module _ {X : Type 0} (f : X → ℕ) (n : ℕ) (xs : List X) (at : ℕ) (d : X) (rises : IsNonDecreasingBy f xs)
+    (point : IsPartitionPoint (λ x. ltb (f x) n ≡ true) (λ x. ltb (f x) n ≡ false) xs at) where
   pub less_before : (j : ℕ) → j < at → eqb (f (get_or xs j d)) n ≡ false
   less_before j lt = ne_eqb (f (get_or xs j d)) n (λ e. absurd (omega (arith, ltb-true (f (get_or xs j d)) n (point.0 j d (omega arith) lt), e)))
 

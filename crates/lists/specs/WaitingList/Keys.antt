@@ -1,6 +1,7 @@
 -- Keys in order. No public clause cites this module.
 use Rattle.std.specs.List.{AllByRecursion, remove}
-use Rattle.std.specs.Prelude.{Bool, Err, List, Ok, Result, [], false, if◌then◌else◌, length, nat_lt, slice_index_or, suc, true, ℕ, ◌&&◌, ◌<◌, ◌==◌, ◌∷◌, ◌≡◌, ◌≤◌}
+use Rattle.std.specs.Prelude.{Bool, Err, List, Ok, Result, [], false, if◌then◌else◌, length, nat_lt, slice_index_or, suc, true, ℕ, ◌&&◌, ◌<◌, ◌==◌}
+use Rattle.std.specs.Prelude.{◌∷◌, ◌≡◌, ◌≤◌}
 use Rattle.lists.specs.declared.waiting_list.keys.Key.{Key}
 
 -- it is key k

@@ -9,5 +9,6 @@ loop-number-preserved g c =
     record {
       many = c.answer_in.ensures.many ∙ c.loop-number.invariant.many;
       fit = c.answer_in.ensures.fit;
-      answers = more_answers wanted c.loop-number.number c.loop-number.answers.items c.push.new.self.items c.in_ok-answer_in.field-0 c.loop-number.invariant.answers c.in_ok-answer_in.ensures.answer c.in_ok-push.ensures.items;
+      answers = more_answers wanted c.loop-number.number c.loop-number.answers.items c.push.new.self.items c.in_ok-answer_in.field-0
+          c.loop-number.invariant.answers c.in_ok-answer_in.ensures.answer c.in_ok-push.ensures.items;
     }

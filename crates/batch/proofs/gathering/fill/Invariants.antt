@@ -7,7 +7,8 @@ abbrev pub invariant-loop-done : goal.invariant-loop-done
 invariant-loop-done l = record {
   len : length l.slots.items ≡ length l.initial.slots.items;
   below : All (IsBelow (length l.initial.slots.items)) l.left.items;
-  fit : (wanted : List (List ℕ)) → Fit wanted l.initial.slots.items → All (IsOf wanted) l.initial.left.items → Fit wanted l.slots.items × All (IsOf wanted) l.left.items;
+  fit : (wanted : List (List ℕ)) → Fit wanted l.initial.slots.items → All (IsOf wanted) l.initial.left.items
+      → Fit wanted l.slots.items × All (IsOf wanted) l.left.items;
 }
 
 abbrev pub decreases-loop-done : goal.decreases-loop-done

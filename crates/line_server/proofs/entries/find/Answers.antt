@@ -4,4 +4,5 @@ use Rattle.std.proofs.Common.{Some, ap, sym, ◌∙◌}
 
 pub returns-in-Ok : goal.returns-in-Ok
 returns-in-Ok c =
-    ap (λ e. Some e.1) c.index-entries-at.is ∙ sym (found c.args.key.now c.args.entries.now c.in-Ok.at c.index-entries-at.result c.requires c.in-Ok.ensures.place)
+    ap (λ e. Some e.1) c.index-entries-at.is
+    ∙ sym (found c.args.key.now c.args.entries.now c.in-Ok.at c.index-entries-at.result c.requires c.in-Ok.ensures.place)

@@ -13,4 +13,5 @@ returns-in-Ok-clause-order c = AreInOrder-taken c.args.key.now c.args.entries.no
 
 pub returns-in-Err-clause-items : goal.returns-in-Err-clause-items
 returns-in-Err-clause-items c =
-    sym (not_taken c.args.key.now c.args.entries.now.items c.in-Err.field-0 (subst (λ es. IsGapAt c.args.key.now es c.in-Err.field-0) c.deref.ensures.value c.in-Err.ensures.place))
+    sym (not_taken c.args.key.now c.args.entries.now.items c.in-Err.field-0
+    (subst (λ es. IsGapAt c.args.key.now es c.in-Err.field-0) c.deref.ensures.value c.in-Err.ensures.place))

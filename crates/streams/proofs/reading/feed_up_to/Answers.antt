@@ -12,7 +12,8 @@ pub returns-after-loop-total-clause-up : goal.returns-after-loop-total-clause-up
 returns-after-loop-total-clause-up g c =
     let k = c.loop-total.invariant.read in
     let more : c.args.most ≤ c.loop-total.total = search rules in
-    up-full c.args.most (g.S.Source.left c.args.source.now) (g.S.Source.left c.loop-total.source) k.0 k.1 (omega (arith, more, c.loop-total.invariant.within, k.3))
+    up-full c.args.most (g.S.Source.left c.args.source.now) (g.S.Source.left c.loop-total.source) k.0 k.1
+    (omega (arith, more, c.loop-total.invariant.within, k.3))
 
 pub returns-then-count-eq0-clause-read : goal.returns-then-count-eq0-clause-read
 returns-then-count-eq0-clause-read g c =
@@ -22,10 +23,14 @@ returns-then-count-eq0-clause-read g c =
 pub returns-then-count-eq0-clause-up : goal.returns-then-count-eq0-clause-up
 returns-then-count-eq0-clause-up g c =
     let k = c.loop-total.invariant.read in
-    up-end c.args.most (g.S.Source.left c.args.source.now) (g.S.Source.left c.loop-total.source) (g.S.Source.left c.read.new.self) k.0 (take c.in_ok-count.count c.read.new.buf) c.in_ok-count.count k.1 c.in_ok-count.ensures.ok c.if-count-eq0.true (omega (arith, c.loop-total.invariant.within, k.3))
+    up-end c.args.most (g.S.Source.left c.args.source.now) (g.S.Source.left c.loop-total.source) (g.S.Source.left c.read.new.self) k.0
+    (take c.in_ok-count.count c.read.new.buf) c.in_ok-count.count k.1 c.in_ok-count.ensures.ok c.if-count-eq0.true
+    (omega (arith, c.loop-total.invariant.within, k.3))
 
 pub returns-in_err-feed-clause-part : goal.returns-in_err-feed-clause-part
 returns-in_err-feed-clause-part g c =
     let k = c.loop-total.invariant.read in
     let sum : c.loop-total.total + c.in_ok-count.count ≤ c.args.most = search rules in
-    on_err c.from_residual-in_err-feed.result _ (part-read c.args.most (g.S.Source.left c.args.source.now) (g.S.Source.left c.loop-total.source) (g.S.Source.left c.read.new.self) k.0 (take c.in_ok-count.count c.read.new.buf) c.in_ok-count.count k.1 c.in_ok-count.ensures.ok (omega (arith, sum, k.3)))
+    on_err c.from_residual-in_err-feed.result _
+    (part-read c.args.most (g.S.Source.left c.args.source.now) (g.S.Source.left c.loop-total.source) (g.S.Source.left c.read.new.self)
+    k.0 (take c.in_ok-count.count c.read.new.buf) c.in_ok-count.count k.1 c.in_ok-count.ensures.ok (omega (arith, sum, k.3)))

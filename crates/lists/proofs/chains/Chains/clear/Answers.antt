@@ -8,4 +8,5 @@ invariant_of-self c = IsSound-reset c.reset.new.links.items c.self.inside.heads 
 pub returns : goal.returns
 returns c =
     rw (← c.self.view_is)
-    (lists_reset c.reset.new.links.items c.self.inside.heads (omega (arith, c.self.invariant.few, c.reset.ensures.len)) c.reset.ensures.alone c.self.inside.links.items c.reset.ensures.len)
+    (lists_reset c.reset.new.links.items c.self.inside.heads (omega (arith, c.self.invariant.few, c.reset.ensures.len))
+    c.reset.ensures.alone c.self.inside.links.items c.reset.ensures.len)

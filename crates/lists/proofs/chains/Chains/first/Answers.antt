@@ -15,9 +15,11 @@ returns-then-first-list-clause-value c =
 pub returns-else-first-list-clause-value : goal.returns-else-first-list-clause-value
 returns-else-first-list-clause-value c =
     let head = rw (← c.self.view_is, list_count c.self.inside.links.items c.self.inside.heads) at c.requires in
-    rw (← c.self.view_is, c.next_of-first.ensures) (sym (first_some _ _ _ c.self.invariant head (λ same. c.if-first-list.false (c.next_of-first.ensures ∙ same))).0)
+    rw (← c.self.view_is, c.next_of-first.ensures)
+    (sym (first_some _ _ _ c.self.invariant head (λ same. c.if-first-list.false (c.next_of-first.ensures ∙ same))).0)
 
 pub returns-else-first-list-clause-is_key : goal.returns-else-first-list-clause-is_key
 returns-else-first-list-clause-is_key c =
     let head = rw (← c.self.view_is, list_count c.self.inside.links.items c.self.inside.heads) at c.requires in
-    rw (← c.self.view_is, list_count c.self.inside.links.items c.self.inside.heads, c.next_of-first.ensures) (first_some _ _ _ c.self.invariant head (λ same. c.if-first-list.false (c.next_of-first.ensures ∙ same))).1
+    rw (← c.self.view_is, list_count c.self.inside.links.items c.self.inside.heads, c.next_of-first.ensures)
+    (first_some _ _ _ c.self.invariant head (λ same. c.if-first-list.false (c.next_of-first.ensures ∙ same))).1

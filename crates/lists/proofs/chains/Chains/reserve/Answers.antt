@@ -10,7 +10,8 @@ invariant_of-self-2 c =
 pub returns-clause-ok : goal.returns-clause-ok
 returns-clause-ok c =
     let longer : length c.self.inside.links.items ≤ length c.grow.new.links.items = omega arith in
-    rw (← c.self.view_is, ← c.grow.ensures.len) (lists_grown c.self.inside.links.items _ c.self.inside.heads c.self.invariant (rw c.in_ok-reserve.ensures.items at c.grow.ensures.grows) longer)
+    rw (← c.self.view_is, ← c.grow.ensures.len)
+    (lists_grown c.self.inside.links.items _ c.self.inside.heads c.self.invariant (rw c.in_ok-reserve.ensures.items at c.grow.ensures.grows) longer)
 
 pub returns-then-limit-len-clause-has_room : goal.returns-then-limit-len-clause-has_room
 returns-then-limit-len-clause-has_room c = search rules

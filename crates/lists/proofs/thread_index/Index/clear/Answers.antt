@@ -6,4 +6,5 @@ pub returns-clause-empty : goal.returns-clause-empty
 returns-clause-empty c = rw (c.clear.ensures.items, c.strip.ensures) (IsEmpty-bare _ _ _ (bare_cells (length c.self.inside.cells.items)))
 
 pub invariant_of-self : goal.invariant_of-self
-invariant_of-self c = rw (c.clear.ensures.items, c.strip.ensures) (IsKept-bare (length c.self.inside.cells.items) c.self.inside.mask c.self.invariant.indexed.masked)
+invariant_of-self c = rw (c.clear.ensures.items, c.strip.ensures)
+    (IsKept-bare (length c.self.inside.cells.items) c.self.inside.mask c.self.invariant.indexed.masked)

@@ -6,7 +6,8 @@ use Rattle.lists.proofs.waiting_list.filing.next_arrival.Goals as goal
 
 pub returns-then-last-lt18446744073709551615-clause-later : goal.returns-then-last-lt18446744073709551615-clause-later
 returns-then-last-lt18446744073709551615-clause-later c =
-    last_is_most c.args.entries.now.items _ c.in-Some.entry.now c.requires.indexed.rising (omega (arith, c.in-Some.ensures.variant.0 refl, c.args.entries.now.ok.0)) c.in-Some.ensures.lookup
+    last_is_most c.args.entries.now.items _ c.in-Some.entry.now c.requires.indexed.rising
+    (omega (arith, c.in-Some.ensures.variant.0 refl, c.args.entries.now.ok.0)) c.in-Some.ensures.lookup
 
 pub file-requires-clause-ranks_fit : goal.file-requires-clause-ranks_fit
 file-requires-clause-ranks_fit c = rw c.renumber.ensures.items (omega (arith, length-numbered 0 c.args.entries.now.items, c.requires.ranks_fit))
@@ -15,10 +16,12 @@ pub file-requires-clause-arrived_fit : goal.file-requires-clause-arrived_fit
 file-requires-clause-arrived_fit c = rw c.renumber.ensures.items (omega (arith, length-numbered 0 c.args.entries.now.items, c.requires.arrived_fit))
 
 pub file_threads-requires-clause-once : goal.file_threads-requires-clause-once
-file_threads-requires-clause-once c = rw c.renumber.ensures.items (once_same c.args.entries.now.items _ (waits-numbered 0 c.args.entries.now.items) c.requires.once)
+file_threads-requires-clause-once c =
+    rw c.renumber.ensures.items (once_same c.args.entries.now.items _ (waits-numbered 0 c.args.entries.now.items) c.requires.once)
 
 pub file_threads-requires-clause-cells : goal.file_threads-requires-clause-cells
-file_threads-requires-clause-cells c = rw c.renumber.ensures.items (omega (arith, length-numbered 0 c.args.entries.now.items, c.requires.cells, c.clear.ensures.width))
+file_threads-requires-clause-cells c =
+    rw c.renumber.ensures.items (omega (arith, length-numbered 0 c.args.entries.now.items, c.requires.cells, c.clear.ensures.width))
 
 pub returns-clause-same : goal.returns-clause-same
 returns-clause-same c = rw c.renumber.ensures.items (waits-numbered 0 c.args.entries.now.items)
@@ -31,4 +34,5 @@ returns-clause-indexed c = record {
 
 pub returns-clause-later : goal.returns-clause-later
 returns-clause-later c =
-    rw c.renumber.ensures.items (below-numbered c.len.result 0 c.args.entries.now.items (omega (arith, c.len.ensures, c.renumber.new.entries.ok.0, ap length c.renumber.ensures.items, length-numbered 0 c.args.entries.now.items)))
+    rw c.renumber.ensures.items (below-numbered c.len.result 0 c.args.entries.now.items
+    (omega (arith, c.len.ensures, c.renumber.new.entries.ok.0, ap length c.renumber.ensures.items, length-numbered 0 c.args.entries.now.items)))

@@ -10,7 +10,8 @@ returns-then-before-prio-clause-changed c = λ e here.
     prioritized_itself es c.args.at c.args.prio e c.requires.within here (ap (λ (x : Entry). x.prio) same ∙ c.if-before-prio.true)
 
 pub returns-clause-changed : goal.returns-clause-changed
-returns-clause-changed c = λ e here. prioritized_set c.args.entries.now.items c.args.at c.args.prio c.refile-filed.result c.index-before.result.now e c.requires.within c.index-before.ensures here
+returns-clause-changed c = λ e here. prioritized_set c.args.entries.now.items c.args.at c.args.prio c.refile-filed.result
+    c.index-before.result.now e c.requires.within c.index-before.ensures here
 
 pub returns-clause-sorted : goal.returns-clause-sorted
 returns-clause-sorted c = c.refile-filed.ensures.sorted c.refile-filed.result

@@ -13,6 +13,7 @@ loop-at-preserved c =
     let es = c.args.entries.now.items in
     let within : c.loop-at.at < length es = omega (arith, c.loop-at-test.true, c.len-at-end.ensures, c.args.entries.now.ok.0) in
     record {
-      items = rw c.loop-at.invariant.items (numbered_more 0 c.loop-at.at c.loop-at.at (c.loop-at.at + 1) es c.index_mut.result.now (omega arith) (omega arith) within (rw c.loop-at.invariant.items at c.index_mut.ensures.value));
+      items = rw c.loop-at.invariant.items (numbered_more 0 c.loop-at.at c.loop-at.at (c.loop-at.at + 1) es c.index_mut.result.now
+          (omega arith) (omega arith) within (rw c.loop-at.invariant.items at c.index_mut.ensures.value));
       capacity = c.loop-at.invariant.capacity;
     }

@@ -13,12 +13,17 @@ returns-then-is_empty-clause-sorted c =
 
 pub take-requires-2-clause-there : goal.take-requires-2-clause-there
 take-requires-2-clause-there c =
-    let filed = when_filed c.args.entries.now.items c.args.ranks.now.items c.args.arrived.now.items (λ none. eqb-false _ 0 (sym c.is_empty.ensures ∙ c.if-is_empty.false) (omega (arith, none, c.args.ranks.now.ok.0))) c.requires.sorted in
-    rw c.arrival_key.ensures (key_filed arrival_key c.args.entries.now.items c.args.arrived.now.items c.args.arrived.now.items filed.1 c.args.at c.index.result.now c.requires.within c.index.ensures)
+    let filed = when_filed c.args.entries.now.items c.args.ranks.now.items c.args.arrived.now.items
+    (λ none. eqb-false _ 0 (sym c.is_empty.ensures ∙ c.if-is_empty.false) (omega (arith, none, c.args.ranks.now.ok.0))) c.requires.sorted in
+    rw c.arrival_key.ensures (key_filed arrival_key c.args.entries.now.items c.args.arrived.now.items c.args.arrived.now.items filed.1
+    c.args.at c.index.result.now c.requires.within c.index.ensures)
 
 pub returns-clause-sorted : goal.returns-clause-sorted
 returns-clause-sorted c =
-    let filed = when_filed c.args.entries.now.items c.args.ranks.now.items c.args.arrived.now.items (λ none. eqb-false _ 0 (sym c.is_empty.ensures ∙ c.if-is_empty.false) (omega (arith, none, c.args.ranks.now.ok.0))) c.requires.sorted in
+    let filed = when_filed c.args.entries.now.items c.args.ranks.now.items c.args.arrived.now.items
+    (λ none. eqb-false _ 0 (sym c.is_empty.ensures ∙ c.if-is_empty.false) (omega (arith, none, c.args.ranks.now.ok.0))) c.requires.sorted in
     sorted_out _ _ _
-    (IsFiled-remove rank_of c.args.entries.now.items c.args.ranks.now.items _ filed.0 c.args.at c.index.result.now c.requires.within c.index.ensures c.take.ensures.sorted (rw c.rank_of.ensures at c.take.ensures.counts) c.take.ensures.len)
-    (IsFiled-remove arrival_key c.args.entries.now.items c.args.arrived.now.items _ filed.1 c.args.at c.index.result.now c.requires.within c.index.ensures c.take-2.ensures.sorted (rw c.arrival_key.ensures at c.take-2.ensures.counts) c.take-2.ensures.len)
+    (IsFiled-remove rank_of c.args.entries.now.items c.args.ranks.now.items _ filed.0 c.args.at c.index.result.now c.requires.within
+    c.index.ensures c.take.ensures.sorted (rw c.rank_of.ensures at c.take.ensures.counts) c.take.ensures.len)
+    (IsFiled-remove arrival_key c.args.entries.now.items c.args.arrived.now.items _ filed.1 c.args.at c.index.result.now c.requires.within
+    c.index.ensures c.take-2.ensures.sorted (rw c.arrival_key.ensures at c.take-2.ensures.counts) c.take-2.ensures.len)

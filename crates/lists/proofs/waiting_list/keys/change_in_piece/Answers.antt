@@ -5,7 +5,8 @@ pub returns-in-Ok-clause-sorted : goal.returns-in-Ok-clause-sorted
 returns-in-Ok-clause-sorted c =
     let went = c.in-Ok.ensures.walked in
     let fit = c.in-Ok.ensures.ok in
-    IsSorted-set c.walk.new.keys.items c.in-Ok.place c.args.after (rw went.rest (IsSorted-remove c.args.keys.now.items c.args.at c.requires.sorted)) went.within fit.behind fit.ahead
+    IsSorted-set c.walk.new.keys.items c.in-Ok.place c.args.after
+    (rw went.rest (IsSorted-remove c.args.keys.now.items c.args.at c.requires.sorted)) went.within fit.behind fit.ahead
 
 pub returns-in-Ok-clause-counts : goal.returns-in-Ok-clause-counts
 returns-in-Ok-clause-counts c =

@@ -10,4 +10,5 @@ returns c =
     let ks = c.args.keys.now.items in
     let n = c.args.what in
     let facts = c.partition_point.ensures in
-    end_from n ks _ (omega (arith, facts.bound, c.args.keys.now.ok.0)) (IsPartitionPoint-from_clause (λ (k : Key). nat_le k.what n) ks _ facts.partitioned (IsPartitionedBy-leb (λ (k : Key). k.what) ks n (parted_by_what ks c.requires)) (λ a r f called. (search rules, search rules)))
+    end_from n ks _ (omega (arith, facts.bound, c.args.keys.now.ok.0)) (IsPartitionPoint-from_clause (λ (k : Key). nat_le k.what n) ks _
+    facts.partitioned (IsPartitionedBy-leb (λ (k : Key). k.what) ks n (parted_by_what ks c.requires)) (λ a r f called. (search rules, search rules)))

@@ -13,8 +13,10 @@ returns-in-Some c =
 pub returns-in_default : goal.returns-in_default
 returns-in_default c =
     let here = c.in-Some.ensures.lookup in
-    sym (no_first_there c.args.what c.args.keys.now.items c.start_of.result c.in-Some.key.now c.start_of.ensures c.requires (λ within same. c.if-key-what.false (rw (← here) at same)))
+    sym (no_first_there c.args.what c.args.keys.now.items c.start_of.result c.in-Some.key.now c.start_of.ensures c.requires
+    (λ within same. c.if-key-what.false (rw (← here) at same)))
 
 pub returns-in_default-2 : goal.returns-in_default-2
 returns-in_default-2 c =
-    sym (no_first_there c.args.what c.args.keys.now.items c.start_of.result (record { what = 0; prio = 0; arrival = 0 }) c.start_of.ensures c.requires (λ within same. search rules))
+    sym (no_first_there c.args.what c.args.keys.now.items c.start_of.result (record { what = 0; prio = 0; arrival = 0 }) c.start_of.ensures
+    c.requires (λ within same. search rules))

@@ -4,7 +4,8 @@ use Rattle.lists.proofs.WaitingLaws.KeyLaws.{IsSorted-set, behind_passed, gone_b
 use Rattle.lists.proofs.waiting_list.keys.go_back.Goals as goal
 
 pub returns-then-is_ahead-clause-sorted : goal.returns-then-is_ahead-clause-sorted
-returns-then-is_ahead-clause-sorted c = IsSorted-set c.loop.keys.items c.loop.at c.args.key (rw c.loop.invariant.rest c.requires.sorted) c.loop.invariant.within c.loop.invariant.behind (c.is_ahead.ensures.stays c.if-is_ahead.true)
+returns-then-is_ahead-clause-sorted c = IsSorted-set c.loop.keys.items c.loop.at c.args.key (rw c.loop.invariant.rest c.requires.sorted)
+    c.loop.invariant.within c.loop.invariant.behind (c.is_ahead.ensures.stays c.if-is_ahead.true)
 
 pub returns-then-is_ahead-clause-counts : goal.returns-then-is_ahead-clause-counts
 returns-then-is_ahead-clause-counts c = λ k. rw (← c.loop.invariant.rest) (set_counts c.loop.keys.items c.loop.at c.args.key k c.loop.invariant.within)

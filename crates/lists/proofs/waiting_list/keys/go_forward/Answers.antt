@@ -4,7 +4,8 @@ use Rattle.lists.proofs.WaitingLaws.KeyLaws.{IsSorted-set, ahead_of_passed, gone
 use Rattle.lists.proofs.waiting_list.keys.go_forward.Goals as goal
 
 pub returns-then-is_behind-clause-sorted : goal.returns-then-is_behind-clause-sorted
-returns-then-is_behind-clause-sorted c = IsSorted-set c.loop.keys.items c.loop.at c.args.key (rw c.loop.invariant.rest c.requires.sorted) c.loop.invariant.within (c.is_behind.ensures.stays c.if-is_behind.true) c.loop.invariant.ahead
+returns-then-is_behind-clause-sorted c = IsSorted-set c.loop.keys.items c.loop.at c.args.key (rw c.loop.invariant.rest c.requires.sorted)
+    c.loop.invariant.within (c.is_behind.ensures.stays c.if-is_behind.true) c.loop.invariant.ahead
 
 pub returns-then-is_behind-clause-counts : goal.returns-then-is_behind-clause-counts
 returns-then-is_behind-clause-counts c = λ k. rw (← c.loop.invariant.rest) (set_counts c.loop.keys.items c.loop.at c.args.key k c.loop.invariant.within)

@@ -17,7 +17,8 @@ returns-clause-counts c =
     let ks = c.args.keys.now.items in
     let at = within_there c.args.key ks c.place_by_halves-at.result c.requires.sorted c.place_by_halves-at.ensures c.requires.there in
     let here = key_there c.args.key ks c.place_by_halves-at.result c.requires.sorted c.place_by_halves-at.ensures c.requires.there in
-    λ k. rw c.take_out.ensures.items (omega (arith, sum_by-remove (λ l. one (is_key k l)) ks c.place_by_halves-at.result c.args.key at, ap (λ l. one (is_key k l)) here))
+    λ k. rw c.take_out.ensures.items
+    (omega (arith, sum_by-remove (λ l. one (is_key k l)) ks c.place_by_halves-at.result c.args.key at, ap (λ l. one (is_key k l)) here))
 
 pub returns-clause-len : goal.returns-clause-len
 returns-clause-len c =

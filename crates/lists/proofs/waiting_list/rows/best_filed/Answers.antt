@@ -10,8 +10,10 @@ returns-in_err-key-clause-none c =
 
 pub returns-clause-none : goal.returns-clause-none
 returns-clause-none c =
-    if_none c.place_of.result _ _ c.place_of.ensures.none (λ none. absurd (not_missed rank_of c.args.entries.now.items c.args.ranks.now.items c.requires.filed c.args.what c.in_ok-key.key (sym c.in_ok-key.ensures) (λ e. refl) c.requires.rising none))
+    if_none c.place_of.result _ _ c.place_of.ensures.none (λ none. absurd (not_missed rank_of c.args.entries.now.items
+    c.args.ranks.now.items c.requires.filed c.args.what c.in_ok-key.key (sym c.in_ok-key.ensures) (λ e. refl) c.requires.rising none))
 
 pub returns-clause-some : goal.returns-clause-some
 returns-clause-some c =
-    if_some c.place_of.result _ _ c.place_of.ensures.some (λ at here. best_at c.args.entries.now.items c.args.ranks.now.items c.requires.filed c.requires.rising c.args.what c.in_ok-key.key (sym c.in_ok-key.ensures) at here)
+    if_some c.place_of.result _ _ c.place_of.ensures.some (λ at here. best_at c.args.entries.now.items c.args.ranks.now.items
+    c.requires.filed c.requires.rising c.args.what c.in_ok-key.key (sym c.in_ok-key.ensures) at here)

@@ -6,14 +6,17 @@ use Rattle.lists.specs.WaitingList.Entries.{IsArrivalOf}
 
 pub returns-in_err-arrival-clause-none : goal.returns-in_err-arrival-clause-none
 returns-in_err-arrival-clause-none c =
-    rw c.from_residual.ensures (subst (IsArrivalOf c.args.entries.now.items c.args.tid) (sym c.place_of.ensures ∙ c.in_err-arrival.was) (c.requires.known.each c.args.tid))
+    rw c.from_residual.ensures (subst (IsArrivalOf c.args.entries.now.items c.args.tid) (sym c.place_of.ensures ∙ c.in_err-arrival.was)
+    (c.requires.known.each c.args.tid))
 
 pub returns-clause-none : goal.returns-clause-none
 returns-clause-none c =
     let some = subst (IsArrivalOf c.args.entries.now.items c.args.tid) (sym c.place_of.ensures ∙ c.in_ok-arrival.was) (c.requires.known.each c.args.tid) in
-    if_none c.place_of-2.result _ _ c.place_of-2.ensures.none (λ none. absurd (thread_not_missed c.args.entries.now.items c.args.tid c.in_ok-arrival.arrival some none))
+    if_none c.place_of-2.result _ _ c.place_of-2.ensures.none
+    (λ none. absurd (thread_not_missed c.args.entries.now.items c.args.tid c.in_ok-arrival.arrival some none))
 
 pub returns-clause-some : goal.returns-clause-some
 returns-clause-some c =
     let some = subst (IsArrivalOf c.args.entries.now.items c.args.tid) (sym c.place_of.ensures ∙ c.in_ok-arrival.was) (c.requires.known.each c.args.tid) in
-    if_some c.place_of-2.result _ _ c.place_of-2.ensures.some (λ at here. thread_at c.args.entries.now.items c.args.tid c.in_ok-arrival.arrival some c.requires.rising at here)
+    if_some c.place_of-2.result _ _ c.place_of-2.ensures.some
+    (λ at here. thread_at c.args.entries.now.items c.args.tid c.in_ok-arrival.arrival some c.requires.rising at here)

@@ -5,7 +5,8 @@ use Rattle.lists.specs.declared.waiting_list.rows.Entry.{Entry}
 
 pub returns-in-Some : goal.returns-in-Some
 returns-in-Some c =
-    ap (λ (e : Entry). e.tid) c.behind-entries.view_is ∙ somebody_came c.args.entries.now.items c.args.arrival c.in-Some.at c.index.result.now c.requires c.in-Some.ensures.some c.index.ensures
+    ap (λ (e : Entry). e.tid) c.behind-entries.view_is
+    ∙ somebody_came c.args.entries.now.items c.args.arrival c.in-Some.at c.index.result.now c.requires c.in-Some.ensures.some c.index.ensures
 
 pub returns-in-None : goal.returns-in-None
 returns-in-None c = sym (nobody_came c.args.entries.now.items c.args.arrival c.in-None.ensures.none)

@@ -13,10 +13,18 @@ loop-at-preserved c =
     let k = c.index.result.now in
     let here = c.index.ensures in
     let within : at < length ks = omega (arith, c.loop-at-test.true, c.end_of-at-end.ensures.within) in
-    let same : k.what ≡ c.args.what = omega (arith, ap (λ (l : Key). l.what) here, c.end_of-at-end.ensures.before at k c.loop-at-test.true, c.start_of-at.ensures.after at k c.loop-at.auto.at within) in
-    rw (c.in_ok-push.ensures.ok, c.tid_of.ensures) (run_step c.args.entries.now.items c.args.what ks at (at + 1) k c.loop-at.ids (omega arith) within here same c.loop-at.invariant)
+    let same : k.what
+    ≡ c.args.what = omega (
+      arith,
+      ap (λ (l : Key). l.what) here,
+      c.end_of-at-end.ensures.before at k c.loop-at-test.true,
+      c.start_of-at.ensures.after at k c.loop-at.auto.at within,
+    ) in
+    rw (c.in_ok-push.ensures.ok, c.tid_of.ensures)
+    (run_step c.args.entries.now.items c.args.what ks at (at + 1) k c.loop-at.ids (omega arith) within here same c.loop-at.invariant)
 
 pub returns : goal.returns
 returns c =
-    sym (run_end c.args.entries.now.items c.args.what c.args.arrived.now.items c.loop-at.at c.end_of-at-end.result c.loop-at.ids c.end_of-at-end.ensures c.loop-at-test.false c.loop-at.invariant)
+    sym (run_end c.args.entries.now.items c.args.what c.args.arrived.now.items c.loop-at.at c.end_of-at-end.result c.loop-at.ids
+    c.end_of-at-end.ensures c.loop-at-test.false c.loop-at.invariant)
     ∙ all_listed c.args.entries.now.items c.args.arrived.now.items c.requires.filed c.requires.rising c.args.what

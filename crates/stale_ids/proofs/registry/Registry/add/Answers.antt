@@ -24,9 +24,15 @@ invariant_of-self g c =
     let below = rw (← c.self.view_is) at c.requires.below in
     let put = c.insert_reserved-slot.ensures in
     rw (c.push_reserved.ensures.items, c.push_reserved.ensures.capacity, put.capacity)
-    (IsSound-insert _ _ _ c.args.value _ _ sound.full put.was_vacant put.updates.changed put.updates.others _ _ _ _ sound (omega arith) (λ same. omega (arith, below)) put.len)
+    (IsSound-insert _ _ _ c.args.value _ _ sound.full put.was_vacant put.updates.changed put.updates.others _ _ _ _ sound (omega arith)
+    (λ same. omega (arith, below)) put.len)
 
 pub returns : goal.returns
 returns g c =
     let put = c.insert_reserved-slot.ensures in
-    rw (← c.self.view_is, c.push_reserved.ensures.items, inserted_pairs c.self.inside.values.slots c.insert_reserved-slot.new.self.slots c.insert_reserved-slot.result c.args.value c.self.inside.index.items c.self.inside.births c.self.invariant.full put.was_vacant put.updates.changed put.updates.others)
+    rw (
+      ← c.self.view_is,
+      c.push_reserved.ensures.items,
+      inserted_pairs c.self.inside.values.slots c.insert_reserved-slot.new.self.slots c.insert_reserved-slot.result c.args.value
+          c.self.inside.index.items c.self.inside.births c.self.invariant.full put.was_vacant put.updates.changed put.updates.others,
+    )

@@ -19,4 +19,5 @@ add-requires-clause-below g c =
 pub loop-at-preserved : goal.loop-at-preserved
 loop-at-preserved g c =
     rw (c.add.ensures, c.skip_to.ensures, c.in_ok-value.ensures)
-    (copied_next c.args.self.now c.loop-at.copy c.loop-at.at c.pair_at-number.result.0 _ c.len-at-end.ensures.rising c.births-births.ensures.born c.pair_at-number.ensures c.loop-at.invariant)
+    (copied_next c.args.self.now c.loop-at.copy c.loop-at.at c.pair_at-number.result.0 _ c.len-at-end.ensures.rising
+    c.births-births.ensures.born c.pair_at-number.ensures c.loop-at.invariant)

@@ -8,7 +8,8 @@ returns-in_err-at-clause-value g c =
 
 pub returns-clause-value : goal.returns-clause-value
 returns-clause-value g c =
-    rw (← c.self.view_is) (c.get.ensures ∙ sym (found_value _ _ c.self.invariant.rising c.self.invariant.full _ _ _ (rw c.deref.ensures.value at c.in_ok-at.ensures.found) c.index.ensures))
+    rw (← c.self.view_is) (c.get.ensures
+    ∙ sym (found_value _ _ c.self.invariant.rising c.self.invariant.full _ _ _ (rw c.deref.ensures.value at c.in_ok-at.ensures.found) c.index.ensures))
 
 pub returns-in_err-at-clause-rising : goal.returns-in_err-at-clause-rising
 returns-in_err-at-clause-rising g c =

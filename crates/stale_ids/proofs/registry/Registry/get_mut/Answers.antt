@@ -15,7 +15,8 @@ value_at-requires-clause-here g c =
     let at = rw c.deref.ensures.value at c.in-Some.ensures.found in
     let es = c.self.inside.index.items in
     let none : Place = record { number = 0; slot = 0 } in
-    rw (← c.self.view_is, numbers-pairs c.self.inside.values.slots es c.self.invariant.full) (get_or-map (λ e. e.number) es c.in-Some.at none 0 at.within ∙ at.here none)
+    rw (← c.self.view_is, numbers-pairs c.self.inside.values.slots es c.self.invariant.full)
+    (get_or-map (λ e. e.number) es c.in-Some.at none 0 at.within ∙ at.here none)
 
 pub returns-in-Some : goal.returns-in-Some
 returns-in-Some g c =

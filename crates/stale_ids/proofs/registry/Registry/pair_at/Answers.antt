@@ -19,4 +19,5 @@ pub returns : goal.returns
 returns g c =
     let longer = length-pairs c.self.inside.values.slots c.self.inside.index.items c.self.invariant.full in
     let within = rw (← c.self.view_is) at c.requires in
-    rw (← c.self.view_is) (pair c.self.inside.values.slots c.self.inside.index.items c.args.at c.index-place.result.now c.index.result.now c.self.invariant.full (omega arith) c.index-place.ensures c.index.ensures)
+    rw (← c.self.view_is) (pair c.self.inside.values.slots c.self.inside.index.items c.args.at c.index-place.result.now c.index.result.now
+    c.self.invariant.full (omega arith) c.index-place.ensures c.index.ensures)

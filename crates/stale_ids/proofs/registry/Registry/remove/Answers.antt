@@ -1,5 +1,6 @@
 use Rattle.std.proofs.Common.{sym, ◌∙◌, arith}
-use Rattle.stale_ids.proofs.IndexLemmas.{value_of_absent, without_absent, found_value, found_full, found_without, found_apart, pairs-others, IsSound-remove, value_of-without}
+use Rattle.stale_ids.proofs.IndexLemmas.{value_of_absent, without_absent, found_value, found_full, found_without, found_apart, pairs-others}
+use Rattle.stale_ids.proofs.IndexLemmas.{IsSound-remove, value_of-without}
 use Rattle.stale_ids.specs.Index.{pairs}
 use Rattle.stale_ids.proofs.registry.Registry.remove.Goals as goal
 
@@ -42,7 +43,12 @@ returns-clause-rest g c =
     let es = c.self.inside.index.items in
     let slots = c.self.inside.values.slots in
     let apart = found_apart slots es sound.rising sound.full _ _ _ at c.remove-place.ensures.value in
-    rw (← c.self.view_is, c.remove-place.ensures.items, found_without slots es sound.rising sound.full c.args.n _ _ at c.remove-place.ensures.value, pairs-others slots c.remove.new.self.slots _ c.remove.ensures.updates.others _ apart)
+    rw (
+      ← c.self.view_is,
+      c.remove-place.ensures.items,
+      found_without slots es sound.rising sound.full c.args.n _ _ at c.remove-place.ensures.value,
+      pairs-others slots c.remove.new.self.slots _ c.remove.ensures.updates.others _ apart,
+    )
 
 pub returns-in_err-at-clause-gone : goal.returns-in_err-at-clause-gone
 returns-in_err-at-clause-gone g c =
@@ -55,4 +61,9 @@ returns-clause-gone g c =
     let es = c.self.inside.index.items in
     let slots = c.self.inside.values.slots in
     let apart = found_apart slots es sound.rising sound.full _ _ _ at c.remove-place.ensures.value in
-    rw (c.remove-place.ensures.items, pairs-others slots c.remove.new.self.slots _ c.remove.ensures.updates.others _ apart, ← found_without slots es sound.rising sound.full c.args.n _ _ at c.remove-place.ensures.value) (value_of-without c.args.n (pairs slots es))
+    rw (
+      c.remove-place.ensures.items,
+      pairs-others slots c.remove.new.self.slots _ c.remove.ensures.updates.others _ apart,
+      ← found_without slots es sound.rising sound.full c.args.n _ _ at c.remove-place.ensures.value,
+    )
+    (value_of-without c.args.n (pairs slots es))

@@ -22,9 +22,19 @@ pub returns : goal.returns
 returns g c =
     let at = at_number _ _ _ _ c.self.invariant.full (rw (← c.self.view_is) at c.requires.within) (rw (← c.self.view_is) at c.requires.here) in
     let sound = c.self.invariant in (
-      (refl {a = c.index_mut.result.ghost_name}, λ w. rw (← c.self.view_is, found_written c.self.inside.values.slots c.self.inside.index.items sound.rising sound.full c.args.n c.args.at c.index.result.now at c.index.ensures w)),
+      (
+        refl {a = c.index_mut.result.ghost_name},
+        λ w.
+            rw (
+              ← c.self.view_is,
+              found_written c.self.inside.values.slots c.self.inside.index.items sound.rising sound.full c.args.n c.args.at
+                  c.index.result.now at c.index.ensures w,
+            ),
+      ),
       record {
         writes_back = tt;
-        value = rw (← c.self.view_is) (found_value c.self.inside.values.slots c.self.inside.index.items sound.rising sound.full c.args.n c.args.at c.index.result.now at c.index.ensures ∙ c.index_mut.ensures.value);
+        value = rw (← c.self.view_is) (found_value c.self.inside.values.slots c.self.inside.index.items sound.rising sound.full c.args.n
+            c.args.at c.index.result.now at c.index.ensures
+            ∙ c.index_mut.ensures.value);
       },
     )

@@ -5,7 +5,8 @@ use Rattle.lists.proofs.WaitingLaws.EntryLaws.{any_default, no_entry}
 
 pub returns-in_default : goal.returns-in_default
 returns-in_default c =
-    rw (← c.self.view_is) (ap (λ ws. record { waiting = ws; places = c.self.inside.places }) (sym (none_left c.args.tid c.self.inside.entries.items c.in_default.ensures.none)))
+    rw (← c.self.view_is) (ap (λ ws. record { waiting = ws; places = c.self.inside.places })
+    (sym (none_left c.args.tid c.self.inside.entries.items c.in_default.ensures.none)))
 
 pub dismiss-requires-clause-known : goal.dismiss-requires-clause-known
 dismiss-requires-clause-known c =
@@ -35,4 +36,5 @@ returns c =
     let there = c.in-Some.ensures.some in
     let e = get_or es c.in-Some.at no_entry in
     let here = any_default es c.in-Some.at no_entry e there.within in
-    rw (← c.self.view_is, c.dismiss.ensures.items) (ap (λ ws. record { waiting = ws; places = c.self.inside.places }) (left_there es _ _ _ _ _ _ _ c.self.invariant c.args.tid c.in-Some.at e there here))
+    rw (← c.self.view_is, c.dismiss.ensures.items) (ap (λ ws. record { waiting = ws; places = c.self.inside.places })
+    (left_there es _ _ _ _ _ _ _ c.self.invariant c.args.tid c.in-Some.at e there here))

@@ -6,7 +6,8 @@ use Rattle.lists.specs.WaitingList.Entries.{waiting_of}
 
 pub returns-in_default : goal.returns-in_default
 returns-in_default c =
-    rw (← c.self.view_is) (ap (λ ws. record { waiting = ws; places = c.self.inside.places }) (sym (none_prioritized c.args.tid c.args.prio c.self.inside.entries.items c.in_default.ensures.none)))
+    rw (← c.self.view_is) (ap (λ ws. record { waiting = ws; places = c.self.inside.places })
+    (sym (none_prioritized c.args.tid c.args.prio c.self.inside.entries.items c.in_default.ensures.none)))
 
 pub invariant_of-self : goal.invariant_of-self
 invariant_of-self c =
@@ -28,5 +29,6 @@ returns c =
     let there = c.in-Some.ensures.some in
     let e = get_or es c.in-Some.at no_entry in
     let here = any_default es c.in-Some.at no_entry e there.within in
-    let after = ap (map waiting_of) (c.prioritize.ensures.changed e here) ∙ prioritized_there es _ _ _ _ _ _ _ c.self.invariant c.args.tid c.in-Some.at e there here c.args.prio _ in
+    let after = ap (map waiting_of) (c.prioritize.ensures.changed e here)
+    ∙ prioritized_there es _ _ _ _ _ _ _ c.self.invariant c.args.tid c.in-Some.at e there here c.args.prio _ in
     rw (← c.self.view_is) (ap (λ ws. record { waiting = ws; places = c.self.inside.places }) after)
