@@ -6,7 +6,8 @@
 //     loq_pod_new(&pod, maxpri, births, procs);
 //     while (loq_current(&pod, &tid) == LOQ_DONE) {
 //         loq_call(&pod, &next_call_of_thread_tid, text, text_len);
-//         for (i = 0; loq_effect(&pod, i, &effect, ..) == LOQ_DONE; i++) ..   // answers, deaths, deliveries, the end
+//         for (loq_effects(&pod, &count), i = 0; i < count; i++)
+//             loq_effect(&pod, i, &effect, ..);   // answers, deaths, deliveries, the end; a long list: LOQ_TOO_SMALL, and ask again
 //     }
 //     loq_pod_free(&pod);
 //

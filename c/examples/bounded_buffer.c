@@ -55,12 +55,26 @@ static loq_call_t poll_thread(thread *t) {
     return poll_worker(t, &used, count == 0, -1, not_empty, not_full);
 }
 
+// The effect at this place, and whether there is one. A list that is longer than the buffer gets a larger one, and is asked for again.
+static bool effect_at(loq_pod *pod, size_t at, loq_effect_t *effect, uint8_t text[LOQ_TEXT_MAX]) {
+    static uint64_t few[4], *ids = few;
+    static size_t room = 4;
+    uint32_t status;
+    while ((status = loq_effect(pod, at, effect, text, LOQ_TEXT_MAX, ids, room)) == LOQ_TOO_SMALL) {
+        uint64_t *more = malloc(effect->ids_len * sizeof *more);
+        if (!more) exit(1);
+        if (ids != few) free(ids);
+        ids = more;
+        room = effect->ids_len;
+    }
+    return status == LOQ_DONE;
+}
+
 // The answers that name what was made.
 static void hear(loq_pod *pod, const loq_call_t *call) {
     loq_effect_t e;
     uint8_t text[LOQ_TEXT_MAX];
-    uint64_t ids[1];
-    for (size_t i = 0; loq_effect(pod, i, &e, text, sizeof text, ids, 1) == LOQ_DONE; i++) {
+    for (size_t i = 0; effect_at(pod, i, &e, text); i++) {
         if (e.kind != LOQ_ANSWERED) continue;
         if (e.answer == LOQ_MONITOR) monitor = e.id;
         if (e.answer == LOQ_CONDITION) *(not_full == 0 ? &not_full : &not_empty) = e.id;

@@ -4,8 +4,9 @@
 //     event_loop --replay RECORD TRACE makes the same run again, with no socket, and writes the answers to standard output
 //
 // A client's lines are `add N`, `total`, `quit` and `stop`. Each connection has an event of its own while it lasts, 1 to 30, so there are
-// thirty at a time; event 31 tells the first thread of new connections. The pod runs until nobody can run, and only then are the sockets asked. A line enters the run by
-// loq_deliver alone, and RECORD has a line `TURN EVENT TEXT` for each: so the same record gives the same trace, byte for byte.
+// thirty at a time; event 31 tells the first thread of new connections. The pod runs until nobody can run, and only then are the sockets
+// asked. A line enters the run by loq_deliver alone, and RECORD has a line `TURN EVENT TEXT` for each: so the same record gives the same
+// trace, byte for byte.
 #include "../loqzemar.h"
 
 #include <arpa/inet.h>
@@ -190,12 +191,26 @@ static void write_lines(loq_pod *pod) {
     fwrite(lines, 1, len, trace);
 }
 
+// The effect at this place, and whether there is one. A list that is longer than the buffer gets a larger one, and is asked for again.
+static bool effect_at(loq_pod *pod, size_t at, loq_effect_t *effect, uint8_t text[LOQ_TEXT_MAX]) {
+    static uint64_t few[4], *ids = few;
+    static size_t room = 4;
+    uint32_t status;
+    while ((status = loq_effect(pod, at, effect, text, LOQ_TEXT_MAX, ids, room)) == LOQ_TOO_SMALL) {
+        uint64_t *more = malloc(effect->ids_len * sizeof *more);
+        if (!more) fail("out of memory");
+        if (ids != few) free(ids);
+        ids = more;
+        room = effect->ids_len;
+    }
+    return status == LOQ_DONE;
+}
+
 // What a step did, for the threads that it answered. `by` made the call of it, or nobody did.
 static void hear(loq_pod *pod, const loq_call_t *call, uint64_t by) {
     loq_effect_t e;
     uint8_t text[LOQ_TEXT_MAX];
-    uint64_t ids[1];
-    for (size_t i = 0; loq_effect(pod, i, &e, text, sizeof text, ids, 1) == LOQ_DONE; i++) {
+    for (size_t i = 0; effect_at(pod, i, &e, text); i++) {
         if (e.tid >= THREADS) continue;
         thread *t = &threads[e.tid];
         if (e.kind == LOQ_DIED && t->procedure == CONNECTION) end_connection(t->event);

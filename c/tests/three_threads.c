@@ -51,9 +51,11 @@ static int run(loq_pod *pod) {
         loq_effect_t effect;
         uint8_t told[LOQ_TEXT_MAX];
         uint64_t ids[16];
-        for (size_t i = 0; loq_effect(pod, i, &effect, told, sizeof told, ids, 16) == LOQ_DONE; i++)
+        uint32_t status;
+        for (size_t i = 0; (status = loq_effect(pod, i, &effect, told, sizeof told, ids, 16)) == LOQ_DONE; i++)
             if (effect.kind == LOQ_ANSWERED && effect.answer == LOQ_THREAD)
                 threads[effect.id] = (thread){.procedure = call.number, .step = 0};
+        if (status != LOQ_NO_EFFECT) return 1; // LOQ_TOO_SMALL is not the end; no call here is answered by a list
     }
     uint32_t why, status;
     if (loq_ending(pod, &why, &status) != LOQ_DONE || why != 1) return 2;
