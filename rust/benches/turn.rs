@@ -1,6 +1,10 @@
 //! What a turn of two threads that yield costs, beside the C library's own turn: `cargo bench`, and `cargo bench -- 1.2` to fail where the
 //! ratio is more.
+//!
+//! Where valgrind is there, the instructions of a turn are counted too: what else the machine does changes the nanoseconds, and not these.
+//! The ratio is then that of the instructions.
 
+use std::process::{exit, Command};
 use std::time::Instant;
 
 use loqzemar::sys::{self, loq_call_t, loq_effect_t, loq_pod};
@@ -8,11 +12,34 @@ use loqzemar::{Answer, Call, Flags, Pod, Tid};
 
 const TURNS: u64 = 10_000;
 const ROUNDS: usize = 500;
+/// Under valgrind a turn takes some fifty times as long.
+const COUNTED: u64 = 5_000;
 
-fn nanoseconds(work: impl FnOnce()) -> f64 {
+/// Whose turn is measured.
+#[derive(Clone, Copy)]
+enum Side {
+    C,
+    Bare,
+    Traced,
+}
+
+impl Side {
+    const ALL: [(Side, &'static str); 3] = [(Side::C, "c"), (Side::Bare, "bare"), (Side::Traced, "traced")];
+
+    /// How many nanoseconds each of so many turns takes.
+    fn turns(self, turns: u64) -> f64 {
+        match self {
+            Side::C => c_library(turns),
+            Side::Bare => package(false, turns),
+            Side::Traced => package(true, turns),
+        }
+    }
+}
+
+fn nanoseconds(turns: u64, work: impl FnOnce()) -> f64 {
     let began = Instant::now();
     work();
-    began.elapsed().as_nanos() as f64 / TURNS as f64
+    began.elapsed().as_nanos() as f64 / turns as f64
 }
 
 /// One turn of the C library, as a program in C makes it: whose turn it is, the call, how many effects there are, and each of them.
@@ -30,7 +57,7 @@ unsafe fn turn_of_c(pod: &mut loq_pod, call: &mut loq_call_t, effect: &mut loq_e
     sum
 }
 
-fn c_library() -> f64 {
+fn c_library(turns: u64) -> f64 {
     let mut pod = loq_pod::empty();
     let mut call = loq_call_t { prio: 1, number: 1, ..loq_call_t::default() };
     let (mut effect, mut text) = (loq_effect_t::default(), [0; sys::TEXT_MAX]);
@@ -40,8 +67,8 @@ fn c_library() -> f64 {
         turn_of_c(&mut pod, &mut call, &mut effect, &mut text);
         call.kind = 3;
         let mut sum = 0;
-        let took = nanoseconds(|| {
-            for _ in 0..TURNS {
+        let took = nanoseconds(turns, || {
+            for _ in 0..turns {
                 sum += turn_of_c(&mut pod, &mut call, &mut effect, &mut text);
             }
         });
@@ -51,7 +78,7 @@ fn c_library() -> f64 {
     }
 }
 
-fn package(trace: bool) -> f64 {
+fn package(trace: bool, turns: u64) -> f64 {
     let first = |_| {
         let mut has_created = false;
         move |me: Tid, _: Answer| {
@@ -65,23 +92,57 @@ fn package(trace: bool) -> f64 {
     let mut pod =
         Pod::setup(1).proc("first", first).proc("other", |_| |me: Tid, _: Answer| Call::Yield { to: me }).trace(trace).pod().unwrap();
     pod.run_for(100).unwrap();
-    nanoseconds(|| {
-        pod.run_for(TURNS).unwrap();
+    nanoseconds(turns, || {
+        pod.run_for(turns).unwrap();
     })
 }
 
+/// How many instructions a turn takes: this program makes so many turns under valgrind, and then three times as many.
+fn instructions(side: &str) -> Option<f64> {
+    let of = |turns: u64| -> Option<u64> {
+        let ran = Command::new("valgrind")
+            .args(["--tool=callgrind", "--callgrind-out-file=/dev/null"])
+            .arg(std::env::current_exe().ok()?)
+            .args([side, &turns.to_string()])
+            .output()
+            .ok()?;
+        let told = String::from_utf8_lossy(&ran.stderr).into_owned();
+        told.lines().find_map(|line| line.split_once("Collected :")?.1.trim().parse().ok())
+    };
+    Some((of(3 * COUNTED)? - of(COUNTED)?) as f64 / (2 * COUNTED) as f64)
+}
+
+/// Prints what a turn of each side costs, and returns how much of the C library's turn one of the package is.
+fn tell(costs: [f64; 3], unit: &str) -> f64 {
+    let [c, bare, traced] = costs;
+    println!("the C library's turn:   {c:6.1} {unit}");
+    println!("a turn of this package: {bare:6.1} {unit}, {:.2} of it", bare / c);
+    println!("with the trace:         {traced:6.1} {unit}");
+    bare / c
+}
+
 fn main() {
-    let most: Option<f64> = std::env::args().skip(1).find_map(|word| word.parse().ok());
-    let (mut c, mut bare, mut traced) = (f64::MAX, f64::MAX, f64::MAX);
-    for _ in 0..ROUNDS {
-        c = c.min(c_library());
-        bare = bare.min(package(false));
-        traced = traced.min(package(true));
+    let words: Vec<String> = std::env::args().skip(1).filter(|word| word != "--bench").collect();
+    if let [name, turns] = words.as_slice() {
+        let (side, _) = Side::ALL.into_iter().find(|(_, its)| its == name).expect("a side");
+        side.turns(turns.parse().expect("a number of turns"));
+        return;
     }
-    println!("the C library's turn:   {c:6.1} ns");
-    println!("a turn of this package: {bare:6.1} ns, {:.2} of it", bare / c);
-    println!("with the trace:         {traced:6.1} ns");
-    if most.is_some_and(|most| most < bare / c) {
-        std::process::exit(1);
+    let most: Option<f64> = words.iter().find_map(|word| word.parse().ok());
+    let mut costs = [f64::MAX; 3];
+    for _ in 0..ROUNDS {
+        for (cost, (side, _)) in costs.iter_mut().zip(Side::ALL) {
+            *cost = cost.min(side.turns(TURNS));
+        }
+    }
+    let mut ratio = tell(costs, "ns");
+    let counted: Option<Vec<f64>> = Side::ALL.into_iter().map(|(_, name)| instructions(name)).collect();
+    match counted.as_deref() {
+        Some(&[c, bare, traced]) => ratio = tell([c, bare, traced], "instructions"),
+        _ => println!("no valgrind: the instructions are not counted"),
+    }
+    if most.is_some_and(|most| most < ratio) {
+        println!("{ratio:.3} is more than may be");
+        exit(1);
     }
 }
