@@ -131,7 +131,7 @@ def lwp_enumerate() -> Call[Tuple[Tid, ...]]:
 
 
 def lwp_join(tid: int) -> Call[int]:
-    """Waits for the death of a thread. Answers 0."""
+    """Waits for the death of a thread that lives; it is refused by LE_NONEXIST if that one has died already. Answers 0."""
     return _call(8, tid)
 
 
@@ -236,7 +236,7 @@ def msg_recv(sender: Optional[int] = None, *, ticks: Optional[int] = None, poll:
 
 
 def msg_reply(to: int, text: str = "") -> Call[int]:
-    """Replies to the letter of that sender, which was received. Answers 0."""
+    """Replies to the letter of that sender, which was received, now or long before: the sender waits until then. Answers 0."""
     return _call(19, to, 0, text)
 
 
