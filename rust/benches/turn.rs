@@ -141,7 +141,7 @@ fn main() {
         Some(&[c, bare, traced]) => ratio = tell([c, bare, traced], "instructions"),
         _ => println!("no valgrind: the instructions are not counted"),
     }
-    if most.is_some_and(|most| most < ratio) {
+    if most.map_or(false, |most| most < ratio) {
         println!("{ratio:.3} is more than may be");
         exit(1);
     }

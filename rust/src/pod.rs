@@ -337,14 +337,17 @@ impl<'t> Pod<'t> {
         let last = self.calls.saturating_add(turns);
         self.spent = false;
         loop {
-            let Some(mut tid) = self.current() else {
-                if let Some(status) = self.status() {
-                    return Ok(End::Ended(status));
+            let mut tid = match self.current() {
+                Some(tid) => tid,
+                None => {
+                    if let Some(status) = self.status() {
+                        return Ok(End::Ended(status));
+                    }
+                    if !self.boundary()? {
+                        return Ok(End::Idle);
+                    }
+                    continue;
                 }
-                if !self.boundary()? {
-                    return Ok(End::Idle);
-                }
-                continue;
             };
             if self.calls == last {
                 self.spent = true;
@@ -554,8 +557,9 @@ impl<'t> Pod<'t> {
     }
 
     fn deliver(&mut self, event: u8) -> Result<(), Fault> {
-        let Some(lines) = self.waiting.get_mut(&event) else {
-            return Ok(());
+        let lines = match self.waiting.get_mut(&event) {
+            Some(lines) => lines,
+            None => return Ok(()),
         };
         let line = lines.pop_front();
         if lines.is_empty() {

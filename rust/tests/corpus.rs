@@ -13,9 +13,10 @@ fn chosen() -> Vec<PathBuf> {
     let folder = Path::new(env!("CARGO_MANIFEST_DIR")).join("../crates/corpus/data");
     let folder = std::env::var_os("LOQZEMAR_TOP").map_or(folder, |top| Path::new(&top).join("crates/corpus/data"));
     let mut traces: Vec<PathBuf> = fs::read_dir(folder).unwrap().map(|entry| entry.unwrap().path()).collect();
-    traces.retain(|trace| trace.extension().is_some_and(|it| it == "trace"));
-    traces
-        .retain(|trace| fs::read_to_string(trace.with_extension("script")).is_ok_and(|it| it.ends_with('\n') && !it.contains("\nnative ")));
+    traces.retain(|trace| trace.extension().map_or(false, |it| it == "trace"));
+    traces.retain(|trace| {
+        fs::read_to_string(trace.with_extension("script")).map_or(false, |it| it.ends_with('\n') && !it.contains("\nnative "))
+    });
     traces.sort();
     traces
 }

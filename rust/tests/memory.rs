@@ -44,14 +44,14 @@ thread_local! {
 }
 
 fn is_refused() -> bool {
-    let left = LEFT.get();
+    let left = LEFT.with(Cell::get);
     if left == 0 {
-        REFUSED.set(REFUSED.get() + 1);
-        LEFT.set(usize::MAX);
+        REFUSED.with(|it| it.set(it.get() + 1));
+        LEFT.with(|it| it.set(usize::MAX));
         return true;
     }
     if left != usize::MAX {
-        LEFT.set(left - 1);
+        LEFT.with(|it| it.set(left - 1));
     }
     false
 }
@@ -93,11 +93,11 @@ fn again<T>(mut work: impl FnMut() -> Result<T, Fault>) -> (T, usize) {
 
 /// Runs the script to its end, and refuses the allocation after so many; how many faults were told.
 fn run(script: &Script, stored: &str, before: usize) -> usize {
-    REFUSED.set(0);
-    LEFT.set(before);
+    REFUSED.with(|it| it.set(0));
+    LEFT.with(|it| it.set(before));
     let (mut pod, in_making): (Pod, usize) = again(|| script.pod());
     let (end, in_run) = again(|| pod.run());
-    LEFT.set(usize::MAX);
+    LEFT.with(|it| it.set(usize::MAX));
     assert!(matches!(end, End::Ended(_)));
     assert_eq!(pod.trace(), stored, "after {before} allocations");
     in_making + in_run
@@ -113,7 +113,7 @@ fn memory_may_be_refused_at_each_place() {
         let stored = fs::read_to_string(path.with_extension("trace")).unwrap();
         for before in 0.. {
             let faults = run(&script, &stored, before);
-            assert_eq!(faults, REFUSED.get());
+            assert_eq!(faults, REFUSED.with(Cell::get));
             total += faults;
             if faults == 0 {
                 break;

@@ -120,8 +120,9 @@ fn refused(trace: &str, error: &str, statements: &str) -> bool {
     let lines: Vec<&str> = trace.lines().collect();
     let wanted = format!("t0 ! {error}");
     // The last refusal of the first thread, right after its call, or later where it waited.
-    let Some(at) = lines.iter().rposition(|line| *line == wanted) else {
-        return false;
+    let at = match lines.iter().rposition(|line| *line == wanted) {
+        Some(at) => at,
+        None => return false,
     };
     let call = lines[..at].iter().rev().find_map(|line| line.strip_prefix("t0: ")).unwrap();
     call.split(' ').next() == Some(last)

@@ -145,8 +145,9 @@ impl<'t> Thread<'t> {
         let frame = self.frames.last_mut().unwrap();
         let lines = &self.script.procs[frame.proc].1;
         loop {
-            let Some(words) = lines.get(frame.at) else {
-                return NOTHING;
+            let words = match lines.get(frame.at) {
+                Some(words) => words,
+                None => return NOTHING,
             };
             frame.at += 1;
             match words[0].as_str() {
@@ -172,8 +173,9 @@ impl<'t> Thread<'t> {
     }
 
     fn call(&self, me: Tid, words: &[String]) -> Call<'t> {
-        let Some(key) = words.first() else {
-            return Call::Return;
+        let key = match words.first() {
+            Some(key) => key,
+            None => return Call::Return,
         };
         let word = |at: usize| words.get(at).map_or("", String::as_str);
         let number = |at: usize| word(at).parse().unwrap();
