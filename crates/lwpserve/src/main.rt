@@ -4,14 +4,14 @@
 //! Where its one word is `--help` or `--version`, it says so much of itself, by the crate `about`. All else that it does is
 //! `lwp_serve::top`, on the standard streams; no contract can say what those hold. What is written is gathered, and goes out 64 KiB
 //! at a time, and on `run` also whenever the pod waits for a line. What went wrong is said on standard error, and the exit status is
-//! the session's.
+//! the session's. While `make` and `batch` are at work, standard error is told for how long, if it is a terminal.
 #![tactic(auto)]
 
 ghost use Rattle.std.specs.Prelude.{◌≡◌, ◌≢◌};
 ghost use Rattle.std.specs.IoError.{error_kind};
 ghost use Rattle.script_session.specs.declared.session.SessionEnd.TheVariants.{NoMemory, Usage, WriteFault};
 
-use about::{is_stack_too_small, print_answer, question_of};
+use about::{is_stack_too_small, print_answer, question_of, tell_time_while};
 use lwp_serve::{Session, SessionEnd, fault_text, no_gates, top};
 use lwp_types::Failed;
 use std::io::{ErrorKind, IsTerminal, Write};
@@ -50,7 +50,9 @@ fn main(rt: HostRuntime) -> ExitCode {
                 Err(_) => Session::unread(rt.alloc(), SessionEnd::WriteFault),
             },
             None if is_stack_too_small(&rt, "lwpserve", STACK) => return ExitCode::from(106),
-            None => session_of(&rt, &rt, &words),
+            None => tell_time_while(&rt, &rt, "lwpserve", is_long(&words), || {
+                session_of(&rt, &rt, &words)
+            }),
         },
         Err(error) => Session::unread(rt.alloc(), end_without_words(&error)),
     };
@@ -61,6 +63,14 @@ fn main(rt: HostRuntime) -> ExitCode {
         let _ = rt.stderr().write_all(HINT);
     }
     ExitCode::from(session.status)
+}
+
+// Whether these words ask for work of which nothing is heard until it ends.
+fn is_long(words: &Vec<String>) -> bool {
+    match words.first() {
+        Some(word) => matches!(word.as_str(), "make" | "batch"),
+        None => false,
+    }
 }
 
 // The session of these words, on the standard streams, with threads for those that post.

@@ -3,18 +3,21 @@
 //!
 //! Where its one word is `--help` or `--version`, it says so much of itself, by the crate `about`. All else that it does is
 //! `trace_page::view`, on the standard streams or, by the crate `named_input`, on a file; no contract can say what those hold. What is
-//! written is gathered, and goes out 64 KiB at a time. What went wrong is said on standard error.
+//! written is gathered, and goes out 64 KiB at a time. What went wrong is said on standard error. While a page is made, standard error
+//! is told for how long, if it is a terminal.
 #![tactic(auto)]
 
 ghost use Rattle.std.specs.Prelude.{◌≡◌, ◌≢◌};
 ghost use Rattle.std.specs.IoError.{error_kind};
 ghost use Rattle.trace_page.specs.declared.showing.ViewEnd.TheVariants.{NoMemory, Usage};
 
-use about::{Question, print_answer, question_of};
+use about::{Question, print_answer, question_of, tell_time_while};
 use lwp_types::{Failed, Source};
 use named_input::{FileSource, take_file};
-use std::io::{ErrorKind, Write};
+use std::io::{ErrorKind, IsTerminal, Write};
 use std::process::ExitCode;
+use std::sync::Wait;
+use std::thread::Threads;
 use std::{env, io};
 use streams::{GATHERED, StdSink, StdSource};
 use trace_page::{ViewEnd, fault_text, status_of, view};
@@ -35,7 +38,7 @@ fn main(rt: HostRuntime) -> ExitCode {
     match words(&rt) {
         Ok(words) => match question_of(&words) {
             Some(question) => answer(&rt, question),
-            None => show(&rt, words),
+            None => show(&rt, &rt, words),
         },
         Err(error) => tell(&rt, end_without_words(&error)),
     }
@@ -50,14 +53,21 @@ fn answer(rt: &HostRuntime, question: Question) -> ExitCode {
 }
 
 // Shows what these words ask for of the file that the last of them names, or of standard input.
-fn show(rt: &HostRuntime, words: Vec<String>) -> ExitCode {
+fn show<R: Threads + Wait + Sync>(rt: &HostRuntime, threads: &R, words: Vec<String>) -> ExitCode {
     let mut words = words;
     let Some(name) = take_file(&mut words, 0) else {
-        let end = end_of(rt, &words, &mut StdSource::new(rt.stdin()));
+        let is_typed = rt.stdin().is_terminal();
+        let end = end_of(
+            rt,
+            threads,
+            &words,
+            !is_typed,
+            &mut StdSource::new(rt.stdin()),
+        );
         return tell(rt, end);
     };
     let mut source = FileSource::new(rt, name.as_str());
-    let end = end_of(rt, &words, &mut source);
+    let end = end_of(rt, threads, &words, true, &mut source);
     match source.refused() {
         Some(why) => {
             let _ = eprintln!(rt; "lwpview: {name} can't be opened: {why}");
@@ -75,12 +85,20 @@ fn tell(rt: &HostRuntime, end: ViewEnd) -> ExitCode {
     ExitCode::from(status_of(end))
 }
 
-// What these words come to, with a trace from there, on standard output.
-fn end_of<S: Source>(rt: &HostRuntime, words: &Vec<String>, source: &mut S) -> ViewEnd {
+// What these words come to, with a trace from there, on standard output. That may take long where nobody types the trace.
+fn end_of<S: Source, R: Threads + Wait + Sync>(
+    rt: &HostRuntime,
+    threads: &R,
+    words: &Vec<String>,
+    is_long: bool,
+    source: &mut S,
+) -> ViewEnd {
     let Ok(mut sink) = StdSink::new(rt.alloc(), rt.stdout(), GATHERED) else {
         return ViewEnd::NoMemory;
     };
-    let end = view(rt.alloc(), words, source, &mut sink);
+    let end = tell_time_while(rt, threads, "lwpview", is_long, || {
+        view(rt.alloc(), words, source, &mut sink)
+    });
     match sink.finish() {
         Ok(()) => end,
         Err(Failed) => ViewEnd::WriteFault,
