@@ -83,7 +83,7 @@ pub fn tell_time_while<T, F: FnOnce() -> T, R: Threads + Wait + Sync>(
         move || tell_time(rt, threads, program, whole),
         move || -> T
             requires { F.pre work }
-            ensures { F.post work.entry result }
+            ensures { F.post work result }
         {
             let result = work();
             whole.end();
