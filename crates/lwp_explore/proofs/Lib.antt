@@ -2,3 +2,10 @@ pub mod Alike
 pub mod Turns
 pub mod Reached
 pub mod Played
+pub mod CycleLaws
+pub mod WayLaws
+pub mod PostLaws
+pub mod LineLaws
+pub mod ListingLaws
+pub mod EndingLaws
+pub mod QuietLaws

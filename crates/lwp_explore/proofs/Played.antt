@@ -76,30 +76,30 @@ other_rest c d other (x ∷ lines) = by (eqb x.client c) refl (other_rest c d ot
         ap (λ b. cond b (x ∷ of d lines) (of d lines)) (sym (ne_eqb x.client d (λ is. other (sym is ∙ at))))
     by false e h = ap (λ l. cond (eqb x.client d) (x ∷ l) l) h
 
-some_is : {A : Type 0} {x y : A} → Some x ≡ Some y → x ≡ y
+pub some_is : {A : Type 0} {x y : A} → Some x ≡ Some y → x ≡ y
 some_is e = cc
 
 module _ {B : Type 0} (world : World B) where
   -- ---- what a step is
 
-  record TakeStep (core to : Core B) : Type 0 where
-    client : ℕ
-    line : Line
-    within : client < length world.events
-    next : next_line world core client ≡ Some line
-    may : is_takeable core.pod (slice_index world.events client) ≡ true
-    leads : (take_made world core client (record { turn = 0; event = slice_index world.events client; line = line })).to ≡ to
+  pub record TakeStep (core to : Core B) : Type 0 where
+    pub client : ℕ
+    pub line : Line
+    pub within : client < length world.events
+    pub next : next_line world core client ≡ Some line
+    pub may : is_takeable core.pod (slice_index world.events client) ≡ true
+    pub leads : (take_made world core client (record { turn = 0; event = slice_index world.events client; line = line })).to ≡ to
 
-  record CallStep (core to : Core B) : Type 0 where
-    due : has_turn core.pod.state ≡ true
-    leads : (call_made world core).to ≡ to
+  pub record CallStep (core to : Core B) : Type 0 where
+    pub due : has_turn core.pod.state ≡ true
+    pub leads : (call_made world core).to ≡ to
 
   -- these are the events of clients, from this one on
-  abbrev AreEvents : ℕ → List ℕ → Type 0
+  abbrev pub AreEvents : ℕ → List ℕ → Type 0
   AreEvents from events = (k : ℕ) → k < length events → (from + k < length world.events) × (slice_index world.events (from + k) ≡ slice_index events k)
 
   -- a step to this core is a take, or is among these others
-  abbrev IsTakeOr : Core B → Core B → List (Step B) → Type 0
+  abbrev pub IsTakeOr : Core B → Core B → List (Step B) → Type 0
   IsTakeOr core to more = TakeStep core to ⊎ ((j : ℕ) × (slice_get (map (λ (s : Step B). s.to) more) j ≡ Some to))
 
   one_take : (core to : Core B) (c e : ℕ) → c < length world.events → slice_index world.events c ≡ e → (later more : List (Step B))
@@ -124,7 +124,7 @@ module _ {B : Type 0} (world : World B) where
       by_may true may (suc i) h = rest i h
       by_may false may i h = rest i h
 
-  take_is : (core : Core B) (from : ℕ) (events : List ℕ) → AreEvents from events → (more : List (Step B)) (i : ℕ) (to : Core B)
+  pub take_is : (core : Core B) (from : ℕ) (events : List ℕ) → AreEvents from events → (more : List (Step B)) (i : ℕ) (to : Core B)
       → slice_get (map (λ (s : Step B). s.to) (takes_from world core from events ++ more)) i ≡ Some to → IsTakeOr core to more
   take_is core from [] are more i to h = inr (i, h)
   take_is core from (e ∷ events) are more i to h =
@@ -137,7 +137,7 @@ module _ {B : Type 0} (world : World B) where
       more i to h)
       (next_line world core from) refl i h
 
-  call_is : (core to : Core B) (j : ℕ) → slice_get (map (λ (s : Step B). s.to) (calls_at world core)) j ≡ Some to → CallStep core to
+  pub call_is : (core to : Core B) (j : ℕ) → slice_get (map (λ (s : Step B). s.to) (calls_at world core)) j ≡ Some to → CallStep core to
   call_is core to j h = by (has_turn core.pod.state) refl j h
     where
       by : (b : Bool) → has_turn core.pod.state ≡ b → (j : ℕ) → slice_get (map (λ (s : Step B). s.to) (if b then call_made world core ∷ [] else [])) j ≡ Some to
@@ -146,7 +146,7 @@ module _ {B : Type 0} (world : World B) where
       by true due (suc j) h = absurd cc
       by false due j h = absurd cc
 
-  step_is : (core to : Core B) (i : ℕ) → slice_get (after world core) i ≡ Some to → TakeStep core to ⊎ CallStep core to
+  pub step_is : (core to : Core B) (i : ℕ) → slice_get (after world core) i ≡ Some to → TakeStep core to ⊎ CallStep core to
   step_is core to i h = elim (take_is core 0 world.events (λ k w. (let at : 0 + k
       ≡ k = omega arith in (omega (arith, w), ap (λ n. slice_index world.events n) at))) (calls_at world core) i to h) [
         | inl take ↦ inl take

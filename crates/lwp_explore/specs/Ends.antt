@@ -1,5 +1,7 @@
 -- What is said of the ends of a program's sessions.
 use Rattle.lwp_explore.specs.Cores.{World, after, first_core}
+use Rattle.lwp_explore.specs.KindCodes.{kind_code}
+use Rattle.lwp_explore.specs.KindText.{is_bad, kind_name}
 use Rattle.lwp_explore.specs.Kinds.{IsOfKind}
 use Rattle.lwp_explore.specs.Ways.{length_text, way}
 use Rattle.lwp_explore.specs.declared.kinds.End.{End}
@@ -14,7 +16,7 @@ use Rattle.state_text.specs.Waiting.{cycles}
 use Rattle.std.specs.List.{count_by, filter, flat_map, list_any, position, sum_by}
 use Rattle.std.specs.Option.{option_map_or}
 use Rattle.std.specs.Prelude.{Bool, List, None, Option, Some, [], codes, decimal, false, if◌then◌else◌, length}
-use Rattle.std.specs.Prelude.{not, slice_get, true, unwrap_or, ℕ, ◌*◌, ◌++◌, ◌+◌, ◌==◌, ◌∷◌, ◌||◌, ◌≡◌, ◌≤◌}
+use Rattle.std.specs.Prelude.{not, slice_get, true, unwrap_or, ℕ, ◌++◌, ◌==◌, ◌∷◌, ◌≡◌, ◌≤◌}
 
 -- ---- what a search finds
 
@@ -53,14 +55,8 @@ pub record IsSearched {B : Type 0} (world : World B) (limit : ℕ) (found : Sear
 
 -- ---- its kinds
 
--- a number for each kind
-abbrev pub end_number : End → ℕ
-end_number (end.Ended status) = status
-end_number end.Stuck = 100
-end_number end.Endless = 101
-
 abbrev pub is_kind : Kind → Kind → Bool
-is_kind a b = 2 * end_number a.end + (if a.left then 1 else 0) == 2 * end_number b.end + (if b.left then 1 else 0)
+is_kind a b = kind_code a == kind_code b
 
 -- a core of this kind
 abbrev pub has_kind : Kind → Option Kind → Bool
@@ -73,14 +69,6 @@ kinds_in (None ∷ kinds) = kinds_in kinds
 kinds_in (Some kind ∷ kinds) = kind ∷ filter (λ other. not (is_kind kind other)) (kinds_in kinds)
 
 -- ---- as a text
-
-abbrev pub end_name : End → List ℕ
-end_name (end.Ended status) = codes "ended " ++ decimal status
-end_name end.Stuck = codes "stuck"
-end_name end.Endless = codes "endless"
-
-abbrev pub kind_name : Kind → List ℕ
-kind_name kind = end_name kind.end ++ (if kind.left then codes " with lines left" else [])
 
 -- the deadlocks of a core where nobody may run
 abbrev pub cycles_text : {B : Type 0} → End → Core B → List ℕ
@@ -105,10 +93,6 @@ abbrev pub ends_text : {B : Type 0} → World B → Searched B → List ℕ
 ends_text world found = counts_line found ++ flat_map (kind_line world found) (kinds_in found.kinds)
 
 -- ---- the status
-
--- an end other than that of a pod with no line left
-abbrev pub is_bad : Kind → Bool
-is_bad kind = if kind.left then true else end_number kind.end == 100 || end_number kind.end == 101
 
 abbrev pub ends_status : {B : Type 0} → Searched B → ℕ
 ends_status found = if list_any is_bad (kinds_in found.kinds) then 109 else if found.whole then 0 else 110

@@ -3,5 +3,16 @@ pub mod Sessions
 pub mod CoreLaws
 pub mod Kinds
 pub mod Ways
+pub mod KindText
+pub mod Texts
+pub mod Words
 pub mod Ends
+pub mod KindCodes
 pub mod Searching
+pub mod Lines
+pub mod Posts
+pub mod Cycles
+pub mod Listing
+pub mod Quiet
+pub mod Endings
+pub mod Rounds

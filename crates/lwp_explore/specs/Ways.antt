@@ -5,8 +5,8 @@ use Rattle.pod_runner.specs.Trace.{made_lines}
 use Rattle.session_cores.specs.Core.{Core}
 use Rattle.std.specs.List.{count_by, flat_map}
 use Rattle.std.specs.Option.{option_map_or}
-use Rattle.std.specs.Prelude.{List, [], codes, decimal, is_none, is_some, slice_get, ℕ, ◌++◌, ◌∷◌, ◌≡◌, ◌⊎◌}
-use Rattle.trace_text.specs.Lines.{end_text, ended_line}
+use Rattle.std.specs.Prelude.{List, [], codes, decimal, is_none, is_some, slice_get, ℕ, ◌++◌, ◌∷◌}
+use Rattle.trace_text.specs.Lines.{end_text}
 
 -- the steps of these numbers, from a core on, as far as there are such steps
 abbrev pub steps_along : {B : Type 0} → World B → Core B → List ℕ → List (Step B)
@@ -33,15 +33,3 @@ tail_of world core = option_map_or (end_text 0 (lines_left world core)) (halt_of
 -- what these steps write
 abbrev pub way_text : {B : Type 0} → List (List ℕ) → List (Step B) → List ℕ
 way_text procs steps = flat_map (step_lines procs) steps
-
--- one of these lines is this one
-pub record HasLine (text line : List ℕ) : Type 0 where
-  pub before : List ℕ
-  pub after : List ℕ
-  pub there : text ≡ before ++ (ended_line line ++ after)
-  -- it begins where another ends, or where the text does
-  pub begins : (before ≡ []) ⊎ ((earlier : List ℕ) × (before ≡ earlier ++ 10 ∷ []))
-
--- a step writes the line, or the session ends with it then
-abbrev pub Writes : {B : Type 0} → World B → List (List ℕ) → List ℕ → Step B → Type 0
-Writes world procs line step = HasLine (step_lines procs step ++ tail_of world step.to) line

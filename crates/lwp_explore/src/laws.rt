@@ -1,5 +1,7 @@
 // What holds of every core. There is no code here: the clauses are laws.
 ghost use Rattle.lwp_explore.specs.CoreLaws.{CallsAlike, CoresHaveSessions, SessionsHaveCores, TakesAlike};
+ghost use Rattle.lwp_explore.specs.Endings.{SessionsEnd};
+ghost use Rattle.lwp_explore.specs.Rounds.{CyclesAreEndless, EndlessAreCycles};
 
 use lwp_types::Body;
 
@@ -21,4 +23,16 @@ pub fn every_session_core<B: Body>()
 /// Each core that steps lead to is the core of such a session, with a call or a take for each step.
 pub fn every_core_session<B: Body>()
     ensures { CoresHaveSessions B }
+{}
+
+/// Where all cores were found, and none of them is stuck or goes on for ever, each session ends, with a status that is listed, as long as
+/// its lines keep coming: wherever a line can be taken, some line is taken there or later.
+pub fn every_session_ends<B: Body>()
+    ensures { SessionsEnd B }
+{}
+
+/// The cores that calls alone lead back to, over cores where a call is the only step, are those that are endless.
+pub fn every_round<B: Body>()
+    ensures sound { CyclesAreEndless B }
+    ensures all { EndlessAreCycles B }
 {}

@@ -2,26 +2,31 @@
 use Rattle.search.proofs.Parents.{path_step}
 use Rattle.search.proofs.PathLemmas.{split_le}
 use Rattle.search.proofs.Places.{get_cases, get_last, get_left, get_within}
-use Rattle.search.proofs.SeenLemmas.{place_seen, seen_place, seen_push}
 use Rattle.search.proofs.Walks.{walk_push}
-use Rattle.search.specs.Found.{Has, HasParentsBelow, IsDistinct, IsSound, cores_of, led_to, path_of, with_row}
-use Rattle.search.specs.Known.{AreTried, ComesBefore, ComesUpTo, Grows, HasRowsInOrder, HasRowsUpTo, IsFound, IsKnown, IsTried, IsUpTo}
+use Rattle.search.specs.Found.{ComesBefore, Has, HasParentsBelow, IsDistinct, IsSound, cores_of, led_to, path_of, with_row}
+use Rattle.search.specs.Known.{AreKeysOf, AreTried, ComesUpTo, Keeps, HasRowsInOrder, HasRowsUpTo, IsFound, IsKnown, IsTried, IsUpTo}
 use Rattle.search.specs.Moves.{IsReachable, KeysDiffer, Moves, walk}
-use Rattle.search.specs.Seen.{Adds, is_seen}
+use Rattle.search.specs.Seen.{Adds, number_of}
 use Rattle.search.specs.declared.found.Row.{Row}
-use Rattle.std.proofs.Common.{List, None, Option, Some, [], ap, arith, false, inl, inr, length, map, refl, subst, suc, sym, true, true≢false, zero}
+use Rattle.std.proofs.Common.{Bool, List, None, Option, Some, [], ap, arith, cond, false, inl, inr, length, refl, subst, suc, sym, true, true≢false, zero}
 use Rattle.std.proofs.Common.{ℕ, ◌++◌, ◌+◌, ◌<◌, ◌∙◌, ◌∷◌, ◌≡◌, ◌≤◌}
 use Rattle.std.proofs.lemmas.Grind.{fold-append}
-use Rattle.std.proofs.lemmas.List.{length-append, map-append}
+use Rattle.std.proofs.lemmas.List.{length-append}
 use Rattle.std.proofs.lemmas.Option.{slice_get_within}
+use Rattle.std.specs.Cmp.Lexicographic.{bytes_decides}
 use Rattle.std.specs.List.{fold}
-use Rattle.std.specs.Prelude.{option_and_then, slice_get, unwrap_or, ◌||◌}
+use Rattle.std.specs.Prelude.{MatchOption, option_and_then, slice_get, unwrap_or}
 use Rattle.std.specs.Str.{bytes_eq}
 
 pub some_same : {X : Type 0} {x y : X} → Some x ≡ Some y → x ≡ y
 some_same e = cc
 
 module _ {C : Type 0} (moves : Moves C) where
+  -- what a key's number says
+  abbrev KeyAt : List C → List ℕ → Option ℕ → Type 0
+  KeyAt cores key o = MatchOption o ((at : ℕ) (core : C) → slice_get cores at ≡ Some core → moves.key core ≡ key → ⊥)
+      (λ at. (core : C) × (slice_get cores at ≡ Some core) × (moves.key core ≡ key))
+
   fold_length : (cores : List C) (rows : List Row) → length (fold (with_row moves) cores rows) ≡ length cores + length rows
   fold_length cores [] = omega arith
   fold_length cores (row ∷ rows) = omega (
@@ -71,7 +76,7 @@ module _ {C : Type 0} (moves : Moves C) where
     | inr k ↦ before i s (h.0, (λ back. absurd (omega (arith, k, back))))
   ]
 
-  module _ (rows : List Row) (seen : List (List ℕ)) (known : IsKnown moves rows seen) where
+  module _ (rows : List Row) (seen : List (List ℕ × ℕ)) (known : IsKnown moves rows seen) where
     -- ---- paths by parents
     path_leads : (n at : ℕ) (core : C) → at ≤ n → slice_get (cores_of moves rows) at ≡ Some core
         → walk moves.after moves.first (path_of rows at) ≡ Some core
@@ -92,17 +97,18 @@ module _ {C : Type 0} (moves : Moves C) where
 
     -- ---- a core that was seen, or was not
     module _ (to : C) where
-      pub not_seen : is_seen seen (moves.key to) ≡ false → Has (cores_of moves rows) to → ⊥
-      not_seen h there = true≢false (sym (place_seen moves.key (cores_of moves rows) there.0 to there.1) ∙ sym (known.keys (moves.key to)) ∙ h)
+      pub not_seen : number_of seen (moves.key to) ≡ None → Has (cores_of moves rows) to → ⊥
+      not_seen h there = subst (λ o. KeyAt (cores_of moves rows) (moves.key to) o) h (known.keys (moves.key to)) there.0 to there.1 refl
 
-      pub was_seen : KeysDiffer moves → IsReachable moves to → is_seen seen (moves.key to) ≡ true → Has (cores_of moves rows) to
-      was_seen differ reached h =
-          let place = seen_place moves.key (moves.key to) (cores_of moves rows) (sym (known.keys (moves.key to)) ∙ h) in
-          let same : to ≡ place.1 = differ to place.1 reached (path_of rows place.0, is_sound place.0 place.1 place.2) place.3 in
-          (place.0, place.2 ∙ ap (λ c. Some c) (sym same))
+      pub was_seen : KeysDiffer moves → IsReachable moves to → (number : ℕ) → number_of seen (moves.key to) ≡ Some number
+          → slice_get (cores_of moves rows) number ≡ Some to
+      was_seen differ reached number h =
+          let place = subst (λ o. KeyAt (cores_of moves rows) (moves.key to) o) h (known.keys (moves.key to)) in
+          let same : to ≡ place.0 = differ to place.0 reached (path_of rows number, is_sound number place.0 place.1) (sym place.2) in
+          place.1 ∙ ap (λ c. Some c) (sym same)
 
     -- ---- what was found stays found
-    pub found_grows : (more : List Row) (number step : ℕ) (to : C) → Grows moves rows more → IsFound moves rows number step to
+    pub found_grows : (more : List Row) (number step : ℕ) (to : C) → Keeps moves rows more → IsFound moves rows number step to
         → IsFound moves more number step to
     found_grows more number step to grows found =
         let row = get_within rows found.at (omega (arith, as_many rows, slice_get_within (cores_of moves rows) found.at to found.there)) in
@@ -113,7 +119,7 @@ module _ {C : Type 0} (moves : Moves C) where
               subst (λ r. ComesUpTo r.parent r.step number step) (sym same) (found.early k row.0 is row.1));
         }
 
-    pub tried_grows : (more : List Row) (number step : ℕ) → number < length rows → Grows moves rows more → IsTried moves rows number step
+    pub tried_grows : (more : List Row) (number step : ℕ) → number < length rows → Keeps moves rows more → IsTried moves rows number step
         → IsTried moves more number step
     tried_grows more number step within grows tried from to there leads =
         let core = get_within (cores_of moves rows) number (omega (arith, within, as_many rows)) in
@@ -121,10 +127,10 @@ module _ {C : Type 0} (moves : Moves C) where
         found_grows more number step to grows (tried from to (core.1 ∙ same) leads)
 
     -- ---- one row more
-    module _ (row : Row) (to : C) (seen' : List (List ℕ)) (latest : HasRowsUpTo rows row.parent row.step)
+    module _ (row : Row) (to : C) (seen' : List (List ℕ × ℕ)) (latest : HasRowsUpTo rows row.parent row.step)
         (tried : AreTried moves rows row.parent row.step)
         (led : led_to moves (cores_of moves rows) row ≡ Some to) (kind : row.kind ≡ moves.kind to)
-        (outside : is_seen seen (moves.key to) ≡ false) (adds : Adds seen seen' (moves.key to)) where
+        (outside : number_of seen (moves.key to) ≡ None) (adds : Adds seen seen' (moves.key to) (length rows)) where
       parent_within : row.parent < length rows
       parent_within = let from = led_from (cores_of moves rows) row to led in
           omega (arith, as_many rows, slice_get_within (cores_of moves rows) row.parent from.from from.parent)
@@ -162,6 +168,26 @@ module _ {C : Type 0} (moves : Moves C) where
         ]
       ]
 
+      keys_more : AreKeysOf moves (cores_of moves rows ++ to ∷ []) seen'
+      keys_more key = subst (λ o. KeyAt (cores_of moves rows ++ to ∷ []) key o) (sym (adds key)) (by (bytes_eq (moves.key to) key) refl)
+        where
+          by_old : (o : Option ℕ) → bytes_eq (moves.key to) key ≡ false → KeyAt (cores_of moves rows) key o
+              → KeyAt (cores_of moves rows ++ to ∷ []) key o
+          by_old None h none = λ at core there is. elim (get_cases (cores_of moves rows) to at core there) [
+            | inl k ↦ none at core k is
+            | inr k ↦ absurd (true≢false (sym ((bytes_decides (moves.key to) key).1 (ap moves.key (sym k.1) ∙ is)) ∙ h))
+          ]
+          by_old (Some n) h place = (place.0, get_left (cores_of moves rows) (to ∷ []) n place.0 place.1, place.2)
+
+          by : (b : Bool) → bytes_eq (moves.key to) key ≡ b
+              → KeyAt (cores_of moves rows ++ to ∷ []) key (cond b (Some (length rows)) (number_of seen key))
+          by true h = (
+            to,
+            ap (slice_get (cores_of moves rows ++ to ∷ [])) (sym (as_many rows)) ∙ get_last (cores_of moves rows) to,
+            (bytes_decides (moves.key to) key).0 h,
+          )
+          by false h = by_old (number_of seen key) h (known.keys key)
+
       apart_more : IsDistinct (cores_of moves rows ++ to ∷ [])
       apart_more i j core at_i at_j = elim (get_cases (cores_of moves rows) to i core at_i) [
         | inl h ↦ elim (get_cases (cores_of moves rows) to j core at_j) [
@@ -187,7 +213,7 @@ module _ {C : Type 0} (moves : Moves C) where
         ]
       ]
 
-      pub grows_more : Grows moves rows (rows ++ row ∷ [])
+      pub grows_more : Keeps moves rows (rows ++ row ∷ [])
       grows_more = record {
         rows = λ at r there. get_left rows (row ∷ []) at r there;
         cores = λ at core there. ap (λ cs. slice_get cs at) (cores_push rows row to led) ∙ get_left (cores_of moves rows) (to ∷ []) at core there;
@@ -222,10 +248,7 @@ module _ {C : Type 0} (moves : Moves C) where
             led = λ at r core there is. subst (λ cs. led_to moves cs r ≡ Some core) (sym cores) (led_more at r core there (ap (λ cs. slice_get cs
                 (suc at)) (sym cores) ∙ is));
             apart = subst (λ cs. IsDistinct cs) (sym cores) apart_more;
-            keys = λ key. adds key ∙ ap (λ b. bytes_eq key (moves.key to) || b) (known.keys key)
-                ∙ sym (ap (λ cs. is_seen (map moves.key cs) key) cores
-                ∙ ap (λ ks. is_seen ks key) (map-append moves.key (cores_of moves rows) (to ∷ []))
-                ∙ seen_push key (moves.key to) (map moves.key (cores_of moves rows)));
+            keys = subst (λ cs. AreKeysOf moves cs seen') (sym cores) keys_more;
             kinds = λ at r core there is. kinds_more at r core there (ap (λ cs. slice_get cs at) (sym cores) ∙ is);
             tried = tried_of;
           }

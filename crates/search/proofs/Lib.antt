@@ -6,4 +6,5 @@ pub mod Parents
 pub mod KnownLemmas
 pub mod Steps
 pub mod Order
+pub mod Tries
 pub mod VerdictLemmas

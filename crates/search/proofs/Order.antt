@@ -1,21 +1,22 @@
 -- What the rows of a search say, whether it is at its end or not.
-use Rattle.search.proofs.KnownLemmas.{as_many}
+use Rattle.search.proofs.KnownLemmas.{as_many, is_sound}
 use Rattle.search.proofs.Parents.{path_step}
 use Rattle.search.proofs.PathLemmas.{UpTo, before_left, before_none, before_last, before_short, before_strip, longer, numbers_rise, numbers_up_to}
 use Rattle.search.proofs.PathLemmas.{rises, split_le, up_to_before, up_to_left, up_to_trans}
 use Rattle.search.proofs.Places.{get_within}
-use Rattle.search.specs.Found.{HasBefore, IsFirst, IsInOrder, IsShortest, cores_of, path_of}
-use Rattle.search.specs.Known.{ComesBefore, IsFound, IsKnown}
+use Rattle.search.specs.Found.{ComesBefore, HasBefore, IsFirst, IsFirstMark, IsInOrder, IsNearestMark, IsShortest, cores_of, path_of}
+use Rattle.search.specs.Known.{IsFound, IsKnown}
+use Rattle.search.specs.declared.found.Place.{Place}
 use Rattle.search.specs.Moves.{IsPath, Moves, walk}
 use Rattle.search.specs.Paths.{IsBefore}
 use Rattle.search.specs.declared.found.Row.{Row}
-use Rattle.std.proofs.Common.{List, None, Option, Some, [], ap, append_assoc, arith, inl, inr, length, refl, subst, suc, sym, zero, ℕ, ◌++◌, ◌+◌}
+use Rattle.std.proofs.Common.{List, None, Option, Some, [], ap, append_assoc, arith, inl, inr, length, refl, subst, suc, sym, true≢false, zero, ℕ, ◌++◌, ◌+◌}
 use Rattle.std.proofs.Common.{◌<◌, ◌∙◌, ◌∷◌, ◌≡◌, ◌≤◌}
 use Rattle.std.proofs.lemmas.List.{append-nil, length-append}
 use Rattle.std.proofs.lemmas.Option.{slice_get_within}
 use Rattle.std.specs.Prelude.{option_and_then, slice_get}
 
-module _ {C : Type 0} (moves : Moves C) (rows : List Row) (seen : List (List ℕ)) (known : IsKnown moves rows seen) (path : ℕ
+module _ {C : Type 0} (moves : Moves C) (rows : List Row) (seen : List (List ℕ × ℕ)) (known : IsKnown moves rows seen) (path : ℕ
     → List ℕ) (none : path zero ≡ [])
     (next : (at : ℕ) (row : Row) → slice_get rows (suc at) ≡ Some row → path (suc at) ≡ path row.parent ++ row.step ∷ []) where
   -- a core at this place, whose path does not come after this one
@@ -121,7 +122,7 @@ module _ {C : Type 0} (moves : Moves C) (rows : List Row) (seen : List (List ℕ
         near.there,
       )
 
-module _ {C : Type 0} (moves : Moves C) (rows : List Row) (seen : List (List ℕ)) (known : IsKnown moves rows seen) where
+module _ {C : Type 0} (moves : Moves C) (rows : List Row) (seen : List (List ℕ × ℕ)) (known : IsKnown moves rows seen) where
   next_of : (at : ℕ) (row : Row) → slice_get rows (suc at) ≡ Some row → path_of rows (suc at) ≡ path_of rows row.parent ++ row.step ∷ []
   next_of at row there = (path_step rows known.below (suc at) row (omega arith) there).0
 
@@ -144,3 +145,16 @@ module _ {C : Type 0} (moves : Moves C) (rows : List Row) (seen : List (List ℕ
     | inr k ↦ before_short (path_of rows i) (path_of rows j) (rises rows known.below known.in_order (path_of rows) refl next_of j i j
         (omega arith) k within)
   ]
+
+  -- an earlier path to a step that is looked for would be to an earlier such step
+  pub is_nearest : (place : Place) → IsFirstMark moves (cores_of moves rows) place → IsNearestMark moves rows place
+  is_nearest place mark way core step led within marked before =
+      let inside : place.core < length rows = omega (arith, as_many moves rows, slice_get_within (cores_of moves rows) place.core mark.from mark.there) in
+      let earlier : (at : ℕ) → ComesBefore at step place.core place.step → slice_get (cores_of moves rows) at ≡ Some core → ⊥ =
+      λ at comes there. true≢false (sym marked ∙ mark.before at step core comes there within) in
+      elim (before_strip way (path_of rows place.core) step place.step before) [
+        | inl h ↦ (let has = is_first place.core way core inside led h in
+            earlier has.0 (omega (arith, has.1), (λ back. absurd (omega (arith, has.1, back)))) has.2)
+        | inr h ↦ earlier place.core (omega arith, (λ _. h.1)) (mark.there
+            ∙ sym (is_sound moves rows seen known place.core mark.from mark.there) ∙ ap (walk moves.after moves.first) (sym h.0) ∙ led)
+      ]

@@ -1,6 +1,6 @@
 -- The order of paths, and the numbers of rows.
-use Rattle.search.specs.Found.{HasParentsBelow}
-use Rattle.search.specs.Known.{ComesBefore, HasRowsInOrder}
+use Rattle.search.specs.Found.{ComesBefore, HasParentsBelow}
+use Rattle.search.specs.Known.{HasRowsInOrder}
 use Rattle.search.specs.Paths.{IsBefore, IsLower}
 use Rattle.search.specs.declared.found.Row.{Row}
 use Rattle.search.proofs.Places.{get_within}

@@ -1,10 +1,12 @@
 -- Which cores the rows of a search mean, and what is said of them.
 use Rattle.search.specs.Moves.{IsPath, IsReachable, Moves}
 use Rattle.search.specs.Paths.{IsBefore}
+use Rattle.search.specs.declared.found.Place.{Place}
 use Rattle.search.specs.declared.found.Row.{Row}
 use Rattle.std.specs.List.{fold}
 use Rattle.std.specs.Option.{option_map_or}
-use Rattle.std.specs.Prelude.{length, List, Option, Some, [], option_and_then, slice_get, suc, unwrap_or, zero, ℕ, ◌++◌, ◌+◌, ◌∷◌, ◌≡◌, ◌≤◌, ◌<◌}
+use Rattle.std.specs.Prelude.{Bool, List, None, Option, Some, [], false, is_some, length, option_and_then, slice_get, suc, true, unwrap_or, zero, ℕ}
+use Rattle.std.specs.Prelude.{◌&&◌, ◌++◌, ◌+◌, ◌-◌, ◌∷◌, ◌≡◌, ◌≤◌, ◌<◌}
 
 -- ---- paths by parents
 
@@ -25,6 +27,16 @@ path_of rows at = path_over at rows at
 -- what was found later is no nearer to the first row
 abbrev pub IsInOrder : List Row → Type 0
 IsInOrder rows = (i j : ℕ) → i ≤ j → j < length rows → length (path_of rows i) ≤ length (path_of rows j)
+
+-- ---- steps
+
+-- this step of this core comes before that step of that core
+abbrev pub ComesBefore : ℕ → ℕ → ℕ → ℕ → Type 0
+ComesBefore number step other that = (number ≤ other) × (other ≤ number → step < that)
+
+-- the search ended at the first step that is looked for
+abbrev pub is_stopped : Bool → Option Place → Bool
+is_stopped until marked = until && is_some marked
 
 -- ---- the cores
 
@@ -91,3 +103,43 @@ module _ {C : Type 0} where
     pub inside : Has cores from
     pub leads : slice_get (moves.after from) step ≡ Some to
     pub outside : Has cores to → ⊥
+
+  -- ---- the last steps, where each leads
+
+  -- where the last step from a core leads, if it has a step
+  abbrev pub last_step : Moves C → C → Option C
+  last_step moves core = slice_get (moves.after core) (length (moves.after core) - 1)
+
+  -- it leads to the core of this number, or to none of them
+  abbrev pub IsLast : Moves C → List C → C → Option ℕ → Type 0
+  IsLast moves cores core None = (to : C) → last_step moves core ≡ Some to → Has cores to → ⊥
+  IsLast moves cores core (Some number) = (to : C) × (last_step moves core ≡ Some to) × (slice_get cores number ≡ Some to)
+
+  -- so it does from each core that was gone from
+  abbrev pub HasLasts : Moves C → List C → List (Option ℕ) → Type 0
+  HasLasts moves cores lasts = (at : ℕ) (core : C) (last : Option ℕ) → slice_get cores at ≡ Some core → slice_get lasts at ≡ Some last
+      → IsLast moves cores core last
+
+  -- ---- the steps that are looked for
+
+  -- none leads on from the cores
+  abbrev pub HasNoMark : Moves C → List C → Type 0
+  HasNoMark moves cores = (core : C) (step : ℕ) → Has cores core → step < length (moves.after core) → moves.marks core step ≡ false
+
+  -- none comes before this step of the core of this number
+  abbrev pub HasNoMarkBefore : Moves C → List C → ℕ → ℕ → Type 0
+  HasNoMarkBefore moves cores number step = (i s : ℕ) (core : C) → ComesBefore i s number step → slice_get cores i ≡ Some core
+      → s < length (moves.after core) → moves.marks core s ≡ false
+
+  -- this one is the first
+  pub record IsFirstMark (moves : Moves C) (cores : List C) (place : Place) : Type 0 where
+    pub from : C
+    pub there : slice_get cores place.core ≡ Some from
+    pub within : place.step < length (moves.after from)
+    pub marked : moves.marks from place.step ≡ true
+    pub before : HasNoMarkBefore moves cores place.core place.step
+
+  -- no path that ends in one comes before that to the core and this step
+  abbrev pub IsNearestMark : Moves C → List Row → Place → Type 0
+  IsNearestMark moves rows place = (path : List ℕ) (core : C) (step : ℕ) → IsPath moves path core → step < length (moves.after core)
+      → moves.marks core step ≡ true → IsBefore (path ++ step ∷ []) (path_of rows place.core ++ place.step ∷ []) → ⊥

@@ -6,5 +6,3 @@ pub mod Known
 pub mod Reach
 pub mod Verdicts
 pub mod Toy
-pub mod Codes
-pub mod CodeLaws

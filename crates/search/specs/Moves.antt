@@ -1,13 +1,14 @@
 -- What a machine can do, and where that leads.
-use Rattle.std.specs.Prelude.{List, Option, Some, [], option_and_then, slice_get, ℕ, ◌∷◌, ◌≡◌}
+use Rattle.std.specs.Prelude.{Bool, List, Option, Some, [], option_and_then, slice_get, ℕ, ◌∷◌, ◌≡◌}
 
--- where a machine begins, where the steps from each core lead, in order, the bytes that encode a core, and a core's
--- kind if it has one
+-- where a machine begins, where the steps from each core lead, in order, the bytes that encode a core, a core's
+-- kind if it has one, and which steps from a core are looked for
 pub record Moves (C : Type 0) : Type 0 where
   pub first : C
   pub after : C → List C
   pub key : C → List ℕ
   pub kind : C → Option ℕ
+  pub marks : C → ℕ → Bool
 
 -- where the steps of these numbers lead from a core, if there are such steps
 abbrev pub walk : {C : Type 0} → (C → List C) → C → List ℕ → Option C

@@ -11,13 +11,14 @@ up n = if nat_lt n 9 then n + 1 else 0
 abbrev pub twice : ℕ → ℕ
 twice n = if nat_lt n 5 then n + n else n
 
--- two steps from each number, and 9 has a kind
+-- two steps from each number, 9 has a kind, and a step to 8 is looked for
 abbrev pub toy : Moves ℕ
 toy = record {
   first = 0;
   after = λ n. up n ∷ twice n ∷ [];
   key = λ n. n ∷ [];
   kind = λ n. if n == 9 then Some 3 else None;
+  marks = λ n step. (if step == 0 then up n else twice n) == 8;
 }
 
 pub toy_differs : KeysDiffer toy

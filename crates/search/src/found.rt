@@ -19,8 +19,19 @@ pub struct Row {
 pub struct Found {
     pub rows: Vec<Row>,
     pub whole: bool,
-    /// How many steps lead on from these cores, or `u64::MAX` if they are more.
+    /// How many steps lead on from the cores that were gone from, or `u64::MAX` if they are more.
     pub tried: u64,
+    /// Of each core that was gone from, the core to which the last of its steps leads, if it has a step, and that core is among these.
+    pub lasts: Vec<Option<usize>>,
+    /// The first step that is looked for, if there is one.
+    pub marked: Option<Place>,
+}
+
+/// A step from a core, by the core's number.
+#[derive(Clone, Copy, Debug, PartialEq, Eq)]
+pub struct Place {
+    pub core: usize,
+    pub step: u32,
 }
 
 /// The numbers of the steps that lead from the first core to that of this number.

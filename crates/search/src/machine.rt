@@ -25,11 +25,12 @@ pub trait Machine: Drop {
     fn steps(&self) -> Result<u32, NoMemory>
         ensures { IfOk result (λ n. n ≡ length ((moves self.now).after (core self.now))) };
 
-    /// Goes one of these steps, by its number from 0.
-    fn step(&mut self, number: u32) -> Result<(), NoMemory>
+    /// Goes one of these steps, by its number from 0. Answers whether it is a step that is looked for.
+    fn step(&mut self, number: u32) -> Result<bool, NoMemory>
         requires { number < length ((moves self.old).after (core self.old)) }
         ensures same { OnOk result (moves self.new ≡ moves self.old) }
-        ensures there { OnOk result (slice_get ((moves self.old).after (core self.old)) number ≡ Some (core self.new)) };
+        ensures there { OnOk result (slice_get ((moves self.old).after (core self.old)) number ≡ Some (core self.new)) }
+        ensures marked { IfOk result (λ marked. marked ≡ (moves self.old).marks (core self.old) number) };
 
     /// Writes the bytes that encode the core, in place of what the buffer held.
     fn key(&self, key: &mut Vec<u8>) -> Result<(), NoMemory>

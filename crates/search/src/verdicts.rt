@@ -32,11 +32,16 @@ fn first_of_kind(rows: &[Row]) -> Option<usize>
 }
 
 /// Searches from where the machine stands, its first core, and tells the nearest core that fails. The steps of no core are taken
-/// again for that.
+/// again for that. Steps that are looked for don't end the search.
 pub fn judge<M: Machine>(alloc: Global, machine: &M, limits: Limits) -> Result<Verdict, NoMemory>
     requires begins { M.core machine.now ≡ (M.moves machine.now).first }
     ensures verdict { IfOk result (λ verdict. IsVerdict (M.moves machine.now) limits.cores verdict) }
 {
+    let limits = Limits {
+        cores: limits.cores,
+        copies: limits.copies,
+        until: false,
+    };
     let found = explore(alloc, machine, limits)?;
     match first_of_kind(&found.rows) {
         Some(number) => Ok(Verdict::Fails(path_to(alloc, &found.rows, number)?)),

@@ -1,123 +1,87 @@
-use Rattle.search.proofs.Steps.{moved, standing_grows, standing_more, step_cut, step_grows, step_has, step_known, step_seen, step_up_to}
-use Rattle.search.specs.Seen.{Adds, is_seen}
-use Rattle.std.proofs.Common.{ap, arith, length, refl, subst, sym, ◌∙◌}
+use Rattle.search.proofs.Steps.{same_grows, standing_grows, standing_more}
+use Rattle.search.proofs.Tries.{added_grows, added_has, added_keeps, added_knows, added_leads, full_knows, full_leads, seen_knows, seen_leads}
+use Rattle.search.specs.Known.{Knows, first_mark}
+use Rattle.search.specs.Seen.{Adds, number_of}
+use Rattle.search.specs.declared.found.Row.{Row}
+use Rattle.std.proofs.Common.{ap, arith, length, refl, subst, sym, ◌+◌, ◌<◌, ◌∙◌, ◌≤◌}
 use Rattle.search.proofs.breadth.try_step.Goals as goal
 
-pub returns-then-has-clause-up_to : goal.returns-then-has-clause-up_to
-returns-then-has-clause-up_to g c = λ _.
-    let moves = g.M.Machine.moves c.args.here.now in
-    let from = g.M.Machine.core c.args.here.now in
+pub returns-in-Some : goal.returns-in-Some
+returns-in-Some g c =
+    let moves = g.M.Machine.moves c.args.machine in
+    let from = g.M.Machine.core c.args.machine in
     let to = g.M.Machine.core c.step.new.self in
-    let step = moved moves from to (g.M.Machine.core c.in_ok-machine.machine) (g.M.Machine.moves c.in_ok-machine.machine)
-    (g.M.Machine.moves c.step.new.self) c.args.step
-    c.in_ok-machine.ensures.same c.in_ok-machine.ensures.there c.in_ok-step.ensures.same c.in_ok-step.ensures.there in
-    let key = c.in_ok-key.ensures ∙ ap (λ m. m.key to) step.1 in
-    step_seen moves c.args.search.now.rows.items c.args.search.now.seen c.args.at c.args.step from to c.requires.up_to c.requires.here step.0
-    (g.met.M.Machine.keys_differ c.args.here.now)
-    (ap (is_seen c.args.search.now.seen) (sym (c.deref.ensures.value ∙ key)) ∙ sym c.has.ensures ∙ c.if-has.true)
+    let old = c.args.search.now in
+    let leads = c.in_ok-is_marked.ensures.there in
+    let mark_is = c.mark-search.ensures ∙ ap (λ b. first_mark old.marked b c.args.at c.args.step) c.in_ok-is_marked.ensures.marked in
+    let key = c.in_ok-key.ensures ∙ ap (λ m. m.key to) c.in_ok-is_marked.ensures.same in
+    let found = ap (number_of old.seen) (sym (c.deref.ensures.value ∙ key)) ∙ sym c.find.ensures ∙ c.in-Some.is in
+    record {
+      knows = seen_knows moves old.rows.items old.seen old.whole old.marked c.mark-search.result old.limits.cores c.args.at c.args.step from to
+          c.requires.knows c.requires.here leads mark_is (g.met.M.Machine.keys_differ c.args.machine) c.in-Some.number found;
+      grows = same_grows moves old.limits.cores old.rows.items;
+      standing = c.requires.standing;
+      leads = seen_leads moves old.rows.items old.seen old.whole old.marked c.mark-search.result old.limits.cores c.args.at c.args.step from to
+          c.requires.knows c.requires.here leads mark_is (g.met.M.Machine.keys_differ c.args.machine) c.in-Some.number found;
+      limits = refl;
+      lasts = refl;
+    }
 
-pub returns-then-len-search-clause-cut : goal.returns-then-len-search-clause-cut
-returns-then-len-search-clause-cut g c = λ _.
-    let moves = g.M.Machine.moves c.args.here.now in
-    let from = g.M.Machine.core c.args.here.now in
+pub returns-then-len-search : goal.returns-then-len-search
+returns-then-len-search g c =
+    let moves = g.M.Machine.moves c.args.machine in
+    let from = g.M.Machine.core c.args.machine in
     let to = g.M.Machine.core c.step.new.self in
-    let step = moved moves from to (g.M.Machine.core c.in_ok-machine.machine) (g.M.Machine.moves c.in_ok-machine.machine)
-    (g.M.Machine.moves c.step.new.self) c.args.step
-    c.in_ok-machine.ensures.same c.in_ok-machine.ensures.there c.in_ok-step.ensures.same c.in_ok-step.ensures.there in
-    let key = c.in_ok-key.ensures ∙ ap (λ m. m.key to) step.1 in
-    let further = ap (is_seen c.args.search.now.seen) (sym (c.deref.ensures.value ∙ key)) ∙ sym c.has.ensures ∙ c.if-has.false in
-    step_cut moves c.args.search.now.rows.items c.args.search.now.seen c.args.at c.args.step from to c.requires.up_to c.requires.here step.0
-    c.args.search.now.limits.cores further (omega (arith, c.if-len-search.true, c.len.ensures, c.args.search.now.rows.ok.0))
+    let old = c.args.search.now in
+    let leads = c.in_ok-is_marked.ensures.there in
+    let mark_is = c.mark-search.ensures ∙ ap (λ b. first_mark old.marked b c.args.at c.args.step) c.in_ok-is_marked.ensures.marked in
+    let key = c.in_ok-key.ensures ∙ ap (λ m. m.key to) c.in_ok-is_marked.ensures.same in
+    let further = ap (number_of old.seen) (sym (c.deref.ensures.value ∙ key)) ∙ sym c.find.ensures ∙ c.in_default.is in
+    let full : old.limits.cores ≤ length old.rows.items = omega (arith, c.if-len-search.true, c.len.ensures, old.rows.ok.0) in
+    record {
+      knows = full_knows moves old.rows.items old.seen old.whole old.marked c.mark-search.result old.limits.cores c.args.at c.args.step from to
+          c.requires.knows c.requires.here leads mark_is further full;
+      grows = same_grows moves old.limits.cores old.rows.items;
+      standing = c.requires.standing;
+      leads = full_leads moves old.rows.items old.seen old.whole old.marked c.mark-search.result old.limits.cores c.args.at c.args.step from to
+          c.requires.knows c.requires.here leads mark_is further full;
+      limits = refl;
+      lasts = refl;
+    }
 
-pub returns-clause-known : goal.returns-clause-known
-returns-clause-known g c =
-    let moves = g.M.Machine.moves c.args.here.now in
-    let from = g.M.Machine.core c.args.here.now in
+pub returns : goal.returns
+returns g c =
+    let moves = g.M.Machine.moves c.args.machine in
+    let from = g.M.Machine.core c.args.machine in
     let to = g.M.Machine.core c.step.new.self in
-    let step = moved moves from to (g.M.Machine.core c.in_ok-machine.machine) (g.M.Machine.moves c.in_ok-machine.machine)
-    (g.M.Machine.moves c.step.new.self) c.args.step
-    c.in_ok-machine.ensures.same c.in_ok-machine.ensures.there c.in_ok-step.ensures.same c.in_ok-step.ensures.there in
-    let key = c.in_ok-key.ensures ∙ ap (λ m. m.key to) step.1 in
-    let further = ap (is_seen c.args.search.now.seen) (sym (c.deref.ensures.value ∙ key)) ∙ sym c.has.ensures ∙ c.if-has.false in
-    let adds = subst (λ k. Adds c.args.search.now.seen c.add.new.search.seen k) key c.in_ok-add.ensures.seen in
-    let kind = ap (λ m. m.kind to) step.1 in
-    step_known moves c.args.search.now.rows.items c.args.search.now.seen c.args.at c.args.step from to c.requires.up_to c.requires.here step.0 further
-    (record {
-      parent = c.args.at;
-      step = c.args.step;
-      kind =
-          (g.M.Machine.moves c.step.new.self).kind to;
-    }) refl refl kind c.add.new.search.rows.items c.add.new.search.seen c.in_ok-add.ensures.rows adds
-
-pub returns-clause-grows : goal.returns-clause-grows
-returns-clause-grows g c =
-    let moves = g.M.Machine.moves c.args.here.now in
-    let from = g.M.Machine.core c.args.here.now in
-    let to = g.M.Machine.core c.step.new.self in
-    let step = moved moves from to (g.M.Machine.core c.in_ok-machine.machine) (g.M.Machine.moves c.in_ok-machine.machine)
-    (g.M.Machine.moves c.step.new.self) c.args.step
-    c.in_ok-machine.ensures.same c.in_ok-machine.ensures.there c.in_ok-step.ensures.same c.in_ok-step.ensures.there in
-    let key = c.in_ok-key.ensures ∙ ap (λ m. m.key to) step.1 in
-    let further = ap (is_seen c.args.search.now.seen) (sym (c.deref.ensures.value ∙ key)) ∙ sym c.has.ensures ∙ c.if-has.false in
-    let adds = subst (λ k. Adds c.args.search.now.seen c.add.new.search.seen k) key c.in_ok-add.ensures.seen in
-    let kind = ap (λ m. m.kind to) step.1 in
-    step_grows moves c.args.search.now.rows.items c.args.search.now.seen c.args.at c.args.step from to c.requires.up_to c.requires.here step.0 further
-    (record {
-      parent = c.args.at;
-      step = c.args.step;
-      kind =
-          (g.M.Machine.moves c.step.new.self).kind to;
-    }) refl refl kind c.add.new.search.rows.items c.add.new.search.seen c.in_ok-add.ensures.rows adds
-
-pub returns-clause-up_to : goal.returns-clause-up_to
-returns-clause-up_to g c = λ _.
-    let moves = g.M.Machine.moves c.args.here.now in
-    let from = g.M.Machine.core c.args.here.now in
-    let to = g.M.Machine.core c.step.new.self in
-    let step = moved moves from to (g.M.Machine.core c.in_ok-machine.machine) (g.M.Machine.moves c.in_ok-machine.machine)
-    (g.M.Machine.moves c.step.new.self) c.args.step
-    c.in_ok-machine.ensures.same c.in_ok-machine.ensures.there c.in_ok-step.ensures.same c.in_ok-step.ensures.there in
-    let key = c.in_ok-key.ensures ∙ ap (λ m. m.key to) step.1 in
-    let further = ap (is_seen c.args.search.now.seen) (sym (c.deref.ensures.value ∙ key)) ∙ sym c.has.ensures ∙ c.if-has.false in
-    let adds = subst (λ k. Adds c.args.search.now.seen c.add.new.search.seen k) key c.in_ok-add.ensures.seen in
-    let kind = ap (λ m. m.kind to) step.1 in
-    step_up_to moves c.args.search.now.rows.items c.args.search.now.seen c.args.at c.args.step from to c.requires.up_to c.requires.here step.0 further
-    (record {
-      parent = c.args.at;
-      step = c.args.step;
-      kind =
-          (g.M.Machine.moves c.step.new.self).kind to;
-    }) refl refl kind c.add.new.search.rows.items c.add.new.search.seen c.in_ok-add.ensures.rows adds
-
-pub returns-clause-standing : goal.returns-clause-standing
-returns-clause-standing g c =
-    let moves = g.M.Machine.moves c.args.here.now in
-    let from = g.M.Machine.core c.args.here.now in
-    let to = g.M.Machine.core c.step.new.self in
-    let step = moved moves from to (g.M.Machine.core c.in_ok-machine.machine) (g.M.Machine.moves c.in_ok-machine.machine)
-    (g.M.Machine.moves c.step.new.self) c.args.step
-    c.in_ok-machine.ensures.same c.in_ok-machine.ensures.there c.in_ok-step.ensures.same c.in_ok-step.ensures.there in
-    let key = c.in_ok-key.ensures ∙ ap (λ m. m.key to) step.1 in
-    let further = ap (is_seen c.args.search.now.seen) (sym (c.deref.ensures.value ∙ key)) ∙ sym c.has.ensures ∙ c.if-has.false in
-    let adds = subst (λ k. Adds c.args.search.now.seen c.add.new.search.seen k) key c.in_ok-add.ensures.seen in
-    let kind = ap (λ m. m.kind to) step.1 in
-    standing_more moves g.M.Machine.moves g.M.Machine.core c.add.new.search.rows.items c.args.search.now.waiting.items c.add.new.search.waiting.items
-    (length c.args.search.now.rows.items) c.step.new.self c.in_ok-add.ensures.joins step.1
-    (step_has moves c.args.search.now.rows.items c.args.search.now.seen c.args.at c.args.step from to c.requires.up_to
-    c.requires.here step.0 further
-    (record {
-      parent = c.args.at;
-      step = c.args.step;
-      kind =
-          (g.M.Machine.moves c.step.new.self).kind to;
-    }) refl refl kind c.add.new.search.rows.items c.add.new.search.seen c.in_ok-add.ensures.rows adds)
-    (standing_grows moves g.M.Machine.moves g.M.Machine.core c.args.search.now.rows.items c.add.new.search.rows.items
-    c.args.search.now.waiting.items (step_grows moves c.args.search.now.rows.items c.args.search.now.seen c.args.at c.args.step from to
-    c.requires.up_to c.requires.here step.0 further
-    (record {
-      parent = c.args.at;
-      step = c.args.step;
-      kind =
-          (g.M.Machine.moves c.step.new.self).kind to;
-    }) refl refl kind c.add.new.search.rows.items c.add.new.search.seen
-    c.in_ok-add.ensures.rows adds) c.requires.standing)
+    let old = c.args.search.now in
+    let new = c.add.new.search in
+    let added = c.in_ok-number.ensures in
+    let leads = c.in_ok-is_marked.ensures.there in
+    let mark_is = c.mark-search.ensures ∙ ap (λ b. first_mark old.marked b c.args.at c.args.step) c.in_ok-is_marked.ensures.marked in
+    let key = c.in_ok-key.ensures ∙ ap (λ m. m.key to) c.in_ok-is_marked.ensures.same in
+    let further = ap (number_of old.seen) (sym (c.deref.ensures.value ∙ key)) ∙ sym c.find.ensures ∙ c.in_default.is in
+    let room : length old.rows.items < old.limits.cores = omega (arith, c.if-len-search.false, c.len.ensures, old.rows.ok.0) in
+    let row : Row = record { parent = c.args.at; step = c.args.step; kind = (g.M.Machine.moves c.step.new.self).kind to } in
+    let kind = ap (λ m. m.kind to) c.in_ok-is_marked.ensures.same in
+    let adds = subst (λ k. Adds old.seen new.seen k (length old.rows.items)) key added.seen in
+    record {
+      knows = subst (λ m. Knows moves new.rows.items new.seen new.whole m old.limits.cores c.args.at (c.args.step + 1)) (sym added.marked)
+          (added_knows moves old.rows.items old.seen old.whole old.marked c.mark-search.result old.limits.cores c.args.at c.args.step from to
+          c.requires.knows c.requires.here leads mark_is further room row refl refl kind new.rows.items new.seen added.rows adds new.whole added.whole);
+      grows = added_grows moves old.rows.items old.seen old.whole old.marked c.mark-search.result old.limits.cores c.args.at c.args.step from to
+          c.requires.knows c.requires.here leads mark_is further room row refl refl kind new.rows.items new.seen added.rows adds;
+      standing = standing_more moves g.M.Machine.moves g.M.Machine.core new.rows.items old.waiting.items new.waiting.items
+          (length old.rows.items) c.step.new.self added.joins c.in_ok-is_marked.ensures.same
+          (added_has moves old.rows.items old.seen old.whole old.marked c.mark-search.result old.limits.cores c.args.at c.args.step from to
+          c.requires.knows c.requires.here leads mark_is further room row refl refl kind new.rows.items new.seen added.rows adds)
+          (standing_grows moves g.M.Machine.moves g.M.Machine.core old.rows.items new.rows.items old.waiting.items
+          (added_keeps moves old.rows.items old.seen old.whole old.marked c.mark-search.result old.limits.cores c.args.at c.args.step from to
+          c.requires.knows c.requires.here leads mark_is further room row refl refl kind new.rows.items new.seen added.rows adds)
+          c.requires.standing);
+      leads = added_leads moves old.rows.items old.seen old.whole old.marked c.mark-search.result old.limits.cores c.args.at c.args.step from to
+          c.requires.knows c.requires.here leads mark_is further room row refl refl kind new.rows.items new.seen added.rows adds
+          c.in_ok-number.number added.number;
+      limits = added.limits;
+      lasts = added.lasts;
+    }

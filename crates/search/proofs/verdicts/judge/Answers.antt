@@ -1,7 +1,7 @@
 use Rattle.search.proofs.VerdictLemmas.{failure, no_failure, too_much}
 use Rattle.search.specs.Found.{path_of}
 use Rattle.search.specs.Verdicts.{HasNoKind, IsFirstOfKind}
-use Rattle.std.proofs.Common.{ap, length, subst, sym, ◌<◌, ◌∙◌}
+use Rattle.std.proofs.Common.{ap, length, refl, subst, sym, ◌<◌, ◌∙◌}
 use Rattle.std.proofs.lemmas.Option.{slice_get_within}
 use Rattle.std.specs.Prelude.{MatchOption}
 use Rattle.search.proofs.verdicts.judge.Goals as goal
@@ -43,6 +43,6 @@ returns g c =
     record {
       verdict = too_much (g.M.Machine.moves c.args.machine.now) rows c.in_ok-found.ensures.kinds c.args.limits.cores c.in_ok-found.ensures.sound
           c.in_ok-found.ensures.distinct
-          (c.in_ok-found.ensures.cut c.if-found.false) (c.in_ok-found.ensures.full c.if-found.false) (subst (λ rs. HasNoKind rs
+          (c.in_ok-found.ensures.cut refl c.if-found.false) (c.in_ok-found.ensures.full refl c.if-found.false) (subst (λ rs. HasNoKind rs
           (length rs)) c.deref.ensures.value none);
     }
