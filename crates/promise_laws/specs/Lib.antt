@@ -1,0 +1,2 @@
+pub mod EachStep
+pub mod Waiters
