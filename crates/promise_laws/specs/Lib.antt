@@ -1,2 +1,4 @@
 pub mod EachStep
 pub mod Waiters
+pub mod Traps
+pub mod Reports
