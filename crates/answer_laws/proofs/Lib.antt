@@ -36,3 +36,5 @@ mod Knowing
 mod Writing
 mod Planning
 mod ScriptTexts
+mod Down
+mod Results

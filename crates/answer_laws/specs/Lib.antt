@@ -15,3 +15,5 @@ pub mod Births
 pub mod Known
 pub mod Written
 pub mod Scripts
+pub mod Down
+pub mod Results

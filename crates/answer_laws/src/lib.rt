@@ -6,6 +6,8 @@
 //! | in every session of every script, with names that are null at the opening, whenever lines are taken and whatever the other clients do: of a client's session and a store, whichever of the two is born first, the accepted replies to the session's agent are a first part of the answers to the lines delivered to that | `FromNullNames`, of any names `InEveryScript`, and of any bodies `InEverySession` (`specs/Births.antt`) |
 //! | so it is in every session of every script that bytes spell, and nothing is asked there of priorities, births or the lengths of lines | `SpeltClientsAreAnswered`, `SpeltClientsAreWritten`; `SpeltLinesAreShort`, `TakenLinesAreShort`, `SpeltBirthsAreFew` (`specs/Scripts.antt`) |
 //! | what `answers` writes of a client are the accepted replies to the agent of its event, if that has had one alone and one thread alone has replied to it, as its owner alone does; so of a client's session and a store it is a first part of the answers to the client's lines | `OwnersAloneReply`, `RepliesAreWritten`, `ClientsAreWritten`, and of plans `PlansAreSessions` (`specs/Written.antt`) |
+//! | so it is of what `answers_main` has written, from what it says of its session | `AnswersAreFirst` (`specs/Results.antt`) |
+//! | a session that sends to a store that isn't there is refused at once; and one that is refused says `down` by its next call | `SendsToTheGoneAreRefused`, `RefusedSessionsSayDown` (`specs/Down.antt`) |
 //! | so it is from any point of a session on at which the two begin, or the session after a store that has served others | `ClientsAreAnsweredInTurn`, `LaterClientsAreAnsweredInTurn`, and by moves from the opening on `InWholeSessions`, `SessionsAreReached` (`specs/Served.antt`) |
 //! | in every session of every script each name of a thread is null, or the number of somebody who was born; so a client's session sends to nobody else | `NullNamesAreKnown`, `NamesAreOfTheBorn`, `SessionsSendToTheBorn` (`specs/Known.antt`) |
 //! | a session and a store that talk, whatever others send to the store and whichever of them end: what the client is told is a first part of the answers to its lines | `TalksAreAnswers` (`specs/Talks.antt`) |
@@ -42,12 +44,14 @@ pub mod rows;
 
 ghost use Rattle.answer_laws.specs.Agents.{DeliveriesPassOthersBy, DeliveriesReachAgents, DestroyedAgentsAreGone, OthersLeaveAgents};
 ghost use Rattle.answer_laws.specs.Births.{FromNullNames, InEveryScript, InEverySession};
+ghost use Rattle.answer_laws.specs.Down.{RefusedSessionsSayDown, SendsToTheGoneAreRefused};
 ghost use Rattle.answer_laws.specs.Events.{PodsLeaveIt, TakesLeaveIt};
 ghost use Rattle.answer_laws.specs.Known.{NamesAreOfTheBorn, NullNamesAreKnown, SessionsSendToTheBorn};
 ghost use Rattle.answer_laws.specs.Lengths.{ShortLinesHaveShortAnswers};
 ghost use Rattle.answer_laws.specs.Owners.{OwnersOfNoneAreRefused, OwnersReceive, OwnersReply, SendsAreLetters};
 ghost use Rattle.answer_laws.specs.Owns.{LivingCallsAreEvents, OthersReplyNothing, PodsSessionsCallsAreEvents, PodsStoresCallsAreEvents};
 ghost use Rattle.answer_laws.specs.Replies.{EachHasOneLetter, ReadersLeaveTheRest, ReceivesAreTheLetters, RepliesAreTheAnswers};
+ghost use Rattle.answer_laws.specs.Results.{AnswersAreFirst};
 ghost use Rattle.answer_laws.specs.Scripts.{SpeltBirthsAreFew, SpeltClientsAreAnswered, SpeltClientsAreWritten, SpeltLinesAreShort, TakenLinesAreShort};
 ghost use Rattle.answer_laws.specs.Served.{ClientsAreAnsweredInTurn, InWholeSessions, LaterClientsAreAnsweredInTurn, SessionsAreReached};
 ghost use Rattle.answer_laws.specs.Sights.{DeliveriesLeaveIt, OthersLeaveIt};
@@ -300,4 +304,20 @@ pub fn every_call_of_the_session_in_a_pod()
 /// The answers to lines that have room in a letter have room in one.
 pub fn every_answer()
     ensures { ShortLinesHaveShortAnswers }
+{}
+
+/// A client's session that is refused by its store tells its client `down` by its next call, whatever the others do till then.
+pub fn every_refused_session<B: Body>()
+    ensures { RefusedSessionsSayDown B }
+{}
+
+/// Once its store isn't there, a client's session that sends to it is refused at once; so it says `down` by its next call.
+pub fn every_send_to_a_lost_store<B: Body>()
+    ensures { SendsToTheGoneAreRefused B }
+{}
+
+/// What `answers_main` has written, where it says that a session of a script came to its end, is a first part of the answers to the
+/// client's lines, by what it says of that session: nothing is asked of priorities, births or lengths of lines.
+pub fn every_result_of_answers()
+    ensures { AnswersAreFirst }
 {}
