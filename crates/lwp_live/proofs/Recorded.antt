@@ -1,7 +1,8 @@
 -- Scripts with the lines that were posted.
 use Rattle.event_gate.specs.Port.{of}
 use Rattle.lwp_live.specs.Laws.{HasPostTexts, RecordedPosts}
-use Rattle.lwp_live.specs.Recorded.{lines_of_client, recorded, with_arrival, with_line}
+use Rattle.lwp_live.specs.Reading.{with_line}
+use Rattle.lwp_live.specs.Recorded.{lines_of_client, recorded, with_arrival}
 use Rattle.lwp_live.specs.declared.arrival.Arrival.{Arrival}
 use Rattle.lwp_types.specs.declared.call.Line.{Line}
 use Rattle.script_text.specs.Script.{line_of, lines_posted}
@@ -27,7 +28,7 @@ count_if true x p xs ps h = omega (arith, h)
 count_if false x p xs ps h = h
 
 -- as many posts as lines
-same_count : (c : ℕ) (texts : List (List ℕ)) (posts : List Post) → lines_of_client c posts ≡ length (of c (map (line_of texts) posts))
+pub same_count : (c : ℕ) (texts : List (List ℕ)) (posts : List Post) → lines_of_client c posts ≡ length (of c (map (line_of texts) posts))
 same_count c texts [] = refl
 same_count c texts (p ∷ posts) =
     count_if (eqb p.client c) (line_of texts p) p (of c (map (line_of texts) posts)) (filter (λ (q : Post). eqb q.client c) posts) (same_count c texts posts)

@@ -68,7 +68,7 @@ extends_all [] a b more h = h
 extends_all (x ∷ arrivals) a b more h =
     extends_all arrivals a (with_arrival b x) (let n = length-append b.texts (x.text ∷ []) in omega (arith, n, more)) (extends_more a b x more h)
 
-extends_recorded : (a : Script) (arrivals : List Arrival) → Extends a (recorded a arrivals)
+pub extends_recorded : (a : Script) (arrivals : List Arrival) → Extends a (recorded a arrivals)
 unfolding recorded
 extends_recorded a arrivals = extends_all arrivals a a (omega arith) (extends_none a)
 

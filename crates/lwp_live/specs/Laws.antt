@@ -1,7 +1,8 @@
 -- Laws of what clients are told, and of scripts with the lines that were posted.
 use Rattle.event_gate.specs.Shelves.{event_of}
 use Rattle.lwp_live.specs.Answers.{Known, answers_in, event_in, holder_of, known_after, nothing_known, replies_in}
-use Rattle.lwp_live.specs.Recorded.{recorded, with_line}
+use Rattle.lwp_live.specs.Reading.{with_line}
+use Rattle.lwp_live.specs.Recorded.{recorded}
 use Rattle.lwp_live.specs.declared.arrival.Arrival.{Arrival}
 use Rattle.lwp_live.specs.declared.notes.Reply.{Reply}
 use Rattle.lwp_serve.specs.Answers.Replies as Replies

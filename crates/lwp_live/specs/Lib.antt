@@ -1,4 +1,15 @@
 pub mod Input
 pub mod Recorded
 pub mod Answers
+pub mod Telling
+pub mod Reading
+pub mod Reader
+pub mod Feeding
+pub mod Live
+pub mod Perhaps
+pub mod Words
+pub mod Texts
+pub mod Ends
 pub mod Laws
+pub mod Outside
+pub mod Ending

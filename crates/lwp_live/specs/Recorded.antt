@@ -5,7 +5,6 @@ use Rattle.lwp_live.specs.declared.arrival.Arrival.{Arrival}
 use Rattle.script_text.specs.declared.script.Post.{Post}
 use Rattle.script_text.specs.declared.script.Script.{Script}
 use Rattle.std.specs.List.{filter, flat_map, fold}
-use Rattle.lwp_types.specs.declared.call.Line.{Line}
 use Rattle.std.specs.Prelude.{List, [], eqb, length, map, replicate, ℕ, ◌++◌, ◌∷◌}
 
 -- how many lines of a client a script has
@@ -42,7 +41,3 @@ standing_of script text = record { counts = counts_in script; size = length text
 -- how many lines each of so many clients has among these
 abbrev pub counts_by : ℕ → List Arrival → List ℕ
 counts_by clients arrivals = fold (λ counts (a : Arrival). counted a.client counts) (replicate clients 0) arrivals
-
--- one line more, with its number among its client's
-abbrev pub with_line : List Line → Arrival → List Line
-with_line lines a = lines ++ record { client = a.client; seq = length (of a.client lines); text = a.text } ∷ []
