@@ -35,6 +35,7 @@ use Rattle.pod_runner.specs.declared.session.Took.{Took}
 use Rattle.pod_runner.proofs.Armed.{take-fewer}
 use Rattle.pod_runner.proofs.Kept.{phase-kept, phase-runs, take-kept}
 use Rattle.pod_runner.proofs.Plays.{LastBy-of, play-call, play-take}
+use Rattle.pod_runner.proofs.Appends.{writes_none}
 use Rattle.pod_runner.proofs.Rounds.{but_last-extended, goes-same, ran-answer, ran-behind, ran-nothing, ran-other, ran-step, stream}
 
 -- ---- takes
@@ -268,7 +269,7 @@ module _ {B P : Type 0} (next : Next B) (bodies : P → List B) (procs : P → L
   living-same w f run inlets sound = record {
     same = goes-same next bodies procs run;
     sound = sound;
-    told = (λ base is. is, refl);
+    told = (writes_none w (trace_of next bodies procs run), refl);
     draws = draws-same run inlets 0;
   }
 

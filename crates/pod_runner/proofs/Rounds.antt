@@ -1,7 +1,7 @@
 -- What a run, a gate and a sink come to together, part by part.
 use Rattle.std.proofs.Common.{◌≢◌, ◌≡◌, ◌≤◌, ◌<◌, ℕ, zero, suc, ◌+◌, ◌-◌, List, [], ◌∷◌, true, false, None}
 use Rattle.std.proofs.Common.{Some, ap, ◌∙◌, refl, sym, subst, ◌++◌, length, length-append, take, arith}
-use Rattle.std.proofs.Math.Seq.{take-append_seam, take-length}
+use Rattle.std.proofs.Math.Seq.{take-append_seam}
 use Rattle.std.specs.Prelude.{Option, Result, Ok, Err, OnOk, OnErr, IsErrAnd, IsErrOf}
 use Rattle.std.specs.List.{fold, range_with_len}
 use Rattle.std.specs.Slice.Scan.{HoldsNowhere}
@@ -28,6 +28,7 @@ use Rattle.pod_runner.specs.declared.phase.RunErr.{RunErr}
 use Rattle.pod_runner.specs.declared.phase.RunErr.TheVariants as fails
 use Rattle.pod_runner.specs.declared.session.Took.{Took}
 use Rattle.pod_runner.specs.Over.{can_take, events}
+use Rattle.pod_runner.proofs.Appends.{cut_part, cut_then, writes_none, writes_part, writes_then}
 use Rattle.pod_runner.proofs.Kept.{boundary-turn}
 use Rattle.pod_runner.proofs.Plays.{LastBy-of, play-call, play-take, play-zero}
 use Rattle.pod_runner.proofs.Ends.{idle-on, idle-round, idle-stuck, turn-round}
@@ -41,9 +42,9 @@ stream old new faults_old faults_new = record { old = old; new = new; faults_old
 
 pub tells-then : {T : Type 0} (a b c : Option (List ℕ)) (f g h : ℕ) (t u least v : List ℕ) (r : Result T RunErr)
     → Wrote (stream a b f g) t u → Tells (stream b c g h) u least v r → Tells (stream a c f h) t least v r
-tells-then a b c f g h t u least v (Ok x) p q = (λ base is. q.0 base (p.0 base is), q.1 ∙ p.1)
-tells-then a b c f g h t u least v (Err fails.NoMemory) p q = (λ base is. q.0 base (p.0 base is), q.1 ∙ p.1)
-tells-then a b c f g h t u least v (Err fails.WriteFault) p q = (λ base is. q.0 base (p.0 base is), rw p.1 at q.1, omega (arith, p.1, q.2))
+tells-then a b c f g h t u least v (Ok x) p q = (writes_then p.0 q.0, q.1 ∙ p.1)
+tells-then a b c f g h t u least v (Err fails.NoMemory) p q = (writes_then p.0 q.0, q.1 ∙ p.1)
+tells-then a b c f g h t u least v (Err fails.WriteFault) p q = (cut_then p.0 q.0, rw p.1 at q.1, omega (arith, p.1, q.2))
 
 pub tells-other : (T U : Type 0) (s : Stream) (t least v : List ℕ) (e : RunErr) → Tells {T = T} s t least v (Err e) → Tells {T = U} s t least v (Err e)
 tells-other T U s t least v fails.NoMemory h = h
@@ -60,8 +61,8 @@ tells-broke s t least v r told is = subst (λ x. Tells s t least v x) is told
 -- after an error, a first part was written
 pub tells-part : {T : Type 0} (s : Stream) (t least v : List ℕ) (r : Result T RunErr) → Tells s t least v r → OnErr r (WritesPart s.old s.new t v)
 tells-part s t least v (Ok x) h = tt
-tells-part s t least v (Err fails.NoMemory) h = λ base is. (length v, h.0 base is ∙ rw take-length refl)
-tells-part s t least v (Err fails.WriteFault) h = λ base is. let cut = h.0 base is in (cut.kept, cut.told)
+tells-part s t least v (Err fails.NoMemory) h = writes_part h.0
+tells-part s t least v (Err fails.WriteFault) h = cut_part h.0
 
 -- ---- all steps but the last
 
@@ -97,7 +98,7 @@ module _ {B P : Type 0} (next : Next B) (bodies : P → List B) (procs : P → L
     same = goes-same run;
     made = made;
     room = room;
-    told = (λ base is. is, refl);
+    told = (writes_none w (trace_of next bodies procs run), refl);
     sound = sound;
   }
 

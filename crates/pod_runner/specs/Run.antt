@@ -100,15 +100,6 @@ after_step old next (Err fails.WriteFault) = record next { failed = true }
 
 -- ---- what is told
 
--- what is told goes from a trace to a longer one
-abbrev pub Writes : Option (List ℕ) → Option (List ℕ) → List ℕ → List ℕ → Type 0
-Writes old new before after = (base : Option (List ℕ)) → old ≡ after_append base before → new ≡ after_append base after
-
--- what is told goes from a trace to some prefix of a longer one
-abbrev pub WritesPart : Option (List ℕ) → Option (List ℕ) → List ℕ → List ℕ → Type 0
-WritesPart old new before after = (base : Option (List ℕ)) → old ≡ after_append base before
-    → AppendsPrefix base new after
-
 -- what is told, with the first of these bytes at its end: as many as `least` has, or more, and not all
 pub record AppendsCut (old new : Option (List ℕ)) (least bytes : List ℕ) : Type 0 where
   pub kept : ℕ
@@ -116,10 +107,26 @@ pub record AppendsCut (old new : Option (List ℕ)) (least bytes : List ℕ) : T
   pub some : length least ≤ kept
   pub not_all : kept < length bytes
 
--- what is told goes from a trace to a longer one that is cut off, after all of `least`
-abbrev pub WritesCut : Option (List ℕ) → Option (List ℕ) → List ℕ → List ℕ → List ℕ → Type 0
-WritesCut old new before least after = (base : Option (List ℕ)) → old ≡ after_append base before
-    → AppendsCut base new least after
+-- a trace grew, and the bytes by which it did were told after all that was told before, whatever that was
+pub record Writes (old new : Option (List ℕ)) (before after : List ℕ) : Type 0 where
+  pub added : List ℕ
+  pub longer : after ≡ before ++ added
+  pub told : new ≡ after_append old added
+
+-- a trace grew, and some first bytes of those by which it did were told
+pub record WritesPart (old new : Option (List ℕ)) (before after : List ℕ) : Type 0 where
+  pub added : List ℕ
+  pub longer : after ≡ before ++ added
+  pub first : AppendsPrefix old new added
+
+-- a trace grew, and of the bytes by which it did not all were told, but at least those up to the end of `least`
+pub record WritesCut (old new : Option (List ℕ)) (before least after : List ℕ) : Type 0 where
+  pub added : List ℕ
+  pub longer : after ≡ before ++ added
+  pub kept : ℕ
+  pub told : new ≡ after_append old (take kept added)
+  pub some : length least ≤ length before + kept
+  pub not_all : kept < length added
 
 -- all was written, from one trace to another, and no fault came
 abbrev pub Wrote : Stream → List ℕ → List ℕ → Type 0

@@ -1,6 +1,7 @@
 -- What a sink that is written to keeps, and what a step of a walk comes to.
 use Rattle.lwp_types.specs.Streams.{after_append}
 use Rattle.replay.specs.Following.{Following, front_of, bytes_told}
+use Rattle.pod_runner.proofs.Appends.{writes_base}
 use Rattle.pod_runner.specs.Run.{Writes}
 use Rattle.std.specs.Prelude.{Option}
 use Rattle.std.proofs.Common.{List, None, Some, [], ap, append-nil, arith, length, refl, suc, sym, take, ℕ, ◌++◌, ◌∙◌, ◌∷◌, ◌≡◌}
@@ -47,7 +48,7 @@ kept old new before after clean is writes =
     let start : Some (bytes_told old)
     ≡ after_append (Some (front_of old)) before = ap (λ s. Some (front_of old ++ (take old.at old.recorded ++ s))) clean
     ∙ ap (λ l. Some (front_of old ++ l)) (append-nil (take old.at old.recorded) ∙ is) in
-    let wrote : bytes_told new ≡ front_of old ++ after = some-same (writes (Some (front_of old)) start) in
+    let wrote : bytes_told new ≡ front_of old ++ after = some-same (writes_base writes (Some (front_of old)) start) in
     let long : length new.recorded ≡ length old.recorded = ap (head_in 0) wrote in
     let one = ap tail_in wrote in
     let at : new.at ≡ old.at = ap (head_in 0) one in

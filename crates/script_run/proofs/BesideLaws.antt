@@ -7,6 +7,7 @@ use Rattle.script_run.specs.Served.{AreServed, Gave, Hears}
 use Rattle.script_run.proofs.LeftLaws.{taken-append}
 use Rattle.script_run.specs.Beside.{GoesBeside, IsFed, KnowAll}
 use Rattle.script_body.specs.Bodies.{bodies_of, body_next}
+use Rattle.pod_runner.proofs.Appends.{writes_none}
 use Rattle.pod_runner.proofs.Rounds.{goes-same, ran-answer, ran-behind, ran-other, stream, tells-broke, tells-wrote}
 use Rattle.pod_runner.specs.Live.{Answers, Draws, Gives, LivesOn, lines_of_takes, may_lose}
 use Rattle.pod_runner.specs.Run.{Broke, GoesOn, Played, Wrote, trace_before, trace_of}
@@ -124,7 +125,7 @@ pub record WentBeside (s : Stream) (old now : Played Script) (before some : List
   pub fed : IsFed old.takes before 0 → IsFed now.takes some 0
 
 pub went-same : (w : Option (List ℕ)) (f : ℕ) (r : Played Script) (inlets : List Intake) → r.failed ≡ false → WentBeside (stream w w f f) r r inlets inlets
-went-same w f r inlets sound = record { same = goes-same body_next bodies_of proc_names r; sound = sound; told = (λ base is. is, refl); fed = λ h. h }
+went-same w f r inlets sound = record { same = goes-same body_next bodies_of proc_names r; sound = sound; told = (writes_none w (told_by r), refl); fed = λ h. h }
 
 pub went-of : {T : Type 0} (s : Stream) (old now : Played Script) (before some : List Intake) (x : T)
     → GoesBeside s old now before some (Ok x) → WentBeside s old now before some

@@ -1,7 +1,7 @@
 -- From the rounds of a run to what a session of `answers` says.
 use Rattle.event_gate.specs.Shelves.{Shelves, left_in_all}
 use Rattle.lwp_types.specs.Streams.{AppendsPrefix, Rose, after_append}
-use Rattle.pod_runner.proofs.Appends.{cut_on}
+use Rattle.pod_runner.proofs.Appends.{cut_base, cut_on, writes_none}
 use Rattle.pod_runner.proofs.Eagers.{finished-grows}
 use Rattle.pod_runner.proofs.Rounds.{Going, going-falls, going-finishes, going-on, going-part, goes-same, goes-then, new-whole, stream}
 use Rattle.pod_runner.specs.Calls.{last_call}
@@ -151,7 +151,7 @@ module _ (event : Option ℕ) (old now new : Played Script) (stock some left : S
         ∙ ap (λ x. (known_after_steps event (steps_of now)).replies ++ x)
         (sym (is-told ∙ ap (λ those. texts_told those (last_call (steps_of new))) so.has_agents)) in
         subst (λ bytes. AppendsCut w u bytes (known_after_steps event (steps_of new)).replies) (sym least)
-        (cut_on v u (known_after_steps event (steps_of now)).replies told (known_after_steps event (steps_of new)).replies longer part w so.written)
+        (cut_base (cut_on v u (known_after_steps event (steps_of now)).replies told (known_after_steps event (steps_of new)).replies longer part) w so.written)
 
 -- ---- a run of a script
 
@@ -262,7 +262,12 @@ module _ (client : ℕ) (script : Script) (o : Played Script) (stock : Shelves) 
       = ap (λ (r : Played Script). known_after_steps (event_of script client) (steps_of r)) opening
       ∙ no-steps (event_of script client) (run.setting_of body_next bodies_of (opening_run script o.turns)) in
       record {
-        going = record { same = goes-same body_next bodies_of proc_names o; sound = sound; told = ((λ base before. before), refl); ends = refl };
+        going = record {
+          same = goes-same body_next bodies_of proc_names o;
+          sound = sound;
+          told = (writes_none None (run.trace_of body_next bodies_of proc_names o), refl);
+          ends = refl;
+        };
         is_event = is;
         has_agents = none ∙ ap (λ (k : Known). k.agents) (sym fresh);
         written = sym (ap (λ (k : Known). after_append w k.replies) fresh ∙ appended-nil w);

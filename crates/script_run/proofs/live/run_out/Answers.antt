@@ -5,6 +5,7 @@ use Rattle.script_run.proofs.ClientLaws.{items_of}
 use Rattle.script_run.proofs.LiveLaws.{lines-are, live-broken, live-cut, live-stopped, lived-of, over-of, ran-of, tail-of, texts-few}
 use Rattle.script_session.proofs.RunLaws.{told-before}
 use Rattle.script_run.specs.Beside.{AreBack, KnowAll}
+use Rattle.pod_runner.proofs.Appends.{cut_base, writes_base}
 use Rattle.pod_runner.proofs.Rounds.{stream}
 use Rattle.script_run.proofs.live.run_out.Goals as goal
 
@@ -20,7 +21,7 @@ returns-in_err-whole-clause-stopped g c =
     c.in_err-whole.field-0.0 c.from_residual.ensures.1 c.in_err-whole.ensures.goes) c.requires.opening c.requires.new (c.requires.all_texts
     ∙ c.requires.texts) c.requires.posted
     (subst (λ (events : List ℕ). AreBack events (all_texts c.args.outside.now) (intakes c.go_to_end.new.outside)) c.requires.events c.go_to_end.ensures.back))
-    ((wrote-of
+    (writes_base (wrote-of
     (stream (g.K.Sink.written c.args.sink.now) (g.K.Sink.written c.go_to_end.new.sink) (g.K.Sink.faults c.args.sink.now)
     (g.K.Sink.faults c.go_to_end.new.sink))
     c.args.played.now c.go_to_end.new.played (intakes c.args.outside.now) (intakes c.go_to_end.new.outside) c.from_residual.result
@@ -44,7 +45,7 @@ returns-in_err-whole-clause-broken g c =
     c.in_err-whole.field-0.0 c.from_residual.ensures.1 c.in_err-whole.ensures.goes) c.requires.opening c.requires.new (c.requires.all_texts
     ∙ c.requires.texts) c.requires.posted
     (subst (λ (events : List ℕ). AreBack events (all_texts c.args.outside.now) (intakes c.go_to_end.new.outside)) c.requires.events c.go_to_end.ensures.back))
-    ((broke-of
+    (cut_base (broke-of
     (stream (g.K.Sink.written c.args.sink.now) (g.K.Sink.written c.go_to_end.new.sink) (g.K.Sink.faults c.args.sink.now)
     (g.K.Sink.faults c.go_to_end.new.sink))
     c.args.played.now c.go_to_end.new.played (intakes c.args.outside.now) (intakes c.go_to_end.new.outside) c.from_residual.result
@@ -80,7 +81,7 @@ returns-in_err-left-clause-stopped g c = λ is. live-stopped c.args.script.now c
     c.args.played.now c.go_to_end.new.played (intakes c.args.outside.now) (intakes c.go_to_end.new.outside) (all_texts c.args.outside.now)
     (Ok c.in_ok-whole.whole) c.in_ok-whole.ensures.goes c.requires.opening c.requires.new (c.requires.all_texts ∙ c.requires.texts) c.requires.posted (subst
     (λ (events : List ℕ). AreBack events (all_texts c.args.outside.now) (intakes c.go_to_end.new.outside)) c.requires.events c.go_to_end.ensures.back))
-    (c.in_ok-whole.ensures.goes.ran.told.0 (g.K.Sink.written c.args.sink.now)
+    (writes_base c.in_ok-whole.ensures.goes.ran.told.0 (g.K.Sink.written c.args.sink.now)
     (told-before c.args.script.now c.args.turns c.args.played.now (g.K.Sink.written c.args.sink.now) c.requires.opening))
 
 pub returns-in_err-tail-clause-stopped : goal.returns-in_err-tail-clause-stopped
@@ -91,7 +92,7 @@ returns-in_err-tail-clause-stopped g c = λ is. live-stopped c.args.script.now c
     c.args.played.now c.go_to_end.new.played (intakes c.args.outside.now) (intakes c.go_to_end.new.outside) (all_texts c.args.outside.now)
     (Ok c.in_ok-whole.whole) c.in_ok-whole.ensures.goes c.requires.opening c.requires.new (c.requires.all_texts ∙ c.requires.texts) c.requires.posted (subst
     (λ (events : List ℕ). AreBack events (all_texts c.args.outside.now) (intakes c.go_to_end.new.outside)) c.requires.events c.go_to_end.ensures.back))
-    (c.in_ok-whole.ensures.goes.ran.told.0 (g.K.Sink.written c.args.sink.now)
+    (writes_base c.in_ok-whole.ensures.goes.ran.told.0 (g.K.Sink.written c.args.sink.now)
     (told-before c.args.script.now c.args.turns c.args.played.now (g.K.Sink.written c.args.sink.now) c.requires.opening))
 
 pub returns-in-Ok-clause-whole : goal.returns-in-Ok-clause-whole
@@ -106,7 +107,7 @@ returns-in-Ok-clause-whole g c = lived-of c.args.script.now c.args.turns c.go_to
     (subst (λ (events : List ℕ). AreBack events (all_texts c.args.outside.now) (intakes c.go_to_end.new.outside)) c.requires.events c.go_to_end.ensures.back)
     c.in_ok-whole.ensures.halts
     (subst (λ (events : List ℕ). KnowAll events (all_texts c.args.outside.now) (intakes c.go_to_end.new.outside)) c.requires.events c.in_ok-whole.ensures.all))
-    (c.in_ok-whole.ensures.goes.ran.told.0 (g.K.Sink.written c.args.sink.now)
+    (writes_base c.in_ok-whole.ensures.goes.ran.told.0 (g.K.Sink.written c.args.sink.now)
     (told-before c.args.script.now c.args.turns c.args.played.now (g.K.Sink.written c.args.sink.now) c.requires.opening))
     (tail-of c.args.script.now c.args.turns c.go_to_end.new.played (map items_of c.args.texts.now) c.in_ok-whole.whole.halt
     c.deref-2.result.now c.deref.result.now c.requires.texts (c.deref.ensures.value ∙ c.in_ok-left.ensures) (c.deref-2.ensures.value ∙ c.in_ok-tail.ensures))
@@ -124,7 +125,7 @@ returns-clause-broken g c = λ is. live-cut c.args.script.now c.args.turns c.go_
     (subst (λ (events : List ℕ). AreBack events (all_texts c.args.outside.now) (intakes c.go_to_end.new.outside)) c.requires.events c.go_to_end.ensures.back)
     c.in_ok-whole.ensures.halts
     (subst (λ (events : List ℕ). KnowAll events (all_texts c.args.outside.now) (intakes c.go_to_end.new.outside)) c.requires.events c.in_ok-whole.ensures.all))
-    (c.in_ok-whole.ensures.goes.ran.told.0 (g.K.Sink.written c.args.sink.now)
+    (writes_base c.in_ok-whole.ensures.goes.ran.told.0 (g.K.Sink.written c.args.sink.now)
     (told-before c.args.script.now c.args.turns c.args.played.now (g.K.Sink.written c.args.sink.now) c.requires.opening))
     (tail-of c.args.script.now c.args.turns c.go_to_end.new.played (map items_of c.args.texts.now) c.in_ok-whole.whole.halt
     c.deref-2.result.now c.deref.result.now c.requires.texts (c.deref.ensures.value ∙ c.in_ok-left.ensures) (c.deref-2.ensures.value ∙ c.in_ok-tail.ensures))

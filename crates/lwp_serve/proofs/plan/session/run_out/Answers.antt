@@ -1,6 +1,7 @@
 use Rattle.std.proofs.Common.{Err, rules, ◌∙◌, ap}
 use Rattle.lwp_serve.proofs.Planning.PlanLaws.{broken-last, broken-of, came, finished, part-all, part-last, part-of, stopped-of, whole-of}
 use Rattle.script_session.proofs.RunLaws.{on_err, told-before}
+use Rattle.pod_runner.proofs.Appends.{cut_base, part_base, writes_base}
 use Rattle.pod_runner.proofs.Rounds.{stream, tells-broke, tells-part, tells-wrote}
 use Rattle.pod_runner.specs.Run.{trace_before, trace_of}
 use Rattle.pod_runner.specs.Trace.{left_counts_from}
@@ -17,10 +18,10 @@ returns-in_err-halt-clause-part g c =
     c.requires.stocked c.run.ensures.does.ran.same c.run.ensures.begun c.run.ensures.does.ran.made in
     on_err c.from_residual.result _ (part-of c.args.script.now c.args.turns c.run.new.run c.run.new.gate (g.K.Sink.written c.args.sink.now)
     (g.K.Sink.written c.run.new.sink) so_far c.requires.posted
-    (tells-part {T = Halt} (stream (g.K.Sink.written c.args.sink.now) (g.K.Sink.written c.run.new.sink) (g.K.Sink.faults c.args.sink.now)
+    (part_base (tells-part {T = Halt} (stream (g.K.Sink.written c.args.sink.now) (g.K.Sink.written c.run.new.sink) (g.K.Sink.faults c.args.sink.now)
     (g.K.Sink.faults c.run.new.sink))
     (trace_of body_next bodies_of proc_names c.args.played.now) (trace_before body_next bodies_of proc_names c.run.new.run)
-    (trace_of body_next bodies_of proc_names c.run.new.run) (Err _) c.in_err-halt.ensures.does.ran.told
+    (trace_of body_next bodies_of proc_names c.run.new.run) (Err _) c.in_err-halt.ensures.does.ran.told)
     (g.K.Sink.written c.args.sink.now) (told-before c.args.script.now c.args.turns c.args.played.now (g.K.Sink.written c.args.sink.now) opening)))
 
 pub returns-in_err-halt-clause-stopped : goal.returns-in_err-halt-clause-stopped
@@ -29,7 +30,7 @@ returns-in_err-halt-clause-stopped g c =
     let so_far = came c.args.script.now c.args.turns c.args.played.now c.run.new.run c.args.gate.now c.run.new.gate opening
     c.requires.stocked c.run.ensures.does.ran.same c.run.ensures.begun c.run.ensures.does.ran.made in
     λ is. stopped-of c.args.script.now c.args.turns c.run.new.run c.run.new.gate (g.K.Sink.written c.args.sink.now) (g.K.Sink.written c.run.new.sink) so_far
-    ((tells-wrote (stream (g.K.Sink.written c.args.sink.now) (g.K.Sink.written c.run.new.sink) (g.K.Sink.faults c.args.sink.now)
+    (writes_base (tells-wrote (stream (g.K.Sink.written c.args.sink.now) (g.K.Sink.written c.run.new.sink) (g.K.Sink.faults c.args.sink.now)
     (g.K.Sink.faults c.run.new.sink))
     (trace_of body_next bodies_of proc_names c.args.played.now) (trace_before body_next bodies_of proc_names c.run.new.run)
     (trace_of body_next bodies_of proc_names c.run.new.run) c.run.result c.run.ensures.does.ran.told (search rules)).0
@@ -41,7 +42,7 @@ returns-in_err-halt-clause-broken g c =
     let so_far = came c.args.script.now c.args.turns c.args.played.now c.run.new.run c.args.gate.now c.run.new.gate opening
     c.requires.stocked c.run.ensures.does.ran.same c.run.ensures.begun c.run.ensures.does.ran.made in
     λ is. broken-of c.args.script.now c.args.turns c.run.new.run c.run.new.gate (g.K.Sink.written c.args.sink.now) (g.K.Sink.written c.run.new.sink) so_far
-    ((tells-broke (stream (g.K.Sink.written c.args.sink.now) (g.K.Sink.written c.run.new.sink) (g.K.Sink.faults c.args.sink.now)
+    (cut_base (tells-broke (stream (g.K.Sink.written c.args.sink.now) (g.K.Sink.written c.run.new.sink) (g.K.Sink.faults c.args.sink.now)
     (g.K.Sink.faults c.run.new.sink))
     (trace_of body_next bodies_of proc_names c.args.played.now) (trace_before body_next bodies_of proc_names c.run.new.run)
     (trace_of body_next bodies_of proc_names c.run.new.run) c.run.result c.run.ensures.does.ran.told (search rules)).0
@@ -54,7 +55,7 @@ returns-in_err-left-clause-part g c =
     c.requires.stocked c.run.ensures.does.ran.same c.run.ensures.begun c.run.ensures.does.ran.made in
     on_err c.from_residual-in_err-left.result _ (part-all c.args.script.now c.args.turns c.run.new.run c.run.new.gate
     (g.K.Sink.written c.args.sink.now) (g.K.Sink.written c.run.new.sink) so_far c.requires.posted
-    (c.in_ok-halt.ensures.does.ran.told.0 (g.K.Sink.written c.args.sink.now)
+    (writes_base c.in_ok-halt.ensures.does.ran.told.0 (g.K.Sink.written c.args.sink.now)
     (told-before c.args.script.now c.args.turns c.args.played.now (g.K.Sink.written c.args.sink.now) opening)))
 
 pub returns-in_err-left-clause-stopped : goal.returns-in_err-left-clause-stopped
@@ -63,7 +64,7 @@ returns-in_err-left-clause-stopped g c =
     let so_far = came c.args.script.now c.args.turns c.args.played.now c.run.new.run c.args.gate.now c.run.new.gate opening
     c.requires.stocked c.run.ensures.does.ran.same c.run.ensures.begun c.run.ensures.does.ran.made in
     λ is. stopped-of c.args.script.now c.args.turns c.run.new.run c.run.new.gate (g.K.Sink.written c.args.sink.now) (g.K.Sink.written c.run.new.sink) so_far
-    (c.in_ok-halt.ensures.does.ran.told.0 (g.K.Sink.written c.args.sink.now)
+    (writes_base c.in_ok-halt.ensures.does.ran.told.0 (g.K.Sink.written c.args.sink.now)
     (told-before c.args.script.now c.args.turns c.args.played.now (g.K.Sink.written c.args.sink.now) opening))
 
 pub returns-in_err-tail-clause-part : goal.returns-in_err-tail-clause-part
@@ -73,7 +74,7 @@ returns-in_err-tail-clause-part g c =
     c.requires.stocked c.run.ensures.does.ran.same c.run.ensures.begun c.run.ensures.does.ran.made in
     on_err c.from_residual-in_err-tail.result _ (part-all c.args.script.now c.args.turns c.run.new.run c.run.new.gate
     (g.K.Sink.written c.args.sink.now) (g.K.Sink.written c.run.new.sink) so_far c.requires.posted
-    (c.in_ok-halt.ensures.does.ran.told.0 (g.K.Sink.written c.args.sink.now)
+    (writes_base c.in_ok-halt.ensures.does.ran.told.0 (g.K.Sink.written c.args.sink.now)
     (told-before c.args.script.now c.args.turns c.args.played.now (g.K.Sink.written c.args.sink.now) opening)))
 
 pub returns-in_err-tail-clause-stopped : goal.returns-in_err-tail-clause-stopped
@@ -82,7 +83,7 @@ returns-in_err-tail-clause-stopped g c =
     let so_far = came c.args.script.now c.args.turns c.args.played.now c.run.new.run c.args.gate.now c.run.new.gate opening
     c.requires.stocked c.run.ensures.does.ran.same c.run.ensures.begun c.run.ensures.does.ran.made in
     λ is. stopped-of c.args.script.now c.args.turns c.run.new.run c.run.new.gate (g.K.Sink.written c.args.sink.now) (g.K.Sink.written c.run.new.sink) so_far
-    (c.in_ok-halt.ensures.does.ran.told.0 (g.K.Sink.written c.args.sink.now)
+    (writes_base c.in_ok-halt.ensures.does.ran.told.0 (g.K.Sink.written c.args.sink.now)
     (told-before c.args.script.now c.args.turns c.args.played.now (g.K.Sink.written c.args.sink.now) opening))
 
 pub returns-in-Ok-clause-whole : goal.returns-in-Ok-clause-whole
@@ -97,7 +98,7 @@ returns-in-Ok-clause-whole g c =
     (c.deref.ensures.value ∙ c.in_ok-left.ensures ∙ ap (λ clients. left_counts_from 0 clients c.run.new.gate) c.as_slice.ensures) in
     whole-of c.args.script.now c.args.turns c.run.new.run c.run.new.gate c.in_ok-halt.halt (g.K.Sink.written c.args.sink.now)
     (g.K.Sink.written c.run.new.sink) (g.K.Sink.written c.write_all.new.sink) c.deref-2.result.now over c.requires.posted
-    (c.in_ok-halt.ensures.does.ran.told.0 (g.K.Sink.written c.args.sink.now)
+    (writes_base c.in_ok-halt.ensures.does.ran.told.0 (g.K.Sink.written c.args.sink.now)
     (told-before c.args.script.now c.args.turns c.args.played.now (g.K.Sink.written c.args.sink.now) opening))
     last c.in-Ok.ensures.ok
 
@@ -113,7 +114,7 @@ returns-clause-part g c =
     (c.deref.ensures.value ∙ c.in_ok-left.ensures ∙ ap (λ clients. left_counts_from 0 clients c.run.new.gate) c.as_slice.ensures) in
     part-last c.args.script.now c.args.turns c.run.new.run c.run.new.gate c.in_ok-halt.halt (g.K.Sink.written c.args.sink.now)
     (g.K.Sink.written c.run.new.sink) (g.K.Sink.written c.write_all.new.sink) c.deref-2.result.now over c.requires.posted
-    (c.in_ok-halt.ensures.does.ran.told.0 (g.K.Sink.written c.args.sink.now)
+    (writes_base c.in_ok-halt.ensures.does.ran.told.0 (g.K.Sink.written c.args.sink.now)
     (told-before c.args.script.now c.args.turns c.args.played.now (g.K.Sink.written c.args.sink.now) opening))
     last c.in-Err.ensures.err
 
@@ -129,6 +130,6 @@ returns-clause-broken g c =
     (c.deref.ensures.value ∙ c.in_ok-left.ensures ∙ ap (λ clients. left_counts_from 0 clients c.run.new.gate) c.as_slice.ensures) in
     λ is. broken-last c.args.script.now c.args.turns c.run.new.run c.run.new.gate c.in_ok-halt.halt (g.K.Sink.written c.args.sink.now)
     (g.K.Sink.written c.run.new.sink) (g.K.Sink.written c.write_all.new.sink) c.deref-2.result.now over
-    (c.in_ok-halt.ensures.does.ran.told.0 (g.K.Sink.written c.args.sink.now)
+    (writes_base c.in_ok-halt.ensures.does.ran.told.0 (g.K.Sink.written c.args.sink.now)
     (told-before c.args.script.now c.args.turns c.args.played.now (g.K.Sink.written c.args.sink.now) opening))
     last c.in-Err.ensures.err
