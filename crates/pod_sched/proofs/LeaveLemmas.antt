@@ -196,7 +196,7 @@ module _ (slots : Lists) (order : Order) (rows : List Known) (slot_of : ℕ → 
 
 -- ---- one thread more
 
-find_push_new : (p : ℕ → Bool) (xs : List ℕ) (a : ℕ) → find p xs ≡ None → p a ≡ true → find p (xs ++ a ∷ []) ≡ Some a
+pub find_push_new : (p : ℕ → Bool) (xs : List ℕ) (a : ℕ) → find p xs ≡ None → p a ≡ true → find p (xs ++ a ∷ []) ≡ Some a
 find_push_new p [] a none is = rw is refl
 find_push_new p (x ∷ xs) a none is = by_test (p x) (find_push_new p xs a) none
   where
@@ -205,7 +205,7 @@ find_push_new p (x ∷ xs) a none is = by_test (p x) (find_push_new p xs a) none
     by_test true rest none = absurd (cc)
     by_test false rest none = rest none is
 
-find_push_old : (p : ℕ → Bool) (xs : List ℕ) (a : ℕ) → p a ≡ false → find p (xs ++ a ∷ []) ≡ find p xs
+pub find_push_old : (p : ℕ → Bool) (xs : List ℕ) (a : ℕ) → p a ≡ false → find p (xs ++ a ∷ []) ≡ find p xs
 find_push_old p [] a out = rw out refl
 find_push_old p (x ∷ xs) a out = ap (λ o. cond (p x) (Some x) o) (find_push_old p xs a out)
 

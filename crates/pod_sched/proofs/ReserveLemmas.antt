@@ -9,7 +9,7 @@ use Rattle.pod_sched.proofs.LeaveLemmas.{items_moved_other, items_moved_same, li
 use Rattle.pod_sched.proofs.SlotLemmas.{All-found, All-push, All-weaker, find_agree, tids_same, without_none}
 use Rattle.pod_sched.specs.Held.{IsHeld, schedule_of, tid_at}
 use Rattle.pod_sched.specs.Schedule.{after_reserve}
-use Rattle.pod_sched.specs.Slots.{AreSlots, Extends, IsFree, IsKnown, IsReady, after_free, has_tid, row_at}
+use Rattle.pod_sched.specs.Slots.{AreListed, AreSlots, Extends, IsFree, IsKnown, IsListed, IsReady, after_free, has_tid, row_at}
 use Rattle.pod_sched.specs.declared.rows.Known.{Known}
 use Rattle.std.proofs.Common.{List, Err, Ok, OnErr, Option, Result, Some, [], ap, arith, eqb, get_or, inl, inr, length, map}
 use Rattle.std.proofs.Common.{max, refl, replicate, subst, suc, sym, zero, ℕ, ◌++◌, ◌+◌, ◌-◌, ◌<◌, ◌∙◌, ◌∷◌, ◌≡◌, ◌≤◌}
@@ -123,6 +123,51 @@ module _ (slots : Lists) (order : Order) (rows : List Known) (slot_of : ℕ → 
     ready = held.ready;
     ordered = held.ordered;
   }
+
+  -- another index has the known threads at their slots
+  pub IsHeld-filed : (slot_of' : ℕ → Option ℕ) (map_len' room' width' : ℕ)
+      → ((t : ℕ) → slot_of' t ≡ find (has_tid (row_at rows) t) (items slots 0)) → map_len' ≡ length (items slots 0) → places ≤ room'
+      → 1 ≤ width' → IsHeld slots order rows slot_of' map_len' room' width' maxpri places
+  IsHeld-filed slot_of' map_len' room' width' found counted has_room some = record {
+    lists = held.lists;
+    slot_room = held.slot_room;
+    levels = held.levels;
+    order_room = held.order_room;
+    row_room = held.row_room;
+    as_long = counted;
+    map_room = has_room;
+    some_cells = some;
+    least = held.least;
+    most = held.most;
+    priorities = held.priorities;
+    are_slots = record {
+      once = held.are_slots.once;
+      count = held.are_slots.count;
+      are_known = held.are_slots.are_known;
+      are_free = held.are_slots.are_free;
+      index = found;
+    };
+    ready = held.ready;
+    ordered = held.ordered;
+  }
+
+  -- each known thread can be put in an index
+  pub listed : AreListed rows slots.limit (items slots 0)
+  listed = record {
+    once = λ s. omega (arith, held.are_slots.once s);
+    all = All-weaker (IsKnown (row_at rows) (items slots 0) places) (IsListed rows slots.limit (items slots 0))
+        (λ s is. record {
+          is_slot = is.is_slot;
+          in_rows = omega (arith, is.in_range, held.row_room);
+          in_limit = omega (arith, is.in_range, held.slot_room);
+          found = is.found;
+        })
+        (items slots 0) held.are_slots.are_known;
+  }
+
+  -- there are no more known threads than places
+  pub few_known : length (items slots 0) ≤ places
+  few_known = omega (arith, held.are_slots.count)
 
   module _ (rows' : List Known) (extends : Extends rows rows') where
     row_kept : (s : ℕ) → 256 ≤ s → s < 256 + places → row_at rows' s ≡ row_at rows s
@@ -242,24 +287,38 @@ module _ (slots : Lists) (order : Order) (rows : List Known) (slot_of : ℕ → 
         rw (new_slots.known, most) refl
 
 module _ (slots : Lists) (order : Order) (rows : List Known) (slot_of : ℕ → Option ℕ) (map_len room width maxpri places : ℕ)
-    (held : IsHeld slots order rows slot_of map_len room width maxpri places) (rows' : List Known) (extends : Extends rows rows')
-    (n room' count : ℕ) (longer : room ≤ room') (row_room : n ≤ length rows') (map_room : n ≤ room') (more : places ≤ n) (counts : count ≡ n - places) where
-  grown : IsHeld (with_limit slots (256 + n)) (with_keys order n) rows' slot_of map_len room' width maxpri places
-  grown = IsHeld-grown slots order rows slot_of map_len room width maxpri places held rows' extends (256 + n) n room' longer
+    (held : IsHeld slots order rows slot_of map_len room width maxpri places) (rows' : List Known) (extends : Extends rows rows') (n : ℕ) where
+  -- the index is as before, and there is memory for the rest
+  pub grown : IsHeld (with_limit slots (256 + n)) (with_keys order n) rows' slot_of map_len room width maxpri places
+  grown = IsHeld-grown slots order rows slot_of map_len room width maxpri places held rows' extends (256 + n) n room (omega arith)
 
-  order_room : n ≤ length (with_keys order n).prios
-  order_room = omega (arith, length-append order.prios (replicate (n - length order.prios) 0), length-replicate {A = ℕ} (n - length order.prios) 0)
+  pub view_same : schedule_of (with_limit slots (256 + n)) (with_keys order n) rows' maxpri places ≡ schedule_of slots order rows maxpri places
+  view_same = view_grown slots order rows slot_of map_len room width maxpri places held rows' extends (256 + n) n room (omega arith)
 
-  pub IsHeld-reserved : IsHeld (after_free (with_limit slots (256 + n)) (256 + places) count) (with_keys order n) rows' slot_of map_len room' width maxpri n
-  IsHeld-reserved = rw counts (IsHeld-freed (with_limit slots (256 + n)) (with_keys order n) rows' slot_of map_len room' width maxpri places
-      grown n (omega arith) order_room row_room map_room more)
+  module _ (slot_of' : ℕ → Option ℕ) (map_len' room' width' : ℕ) (found : (t : ℕ) → slot_of' t ≡ find (has_tid (row_at rows') t) (items slots 0))
+      (counted : map_len' ≡ length (items slots 0)) (some : 1 ≤ width') where
+    pub IsHeld-widened : places ≤ room' → IsHeld (with_limit slots (256 + n)) (with_keys order n) rows' slot_of' map_len' room' width' maxpri places
+    IsHeld-widened has_room = IsHeld-filed (with_limit slots (256 + n)) (with_keys order n) rows' slot_of map_len room width maxpri places grown
+        slot_of' map_len' room' width' found counted has_room some
 
-  pub view_reserved : schedule_of (after_free (with_limit slots (256 + n)) (256 + places) count) (with_keys order n) rows' maxpri n
-      ≡ after_reserve (schedule_of slots order rows maxpri places) n
-  view_reserved =
-      rw counts (view_freed (with_limit slots (256 + n)) (with_keys order n) rows' slot_of map_len room' width maxpri places grown n
-      (omega arith) order_room row_room map_room more)
-      ∙ ap (λ s. after_reserve s n) (view_grown slots order rows slot_of map_len room width maxpri places held rows' extends (256 + n) n room' longer)
+    module _ (row_room : n ≤ length rows') (map_room : n ≤ room') (more : places ≤ n) (count : ℕ) (counts : count ≡ n - places) where
+      widened : IsHeld (with_limit slots (256 + n)) (with_keys order n) rows' slot_of' map_len' room' width' maxpri places
+      widened = IsHeld-widened (omega (arith, map_room, more))
+
+      order_room : n ≤ length (with_keys order n).prios
+      order_room = omega (arith, length-append order.prios (replicate (n - length order.prios) 0), length-replicate {A = ℕ} (n - length order.prios) 0)
+
+      pub IsHeld-reserved : IsHeld (after_free (with_limit slots (256 + n)) (256 + places) count) (with_keys order n) rows' slot_of' map_len' room' width'
+          maxpri n
+      IsHeld-reserved = rw counts (IsHeld-freed (with_limit slots (256 + n)) (with_keys order n) rows' slot_of' map_len' room' width' maxpri places
+          widened n (omega arith) order_room row_room map_room more)
+
+      pub view_reserved : schedule_of (after_free (with_limit slots (256 + n)) (256 + places) count) (with_keys order n) rows' maxpri n
+          ≡ after_reserve (schedule_of slots order rows maxpri places) n
+      view_reserved =
+          rw counts (view_freed (with_limit slots (256 + n)) (with_keys order n) rows' slot_of' map_len' room' width' maxpri places widened n
+          (omega arith) order_room row_room map_room more)
+          ∙ ap (λ s. after_reserve s n) view_same
 
 -- a fact of what is left after an error
 pub on_err : {T E : Type 0} (r : Result T E) (P : Type 0) → P → OnErr r P

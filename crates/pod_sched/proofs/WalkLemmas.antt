@@ -33,13 +33,13 @@ rest_is [] (suc n) k is = absurd (cc)
 rest_is (x ∷ keys) zero k is = let same : x ≡ k = cc in ap (λ y. y ∷ keys) same
 rest_is (x ∷ keys) (suc n) k is = rest_is keys n k is
 
-cut_at : (keys : List ℕ) (n k : ℕ) → slice_get (drop n keys) 0 ≡ Some k → keys ≡ take n keys ++ k ∷ drop (suc n) keys
+pub cut_at : (keys : List ℕ) (n k : ℕ) → slice_get (drop n keys) 0 ≡ Some k → keys ≡ take n keys ++ k ∷ drop (suc n) keys
 cut_at [] zero k is = absurd (cc)
 cut_at [] (suc n) k is = absurd (cc)
 cut_at (x ∷ keys) zero k is = let same : x ≡ k = cc in ap (λ y. y ∷ keys) same
 cut_at (x ∷ keys) (suc n) k is = ap (λ ys. x ∷ ys) (cut_at keys n k is)
 
-passes_at : (P : ℕ → Type 0) (keys : List ℕ) (n k : ℕ) → AllByRecursion P keys → slice_get (drop n keys) 0 ≡ Some k → P k
+pub passes_at : (P : ℕ → Type 0) (keys : List ℕ) (n k : ℕ) → AllByRecursion P keys → slice_get (drop n keys) 0 ≡ Some k → P k
 passes_at P [] zero k all is = absurd (cc)
 passes_at P [] (suc n) k all is = absurd (cc)
 passes_at P (x ∷ keys) zero k all is = let same : x ≡ k = cc in subst P same all.0

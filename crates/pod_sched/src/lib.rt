@@ -11,6 +11,7 @@
 
 mod bucket;
 mod buckets;
+mod filing;
 pub mod laws;
 mod rows;
 mod sched;

@@ -6,15 +6,13 @@ ghost use Rattle.pod_sched.specs.Schedule.{IsOrdered, after_admit, after_block, 
 use crate::Known;
 use crate::bucket::{self, Bucket};
 use crate::buckets::{Buckets, Looks, Steps, first_of_last};
+use crate::filing::{FEWEST_CELLS, widen};
 use crate::rows::{LEVELS, extend_rows, free_slots, may_run, put_row, row_at, tids};
 use lists::{Chains, Index, cloned};
 use lwp_types::{IdList, NoMemory, Tid};
 use std::alloc::Global;
 use std::marker::{Brand, Model};
 use std::sync::ledger::{Blank, Ledger};
-
-// So many threads are found at one look.
-const CELLS: usize = 1024;
 
 /// Who is known, and who may run after whom. It is seen as a schedule in which nobody has a timer.
 pub struct Turns {
@@ -73,7 +71,7 @@ impl Turns {
             slots: Chains::new(alloc, LEVELS)?,
             order: Buckets::new(alloc, LEVELS)?,
             rows: Vec::new(alloc),
-            index: Index::with_width(alloc, CELLS)?,
+            index: Index::with_width(alloc, FEWEST_CELLS)?,
             maxpri,
             places: 0,
         })
@@ -108,7 +106,7 @@ impl Turns {
         self.slots.reserve(LEVELS + n)?;
         self.order.reserve(n)?;
         extend_rows(&mut self.rows, n)?;
-        self.index.reserve(n)?;
+        widen(&self.slots, &self.rows, &mut self.index, n)?;
         free_slots(&mut self.slots, LEVELS + self.places, LEVELS + n);
         self.places = n;
         Ok(())
