@@ -16,6 +16,7 @@ use Rattle.pod_runner.specs.Run as run
 use Rattle.pod_runner.proofs.Plays.{play-zero}
 use Rattle.pod_runner.specs.Play.{play}
 use Rattle.pod_runner.specs.Trace.{lines}
+use Rattle.pod_runner.proofs.Appends.{writes_base}
 use Rattle.pod_runner.specs.Run.{GoesOn, IsNew, Played, Tells, Writes, after_step, with_call, with_took}
 use Rattle.pod_runner.specs.declared.phase.Phase.TheVariants as phase
 use Rattle.pod_runner.specs.declared.phase.RunErr.{RunErr}
@@ -303,7 +304,7 @@ module _ {B P : Type 0} (next : Next B) (bodies : P → List B) where
         → IsStep next bodies proc_names to (record { old = Some bytes; new = Some more; faults_old = faults; faults_new = more_faults }) now new
         → more ≡ run.trace_of next bodies proc_names new
     told-now to now new faults more_faults bytes more is step =
-        let told : ◌≡◌ {A = Option (List ℕ)} (Some more) (Some (run.trace_of next bodies proc_names new)) = step.told (Some []) (ap (λ ls. Some ls) is) in
+        let told : ◌≡◌ {A = Option (List ℕ)} (Some more) (Some (run.trace_of next bodies proc_names new)) = writes_base step.told (Some []) (ap (λ ls. Some ls) is) in
         cc told
 
     pub counting-on : (to : Moment) (old now new : Played P) (here after : Reach) (most : ℕ) (held more : Counted) → Counting to old now here most held
