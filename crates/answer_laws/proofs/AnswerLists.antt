@@ -20,16 +20,16 @@ abbrev pub answers_from : Table → Texts → Texts
 answers_from table texts = replies table (before_first is_quit texts) ++ cond (list_any is_quit texts) (codes "bye" ∷ []) []
 
 module _ (p : List ℕ → Bool) (text : List ℕ) (texts : Texts) where
-  before_stays : p text ≡ false → before_first p (text ∷ texts) ≡ text ∷ before_first p texts
+  pub before_stays : p text ≡ false → before_first p (text ∷ texts) ≡ text ∷ before_first p texts
   before_stays e = rw e (ap (λ n. take n (text ∷ texts)) (one-add (prefix_len (λ x. not (p x)) texts)))
 
-  before_ends : p text ≡ true → before_first p (text ∷ texts) ≡ []
+  pub before_ends : p text ≡ true → before_first p (text ∷ texts) ≡ []
   before_ends e = rw e refl
 
-  any_stays : p text ≡ false → list_any p (text ∷ texts) ≡ list_any p texts
+  pub any_stays : p text ≡ false → list_any p (text ∷ texts) ≡ list_any p texts
   any_stays e = rw e refl
 
-  any_ends : p text ≡ true → list_any p (text ∷ texts) ≡ true
+  pub any_ends : p text ≡ true → list_any p (text ∷ texts) ≡ true
   any_ends e = rw e refl
 
 abbrev answers_of : Table → Texts → Bool → Texts
@@ -73,7 +73,7 @@ first_more said xs ys first =
     let more = answers_grow xs ys [] in
     record { rest = first.rest ++ more.rest; whole = sym (append_assoc said first.rest more.rest) ∙ ap (λ zs. zs ++ more.rest) first.whole ∙ more.whole }
 
-either_false : (a b : Bool) → (a || b) ≡ false → (a ≡ false) × (b ≡ false)
+pub either_false : (a b : Bool) → (a || b) ≡ false → (a ≡ false) × (b ≡ false)
 either_false true b e = absurd (cc)
 either_false false b e = (refl, e)
 

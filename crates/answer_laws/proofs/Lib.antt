@@ -1,5 +1,6 @@
 pub mod AnswerLists
 pub mod TalkLaws
+mod LostTalks
 pub mod Sights
 pub mod Leaving
 pub mod Others

@@ -624,7 +624,7 @@ module _ (s a : ℕ) where
   inv_events [] talk inv = inv
   inv_events (e ∷ events) talk inv = inv_events events (talk_on s a talk e) (inv_event talk e inv)
 
-  inv_opening : (event store : ℕ) → Inv s (opening_talk event store)
+  pub inv_opening : (event store : ℕ) → Inv s (opening_talk event store)
   inv_opening event store = Goes (Idle [] (record { replied = refl; kept = refl; clean = refl }) refl refl refl) refl
 
 pub talks_are_answers : TalksAreAnswers

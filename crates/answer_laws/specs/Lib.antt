@@ -1,4 +1,5 @@
 pub mod Talks
+pub mod LostTalks
 pub mod Rows
 pub mod Sights
 pub mod Replies

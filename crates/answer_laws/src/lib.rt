@@ -11,6 +11,7 @@
 //! | so it is from any point of a session on at which the two begin, or the session after a store that has served others | `ClientsAreAnsweredInTurn`, `LaterClientsAreAnsweredInTurn`, and by moves from the opening on `InWholeSessions`, `SessionsAreReached` (`specs/Served.antt`) |
 //! | in every session of every script each name of a thread is null, or the number of somebody who was born; so a client's session sends to nobody else | `NullNamesAreKnown`, `NamesAreOfTheBorn`, `SessionsSendToTheBorn` (`specs/Known.antt`) |
 //! | a session and a store that talk, whatever others send to the store and whichever of them end: what the client is told is a first part of the answers to its lines | `TalksAreAnswers` (`specs/Talks.antt`) |
+//! | where the store dies at some time, what the client is told in all: the table's answers to the lines that came before, or to all but the last of these, and from then on `down` to each command | `LostTalksAreAnswers` (`specs/LostTalks.antt`) |
 //! | the answers to lines that have room in a letter have room in one | `ShortLinesHaveShortAnswers` (`specs/Lengths.antt`) |
 //! | a sender has one letter at most; its receiver is handed it as it was sent; and what is replied to it is what its sender is answered | `EachHasOneLetter`, `ReceivesAreTheLetters`, `RepliesAreTheAnswers`, `ReadersLeaveTheRest` (`specs/Replies.antt`) |
 //! | nobody but its owner touches an agent or its letter, unless by destroying one of the two; and of an agent that is destroyed nothing is left | `OthersLeaveAgents`, `DestroyedAgentsAreGone` (`specs/Agents.antt`) |
@@ -48,6 +49,7 @@ ghost use Rattle.answer_laws.specs.Down.{RefusedSessionsSayDown, SendsToTheGoneA
 ghost use Rattle.answer_laws.specs.Events.{PodsLeaveIt, TakesLeaveIt};
 ghost use Rattle.answer_laws.specs.Known.{NamesAreOfTheBorn, NullNamesAreKnown, SessionsSendToTheBorn};
 ghost use Rattle.answer_laws.specs.Lengths.{ShortLinesHaveShortAnswers};
+ghost use Rattle.answer_laws.specs.LostTalks.{LostTalksAreAnswers};
 ghost use Rattle.answer_laws.specs.Owners.{OwnersOfNoneAreRefused, OwnersReceive, OwnersReply, SendsAreLetters};
 ghost use Rattle.answer_laws.specs.Owns.{LivingCallsAreEvents, OthersReplyNothing, PodsSessionsCallsAreEvents, PodsStoresCallsAreEvents};
 ghost use Rattle.answer_laws.specs.Replies.{EachHasOneLetter, ReadersLeaveTheRest, ReceivesAreTheLetters, RepliesAreTheAnswers};
@@ -167,6 +169,12 @@ pub fn every_session_reached<B: Body>()
 /// are a first part of the answers to its lines.
 pub fn every_talk()
     ensures { TalksAreAnswers }
+{}
+
+/// So it is if the store dies at some time: what the client is told is a first part of the table's answers to the lines that its session
+/// had received before, or to all of these but the last, and then of `down` to each command, and of the other answers as ever.
+pub fn every_lost_talk()
+    ensures { LostTalksAreAnswers }
 {}
 
 /// A thread that waits for a reply is left alone by every call of another to whom it hasn't written; and one that waits for a letter
