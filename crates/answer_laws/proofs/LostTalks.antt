@@ -372,7 +372,8 @@ module _ (n s a : ℕ) (names : Names) (talk : Talk) where
         now = record talk { session = session }
 
         by_lives : (b : Bool) → b ≡ false
-            → LostInv n (store_lost (cond b (record now { told = talk.told ++ text ∷ []; client = Hears zero_answer }) (record now { client = Hears nonexist })))
+            → LostInv n (store_lost (cond b (record now { told = talk.told ++ text ∷ []; client = Hears zero_answer })
+            (record now { client = Hears nonexist })))
         by_lives true h = absurd (cc)
         by_lives false h = Over first (Alone e)
     alone_calls e session (Sends text) = Over first (Alone e)

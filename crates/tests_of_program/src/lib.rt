@@ -10,6 +10,8 @@ mod beside;
 #[cfg(test)]
 mod checked;
 #[cfg(test)]
+mod looks;
+#[cfg(test)]
 mod many;
 #[cfg(test)]
 mod replayed;

@@ -14,8 +14,8 @@ use std::sync::Wait;
 use std::test::Fail;
 use std::thread::Threads;
 
-// A run of a script, before its first call.
-fn start<'s>(
+/// A run of a script, before its first call.
+pub fn start<'s>(
     alloc: Global,
     script: &'s Script,
     turns: u64,
