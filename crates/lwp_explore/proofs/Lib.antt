@@ -2,6 +2,9 @@ pub mod Alike
 pub mod Turns
 pub mod Reached
 pub mod Played
+pub mod TakeCounts
+pub mod StandingLaws
+pub mod StepPlaces
 pub mod CycleLaws
 pub mod WayLaws
 pub mod PostLaws

@@ -34,7 +34,7 @@ all_push P [] x hs h (suc k) d within = absurd (omega (arith, within))
 all_push P (y ∷ xs) x hs h zero d within = hs zero d (omega arith)
 all_push P (y ∷ xs) x hs h (suc k) d within = all_push P xs x (λ i d w. hs (suc i) d (omega (arith, w))) h k d (omega (arith, within))
 
-numbered_first : (n : ℕ) (xs ys : List Line) → IsNumbered n (xs ++ ys) → IsNumbered n xs
+pub numbered_first : (n : ℕ) (xs ys : List Line) → IsNumbered n (xs ++ ys) → IsNumbered n xs
 numbered_first n [] ys h = tt
 numbered_first n (x ∷ xs) ys h = (h.0, h.1, numbered_first (suc n) xs ys h.2)
 
@@ -42,7 +42,7 @@ get_after : {A : Type 0} (xs ys : List A) → slice_get (xs ++ ys) (length xs) �
 get_after [] ys = refl
 get_after (x ∷ xs) ys = get_after xs ys
 
-of_client : (c : ℕ) (lines : List Line) (k : ℕ) (line : Line) → slice_get (of c lines) k ≡ Some line → line.client ≡ c
+pub of_client : (c : ℕ) (lines : List Line) (k : ℕ) (line : Line) → slice_get (of c lines) k ≡ Some line → line.client ≡ c
 of_client c [] k line h = absurd cc
 of_client c (x ∷ lines) k line h = by (eqb x.client c) refl k h (of_client c lines)
   where
@@ -53,7 +53,7 @@ of_client c (x ∷ lines) k line h = by (eqb x.client c) refl k h (of_client c l
     by false e k h rest = rest k line h
 
 -- all but the first line of client c
-abbrev without_first : ℕ → List Line → List Line
+abbrev pub without_first : ℕ → List Line → List Line
 without_first c [] = []
 without_first c (x ∷ xs) = cond (eqb x.client c) xs (x ∷ without_first c xs)
 
@@ -184,7 +184,7 @@ module _ {B : Type 0} (world : World B) where
         steps = omega (arith, was.steps);
       }
 
-  turn_more : (takes : List Took) (left : List Line) (t : Took) → AreInTurn world takes left → t.line.client < length world.events
+  pub turn_more : (takes : List Took) (left : List Line) (t : Took) → AreInTurn world takes left → t.line.client < length world.events
       → event_of world.events t.line.client ≡ t.event
       → slice_get (of t.line.client world.posts) (count_at (taken_by (length world.events) takes) t.line.client) ≡ Some t.line
       → AreInTurn world (takes ++ t ∷ []) (without_first t.line.client left)

@@ -33,11 +33,11 @@ module _ {A C : Type 0} (f : A → C) where
   map_at (y ∷ xs) ys zero x h = let same : y ≡ x = cc in ap (λ z. Some (f z)) same
   map_at (y ∷ xs) ys (suc i) x h = map_at xs ys i x h
 
-at_right : {A : Type 0} (xs ys : List A) (i : ℕ) → slice_get (xs ++ ys) (length xs + i) ≡ slice_get ys i
+pub at_right : {A : Type 0} (xs ys : List A) (i : ℕ) → slice_get (xs ++ ys) (length xs + i) ≡ slice_get ys i
 at_right [] ys i = let same : 0 + i ≡ i = omega arith in ap (slice_get ys) same
 at_right (x ∷ xs) ys i = let same : suc (length xs) + i ≡ suc (length xs + i) = omega arith in ap (slice_get (x ∷ (xs ++ ys))) same ∙ at_right xs ys i
 
-get_event : (events : List ℕ) (k : ℕ) → k < length events → slice_get events k ≡ Some (slice_index events k)
+pub get_event : (events : List ℕ) (k : ℕ) → k < length events → slice_get events k ≡ Some (slice_index events k)
 get_event [] k within = absurd (omega (arith, within))
 get_event (e ∷ events) zero within = refl
 get_event (e ∷ events) (suc k) within = get_event events k (omega (arith, within))

@@ -9,9 +9,12 @@ pub mod Words
 pub mod Ends
 pub mod KindCodes
 pub mod Searching
+pub mod KeyLaws
 pub mod Lines
 pub mod Posts
 pub mod Cycles
+pub mod Standing
+pub mod Telling
 pub mod Listing
 pub mod Quiet
 pub mod Endings

@@ -6,9 +6,9 @@
 //! a program's sessions as a machine that `search` goes through. `specs/Endings.antt` and `specs/Rounds.antt` say what the cores that
 //! were found tell of all sessions: each ends, or calls alone go on for ever.
 //!
-//! The functions here are parts of such a search: `posts` has the lines of each client, `quiet` lists the kinds of the cores that were
-//! found, by `cycles` and `listing`; `lines` looks for a line; `words`, `texts` and `kind_text` are what is read and said. The session
-//! that is searched is not there yet, and no program uses this crate.
+//! The functions here are parts of such a search: `machine` is a session that goes from core to core, by the lines of each client in
+//! `posts`; `quiet` lists the kinds of the cores that were found, by `cycles` and `listing`; `lines` looks for a line, among those that
+//! `step_sink` and `tails` have; `words`, `texts` and `kind_text` are what is read and said. No program uses this crate yet.
 #![tactic(auto)]
 
 mod cycles;
@@ -18,8 +18,11 @@ mod kinds;
 mod laws;
 mod lines;
 mod listing;
+mod machine;
 mod posts;
 mod quiet;
+mod step_sink;
+mod tails;
 #[cfg(test)]
 mod tests;
 mod texts;

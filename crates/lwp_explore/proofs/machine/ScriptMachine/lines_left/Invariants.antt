@@ -1,0 +1,8 @@
+use Rattle.lwp_explore.proofs.machine.ScriptMachine.lines_left.Given as goal
+use Rattle.lwp_explore.specs.Kinds.{left_from}
+use Rattle.lwp_explore.specs.Sessions.{world_of}
+use Rattle.lwp_explore.specs.Standing.{core_now}
+use Rattle.std.proofs.Common.{take, ◌≡◌}
+
+abbrev pub invariant-loop-client : goal.invariant-loop-client
+invariant-loop-client l = l.left.items ≡ left_from (world_of l.self.script) (core_now l.self) 0 (take l.client l.self.script.clients)
