@@ -105,7 +105,8 @@ module _ (old new : Standing) where
   pub take_gone : (number c : ℕ) → IsTakeOf old number c → IsTaken old c new → IsGone old number new
   take_gone number c is taken =
       let parts = and_parts (has_left_of old c) (is_takeable (core_now old).pod (slice_index old.script.clients c)) is.may in
-      let line = get_in (of c (lines_posted old.script)) (count_at (taken_now old) c) (ltb-true (count_at (taken_now old) c) (length (of c (lines_posted old.script))) parts.0) in
+      let line = get_in (of c (lines_posted old.script)) (count_at (taken_now old) c)
+      (ltb-true (count_at (taken_now old) c) (length (of c (lines_posted old.script))) parts.0) in
       subst (λ o. IfSome o (IsStep old new)) (sym (take_among w (core_now old) number c line.0 is.within line.1 parts.1 is.before))
       (subst (λ o. IfSome o (λ l. IsStep old new (take_made w (core_now old) c
       (record { turn = 0; event = slice_index old.script.clients c; line = l })))) line.1 taken)

@@ -101,18 +101,21 @@ impl<'s, 'p> ScriptMachine<'s, 'p> {
         })
     }
 
+    /// How many calls were made.
     pub fn calls(&self) -> u64
         ensures { result ≡ self.now.run.calls }
     {
         self.run.calls()
     }
 
+    /// How many lines were taken.
     pub fn takes(&self) -> usize
         ensures { result ≡ length self.now.run.takes }
     {
         self.run.takes()
     }
 
+    /// The session as a plain value. It is refused where there is no memory for it.
     pub fn snapshot(&self) -> Result<Snapshot<'s>, NoMemory>
         requires { self.now.failed ≡ false }
         ensures { IfOk result
@@ -187,7 +190,7 @@ impl<'s, 'p> ScriptMachine<'s, 'p> {
         None
     }
 
-    /// Of each client, how many lines are left.
+    /// Of each client, how many lines are left. It is refused where there is no memory for them.
     pub fn lines_left(&self) -> Result<Vec<u32>, NoMemory>
         requires { self.now.failed ≡ false }
         ensures { IfOk result (λ left. left.items ≡ lines_left (world_of self.now.script) (core_now self.now)) }

@@ -24,6 +24,7 @@ impl Model for Told {
 }
 
 impl Told {
+    /// Nothing was told.
     pub fn nothing() -> Told
         ensures { result ≡ [] }
     {
@@ -33,6 +34,7 @@ impl Told {
         }
     }
 
+    /// The same once more.
     pub fn again(&self) -> Told
         ensures { result ≡ self.now }
     {

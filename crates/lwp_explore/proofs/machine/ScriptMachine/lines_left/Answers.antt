@@ -39,7 +39,8 @@ loop-client-preserved c =
     let within : c.loop-client.client < length s.script.clients = rw (← c.self.view_is) here in
     let at = c.index.ensures ∙ get_or_default c.self.inside.taken.items c.loop-client.client c.index.result.now 0
     (omega (arith, here, length_taken c.self.invariant.0 sound)) ∙ ap (λ t. slice_index t c.loop-client.client) (c.self.invariant.0.counted sound) in
-    let left : c.count.result - c.index.result.now ≡ length (of c.loop-client.client (lines_posted s.script)) - count_at (core_now s).taken c.loop-client.client =
+    let left : c.count.result - c.index.result.now
+    ≡ length (of c.loop-client.client (lines_posted s.script)) - count_at (core_now s).taken c.loop-client.client =
     rw (← c.self.view_is) (λ i. c.count.ensures i - at i) in
     c.in_ok-push.ensures.items
     ∙ (λ i. c.loop-client.invariant i ++ left i ∷ [])
