@@ -4,3 +4,7 @@ pub mod Mapped
 pub mod SameSessions
 pub mod DeskLaws
 pub mod NoteLaws
+pub mod Answerings
+pub mod Noting
+pub mod Calling
+pub mod Rounding

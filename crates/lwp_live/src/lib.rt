@@ -7,19 +7,21 @@
 //! (`specs/Laws.antt`) say that these are what is replied to the agents of each event, that what was told stays, that a recorded
 //! script posts the script's lines and then those that came, and that it has the script's sessions.
 //!
-//! What is there: `command_of` reads the words of the program; `client_of` and `rest_of` part a line of the input; `Desk` counts the
-//! lines of clients; `Notes` knows the clients of agents, and what a call tells them; `keep` puts bytes where they stay; `complaint`,
-//! `post_line` and `fault_text` are the texts; `Perhaps` is a sink that may not be there. What isn't there: the judging of lines, the
-//! thread that reads an input and posts its lines, the pod's side that takes them, and the program. Of these the crate has
-//! definitions of what they are to do (`specs/Input.antt`, `specs/Reader.antt`, `specs/Outside.antt`, `specs/Feeding.antt`,
-//! `specs/Ending.antt`, `specs/Live.antt`) and the types that these speak of, and no code.
+//! What is there: `command_of` reads the words of the program; `client_of` and `rest_of` part a line of the input; `Desk` judges the
+//! lines of an input, and counts those of each client; `Notes` knows the clients of agents, and what a call tells them; `go_beside`
+//! and `go_after` are the pod's side of a run that is fed, which takes lines, makes calls and writes the answers, while the reader
+//! posts and after it has ended; `keep` puts bytes where they stay; `complaint`, `post_line` and `fault_text` are the texts; `Perhaps`
+//! is a sink that may not be there. What isn't there: the thread that reads an input and posts its lines, what opens the inlets and
+//! starts it, and the program. Of these the crate has definitions of what they are to do (`specs/Reader.antt`, `specs/Outside.antt`,
+//! `specs/Feeding.antt`, `specs/Ending.antt`, `specs/Live.antt`) and the types that these speak of, and no code.
 //!
-//! The crate stands on the sessions of `script_session`, the replies of `lwp_serve`, the clients' ends of `script_run`, on
-//! `script_text`, `trace_text` and `streams`, and on the kit's `boxcar`.
+//! The crate stands on the rounds of `pod_runner`, the inlets of `event_gate`, the sessions of `script_session`, the replies of
+//! `lwp_serve`, the clients' ends of `script_run`, on `script_text`, `trace_text` and `streams`, and on the kit's `boxcar`.
 #![tactic(auto)]
 
 mod arrival;
 mod arrivals;
+mod beside;
 mod command;
 mod complaints;
 mod desk;
@@ -35,6 +37,7 @@ mod texts;
 
 pub use arrival::{Arrival, Fault, client_of, rest_of};
 pub use arrivals::{Arrivals, HangUp};
+pub use beside::{go_after, go_beside};
 pub use command::{Command, command_of};
 pub use complaints::complaint;
 pub use desk::{Desk, post_line};
