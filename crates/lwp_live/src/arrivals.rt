@@ -14,7 +14,7 @@ pub trait Arrivals: Send + Drop {
         ensures none { IfNone result (given self.new ≡ given self.old) };
 }
 
-/// What is called when the pod has come to its end, so that whoever waits for more of the input goes on without it.
+/// What is called when the pod has come to its end, so that anyone who waits for more of the input goes on without it.
 pub trait HangUp {
     fn hang_up<R: Wait>(&self, rt: &R);
 }
