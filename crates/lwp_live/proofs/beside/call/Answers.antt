@@ -11,7 +11,7 @@ use Rattle.std.proofs.Common.{Err, Ok, [], subst, sym, ◌∙◌}
 pub returns-in_err-turn-clause-lives : goal.returns-in_err-turn-clause-lives
 returns-in_err-turn-clause-lives g c = λ inlets.
     let trace = stream (g.T.Sink.written c.args.trace.now) (g.T.Sink.written c.turn.new.sink) (g.T.Sink.faults c.args.trace.now)
-        (g.T.Sink.faults c.turn.new.sink) in
+    (g.T.Sink.faults c.turn.new.sink) in
     lives_stop g.B.Body.next g.P.Program.bodies g.P.Program.proc_names (Unit {0}) _ trace c.args.run.now c.turn.new.self inlets inlets
     c.from_residual.result _ c.from_residual.ensures.1
     (lives-call g.B.Body.next g.P.Program.bodies g.P.Program.proc_names trace c.args.run.now c.turn.new.self inlets (Err _)
@@ -20,7 +20,7 @@ returns-in_err-turn-clause-lives g c = λ inlets.
 pub returns-in_err-turn-clause-told : goal.returns-in_err-turn-clause-told
 returns-in_err-turn-clause-told g c =
     let trace = stream (g.T.Sink.written c.args.trace.now) (g.T.Sink.written c.turn.new.sink) (g.T.Sink.faults c.args.trace.now)
-        (g.T.Sink.faults c.turn.new.sink) in
+    (g.T.Sink.faults c.turn.new.sink) in
     turn_untold g.B.Body.next g.P.Program.bodies g.P.Program.proc_names (Unit {0}) trace c.args.run.now c.turn.new.self
     c.from_residual.result _ c.from_residual.ensures.1
     (lives-call g.B.Body.next g.P.Program.bodies g.P.Program.proc_names trace c.args.run.now c.turn.new.self [] (Err _)
@@ -30,7 +30,7 @@ returns-in_err-turn-clause-told g c =
 pub returns-in_err-line-clause-lives : goal.returns-in_err-line-clause-lives
 returns-in_err-line-clause-lives g c = λ inlets.
     let trace = stream (g.T.Sink.written c.args.trace.now) (g.T.Sink.written c.turn.new.sink) (g.T.Sink.faults c.args.trace.now)
-        (g.T.Sink.faults c.turn.new.sink) in
+    (g.T.Sink.faults c.turn.new.sink) in
     lives_stop g.B.Body.next g.P.Program.bodies g.P.Program.proc_names (Unit {0}) _ trace c.args.run.now c.turn.new.self inlets inlets
     c.from_residual-in_err-line.result fails.NoMemory c.from_residual-in_err-line.ensures.1
     (lives_refused g.B.Body.next g.P.Program.bodies g.P.Program.proc_names (Unit {0}) trace c.args.run.now c.turn.new.self inlets inlets tt
@@ -46,7 +46,7 @@ returns-in_err-line-clause-told g c =
 pub returns-in_err-pass-clause-lives : goal.returns-in_err-pass-clause-lives
 returns-in_err-pass-clause-lives g c = λ inlets.
     let trace = stream (g.T.Sink.written c.args.trace.now) (g.T.Sink.written c.turn.new.sink) (g.T.Sink.faults c.args.trace.now)
-        (g.T.Sink.faults c.turn.new.sink) in
+    (g.T.Sink.faults c.turn.new.sink) in
     lives_stop g.B.Body.next g.P.Program.bodies g.P.Program.proc_names (Unit {0}) _ trace c.args.run.now c.turn.new.self inlets inlets
     c.from_residual-in_err-pass.result fails.NoMemory c.from_residual-in_err-pass.ensures.1
     (lives_refused g.B.Body.next g.P.Program.bodies g.P.Program.proc_names (Unit {0}) trace c.args.run.now c.turn.new.self inlets inlets tt
@@ -62,7 +62,7 @@ returns-in_err-pass-clause-told g c =
 pub returns-in-Ok-clause-lives : goal.returns-in-Ok-clause-lives
 returns-in-Ok-clause-lives g c = λ inlets.
     let trace = stream (g.T.Sink.written c.args.trace.now) (g.T.Sink.written c.turn.new.sink) (g.T.Sink.faults c.args.trace.now)
-        (g.T.Sink.faults c.turn.new.sink) in
+    (g.T.Sink.faults c.turn.new.sink) in
     lives-call g.B.Body.next g.P.Program.bodies g.P.Program.proc_names trace c.args.run.now c.turn.new.self inlets (Ok tt)
     c.requires.ready.sound c.requires.ready.made c.in_ok-turn.ensures.after c.in_ok-turn.ensures.told c.turn.ensures.made c.turn.ensures.room
 
@@ -88,7 +88,7 @@ returns-in-Ok-clause-notes g c =
 pub returns-clause-lives : goal.returns-clause-lives
 returns-clause-lives g c = λ inlets.
     let trace = stream (g.T.Sink.written c.args.trace.now) (g.T.Sink.written c.turn.new.sink) (g.T.Sink.faults c.args.trace.now)
-        (g.T.Sink.faults c.turn.new.sink) in
+    (g.T.Sink.faults c.turn.new.sink) in
     lives-call g.B.Body.next g.P.Program.bodies g.P.Program.proc_names trace c.args.run.now c.turn.new.self inlets (Ok tt)
     c.requires.ready.sound c.requires.ready.made c.in_ok-turn.ensures.after c.in_ok-turn.ensures.told c.turn.ensures.made c.turn.ensures.room
 

@@ -35,7 +35,7 @@ returns-in_err-go_round-clause-lives g c =
     (g.K.Sink.faults c.loop.answers) in
     lives_same_stop g.B.Body.next g.P.Program.bodies g.P.Program.proc_names (Option Live) _
     (stream (g.T.Sink.written c.args.trace.now) (g.T.Sink.written c.go_round.new.trace) (g.T.Sink.faults c.args.trace.now)
-        (g.T.Sink.faults c.go_round.new.trace))
+    (g.T.Sink.faults c.go_round.new.trace))
     c.args.run.now c.go_round.new.run (map any_intake c.args.inlets.now.items) (map any_intake c.go_round.new.inlets.items)
     c.from_residual.result c.in_err-go_round.field-0.0 c.from_residual.ensures.1
     (going_lives g.B.Body.next g.P.Program.bodies g.P.Program.proc_names (Option Live) trace answers (g.T.Sink.written c.go_round.new.trace)

@@ -25,7 +25,7 @@ returns-in_err-serve-in-Turn-clause-told g c = untold_same (steps_of g.B.Body.ne
 pub returns-in_err-call-in-Turn-clause-lives : goal.returns-in_err-call-in-Turn-clause-lives
 returns-in_err-call-in-Turn-clause-lives g c =
     let whole = stream (g.T.Sink.written c.args.trace.now) (g.T.Sink.written c.call.new.trace) (g.T.Sink.faults c.args.trace.now)
-        (g.T.Sink.faults c.call.new.trace) in
+    (g.T.Sink.faults c.call.new.trace) in
     let before = map any_intake c.args.inlets.now.items in
     let after = map any_intake c.serve.new.inlets.items in
     lives_same_stop g.B.Body.next g.P.Program.bodies g.P.Program.proc_names (Unit {0}) _ whole c.args.run.now c.call.new.run before after

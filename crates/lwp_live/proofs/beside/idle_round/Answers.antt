@@ -13,12 +13,12 @@ pub returns-in_err-serve-clause-lives : goal.returns-in_err-serve-clause-lives
 returns-in_err-serve-clause-lives g c = lives_same_stop g.B.Body.next g.P.Program.bodies g.P.Program.proc_names (Unit {0}) _
     (stream (g.T.Sink.written c.args.trace.now) (g.T.Sink.written c.serve.new.trace) (g.T.Sink.faults c.args.trace.now) (g.T.Sink.faults c.serve.new.trace))
     c.args.run.now c.serve.new.run (map any_intake c.args.inlets.now.items) (map any_intake c.serve.new.inlets.items) c.from_residual.result _
-        c.from_residual.ensures.1 c.in_err-serve.ensures.lives
+    c.from_residual.ensures.1 c.in_err-serve.ensures.lives
 
 pub returns-in_err-serve-clause-told : goal.returns-in_err-serve-clause-told
 returns-in_err-serve-clause-told g c =
     untold_same (steps_of g.B.Body.next g.P.Program.bodies c.args.run.now) (steps_of g.B.Body.next g.P.Program.bodies c.serve.new.run)
-        c.from_residual.result _ c.from_residual.ensures.1 c.in_err-serve.ensures.told
+    c.from_residual.result _ c.from_residual.ensures.1 c.in_err-serve.ensures.told
 
 pub returns-then-takes-taken-clause-told : goal.returns-then-takes-taken-clause-told
 returns-then-takes-taken-clause-told g c = untold_answer _ _ _ _ c.in_ok-serve.ensures.told
@@ -39,7 +39,7 @@ returns-then-all_told-clause-answers g c =
     (idle-still g.B.Body.next g.P.Program.bodies g.P.Program.proc_names
     (stream (g.T.Sink.written c.args.trace.now) (g.T.Sink.written c.serve.new.trace) (g.T.Sink.faults c.args.trace.now) (g.T.Sink.faults c.serve.new.trace))
     c.args.run.now c.serve.new.run (map any_intake c.args.inlets.now.items) (map any_intake c.serve.new.inlets.items) (Ok tt) lived served.takes same
-        ∙ c.requires.idle)
+    ∙ c.requires.idle)
     (none-comes g.B.Body.next g.P.Program.bodies g.P.Program.proc_names
     (stream (g.T.Sink.written c.args.trace.now) (g.T.Sink.written c.serve.new.trace) (g.T.Sink.faults c.args.trace.now) (g.T.Sink.faults c.serve.new.trace))
     c.args.run.now c.serve.new.run (map any_intake c.args.inlets.now.items) (map any_intake c.serve.new.inlets.items) (Ok tt) lived served same told)
@@ -54,4 +54,4 @@ returns-clause-answers g c =
     (stream (g.T.Sink.written c.args.trace.now) (g.T.Sink.written c.serve.new.trace) (g.T.Sink.faults c.args.trace.now) (g.T.Sink.faults c.serve.new.trace))
     c.args.run.now c.serve.new.run (map any_intake c.args.inlets.now.items) (map any_intake c.serve.new.inlets.items) (Ok tt) lived served same c.requires.idle
     (λ all. let answered = c.all_told.ensures.1 (subst (λ xs. AllTold (map any_intake xs)) (sym c.deref.ensures.value) all) in absurd
-        (false≢true (sym untold ∙ answered)))
+    (false≢true (sym untold ∙ answered)))

@@ -12,9 +12,9 @@ use Rattle.std.proofs.Common.{List, ap, arith, drop, length, map, refl, rules, s
 pub returns-in_err-serve_all-clause-lives : goal.returns-in_err-serve_all-clause-lives
 returns-in_err-serve_all-clause-lives g c = lives_stop g.B.Body.next g.P.Program.bodies g.P.Program.proc_names (Unit {0}) _
     (stream (g.T.Sink.written c.args.trace.now) (g.T.Sink.written c.serve_all.new.sink) (g.T.Sink.faults c.args.trace.now)
-        (g.T.Sink.faults c.serve_all.new.sink))
+    (g.T.Sink.faults c.serve_all.new.sink))
     c.args.run.now c.serve_all.new.run (map any_intake c.args.inlets.now.items) (map any_intake c.serve_all.new.inlets.items) c.from_residual.result _
-        c.from_residual.ensures.1 c.in_err-serve_all.ensures.lives
+    c.from_residual.ensures.1 c.in_err-serve_all.ensures.lives
 
 pub loop-i-init : goal.loop-i-init
 loop-i-init g c =
@@ -45,22 +45,22 @@ loop-i-preserved g c =
 pub returns-in_err-serve_all-clause-told : goal.returns-in_err-serve_all-clause-told
 returns-in_err-serve_all-clause-told g c =
     untold_err (steps_of g.B.Body.next g.P.Program.bodies c.args.run.now) (steps_of g.B.Body.next g.P.Program.bodies c.serve_all.new.run)
-        c.in_err-serve_all.ensures.lives.draws.extends.rest c.from_residual.result _ c.from_residual.ensures.1
+    c.in_err-serve_all.ensures.lives.draws.extends.rest c.from_residual.result _ c.from_residual.ensures.1
     c.in_err-serve_all.ensures.lives.draws.extends.steps
 
 pub returns-clause-told : goal.returns-clause-told
 returns-clause-told g c =
     let lived = c.in_ok-serve_all.ensures.lives in
     let took = took_only g.B.Body.next g.P.Program.bodies c.args.run.now c.serve_all.new.run lived.draws.later lived.ran.same lived.draws.extends
-        c.in_ok-serve_all.ensures.served.takes.still in
+    c.in_ok-serve_all.ensures.served.takes.still in
     untold_ok (steps_of g.B.Body.next g.P.Program.bodies c.args.run.now) (steps_of g.B.Body.next g.P.Program.bodies c.serve_all.new.run) _
-        (ap (λ (t : Telling). reply_lines t.replies) took.told)
+    (ap (λ (t : Telling). reply_lines t.replies) took.told)
 
 pub returns-clause-notes : goal.returns-clause-notes
 returns-clause-notes g c =
     let lived = c.in_ok-serve_all.ensures.lives in
     let took = took_only g.B.Body.next g.P.Program.bodies c.args.run.now c.serve_all.new.run lived.draws.later lived.ran.same lived.draws.extends
-        c.in_ok-serve_all.ensures.served.takes.still in
+    c.in_ok-serve_all.ensures.served.takes.still in
     let inv = c.loop-i.invariant in
     let past = c.loop-i-test.false in
     let size = c.takes-i-end.ensures in
