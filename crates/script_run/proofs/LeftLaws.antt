@@ -134,7 +134,7 @@ none-left [] ys h = h
 none-left (x ∷ xs) ys h = absurd (cc h)
 
 -- a take is of the event of its client, and there is such a client
-abbrev IsAtEvent : List ℕ → Took → Type 0
+abbrev pub IsAtEvent : List ℕ → Took → Type 0
 IsAtEvent clients t = (event_of clients t.line.client ≡ t.event) × (t.line.client < length clients)
 
 at-events : (has : ℕ → Type 0) (clients : List ℕ) (before rest : List Took)
@@ -161,7 +161,7 @@ at-events has clients before (t ∷ ts) stray known = (
 )
 
 -- the takes of a client are among those of its event
-own : (clients : List ℕ) (c : ℕ) (takes : List Took) → AllByRecursion (IsAtEvent clients) takes
+pub own : (clients : List ℕ) (c : ℕ) (takes : List Took) → AllByRecursion (IsAtEvent clients) takes
     → of c (lines_of (pairs_of takes)) ≡ of c (lines_of_takes (event_of clients c) takes)
 own clients c [] all = refl
 own clients c (t ∷ ts) all = let e = event_of clients c in ⊎_elim
@@ -211,7 +211,7 @@ events-of clients (t ∷ ts) all = (all.0.0, events-of clients ts all.1)
 
 module _ (has : ℕ → Type 0) (clients : List ℕ) (posts : List Line) (takes lost : List Took) (h : IsGiven has clients posts takes lost)
     (p : ArePosts clients posts) where
-  are-at : AllByRecursion (IsAtEvent clients) takes
+  pub are-at : AllByRecursion (IsAtEvent clients) takes
   are-at = at-events has clients [] takes (λ e c there other. by e c (h.stray e c there other)) h.known
     where
       none-right : (xs ys : List Line) → xs ++ ys ≡ [] → xs ≡ []

@@ -1,7 +1,7 @@
-mod LeftLaws
+pub mod LeftLaws
 mod ClientLaws
-mod BesideLaws
-mod LiveLaws
+pub mod BesideLaws
+pub mod LiveLaws
 pub mod Sound
 pub mod Ties
 pub mod Served
