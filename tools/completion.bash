@@ -1,5 +1,5 @@
-# Completion for bash: the words and options of lwpserve, lwpview, lwpcheck and lwpstate, and files where they take one. tools/install puts
-# it where bash-completion looks for it; without that, `source tools/completion.bash`.
+# Completion for bash: the words and options of lwpserve, lwpview, lwpcheck, lwpstate and lwpexplore, and files where they take one.
+# tools/install puts it where bash-completion looks for it; without that, `source tools/completion.bash`.
 
 # Adds the files and folders that begin so, after words that may stand there too.
 _loqzemar_words_or_files() {
@@ -33,7 +33,18 @@ _loqzemar_lwpstate() {
   fi
 }
 
+# The words of lwpexplore; after them stands a number, a line of a trace, or a file.
+_loqzemar_lwpexplore() {
+  COMPREPLY=()
+  if [ "$COMP_CWORD" -eq 1 ]; then
+    mapfile -t COMPREPLY < <(compgen -W 'ends trace line --help --version' -- "$2")
+  else
+    _loqzemar_words_or_files '' "$2"
+  fi
+}
+
 complete -F _loqzemar_lwpserve lwpserve
 complete -F _loqzemar_lwpview lwpview
 complete -F _loqzemar_lwpcheck lwpcheck
 complete -F _loqzemar_lwpstate lwpstate
+complete -F _loqzemar_lwpexplore lwpexplore

@@ -2,10 +2,11 @@
 //!
 //! There is a table for each program, a row a line: a name, the file that the program reads, the file with the text that is wanted, the
 //! status that is wanted, and the program's words. `data/rows` is for `lwpserve`, whose input is a script, the parts of a batch or the
-//! input of a replay; `data/view_rows` is for `lwpview`, `data/check_rows` for `lwpcheck`, and `data/state_rows` for `lwpstate`. Each row
-//! is run over streams in memory through what its program is made of: `lwp_serve::top`, `trace_page::view`, `script_advice::check` or,
-//! with the word `--print`, `script_printer::copy`, and `lwp_state::top`. One line is printed for it: `same`, or else the first line
-//! that differs, or the status where all lines are the same. `compare` is proved to say so. What the files hold no contract can say.
+//! input of a replay; `data/view_rows` is for `lwpview`, `data/check_rows` for `lwpcheck`, `data/state_rows` for `lwpstate`, and
+//! `data/explore_rows` for `lwpexplore`. Each row is run over streams in memory through what its program is made of: `lwp_serve::top`,
+//! `trace_page::view`, `script_advice::check` or, with the word `--print`, `script_printer::copy`, `lwp_state::top`, and
+//! `lwp_explore::explore_main`. One line is printed for it: `same`, or else the first line that differs, or the status where all lines
+//! are the same. `compare` is proved to say so. What the files hold no contract can say.
 //!
 //! How the text is compared is said by the last part of its file's name:
 //!
@@ -22,12 +23,14 @@
 //! long.
 //!
 //! A row is added by its files, its line in a table, and its line in `stdout`, which is its name and `: same`. Its text is worked out by
-//! hand, and never taken from the program; a page was looked at in a browser before it was stored.
+//! hand, and never taken from the program; a page was looked at in a browser before it was stored, and what all sessions of a script come
+//! to was found by another search, which shares no code with this one.
 #![tactic(auto)]
 
 mod check;
 mod damage;
 mod difference;
+mod explore;
 mod long;
 mod outcome;
 mod printing;
@@ -62,5 +65,6 @@ fn print_tables<R: Threads + Wait + Sync>(rt: &HostRuntime, threads: &R) -> io::
     print_count(rt, "many", many_lines(rt.alloc()))?;
     print_count(rt, "too_large", too_large(rt.alloc()))?;
     let stated = print_rows(rt, threads, Tool::State)?;
-    Ok(served && viewed && checked && stated)
+    let explored = print_rows(rt, threads, Tool::Explore)?;
+    Ok(served && viewed && checked && stated && explored)
 }

@@ -1,5 +1,6 @@
 // The tables: a row a line, each run and compared.
 use crate::check::checked;
+use crate::explore::explored;
 use crate::long::lines_among;
 use crate::outcome::Outcome;
 use crate::printing::{io_error, print_verdict};
@@ -21,6 +22,7 @@ pub enum Tool {
     View,
     Check,
     State,
+    Explore,
 }
 
 // The file with the rows for a program.
@@ -30,6 +32,7 @@ fn table_of(tool: Tool) -> &'static str {
         Tool::View => "view_rows",
         Tool::Check => "check_rows",
         Tool::State => "state_rows",
+        Tool::Explore => "explore_rows",
     }
 }
 
@@ -90,6 +93,7 @@ fn outcome_of<R: Threads + Wait + Sync>(
         Tool::View => viewed(alloc, &row.words, given),
         Tool::Check => checked(alloc, &row.words, given),
         Tool::State => stated(alloc, &row.words, given),
+        Tool::Explore => explored(alloc, &row.words, given),
     }
 }
 
