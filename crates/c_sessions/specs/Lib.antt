@@ -4,3 +4,4 @@ pub mod Planned
 pub mod Answered
 pub mod Replayed
 pub mod Advised
+pub mod Explored

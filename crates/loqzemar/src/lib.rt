@@ -7,7 +7,8 @@
 //! where; nothing is required of the caller but what its header says of pointers. Bytes that a call or a delivery carries are lent until
 //! the pod is freed.
 //!
-//! `loq_plan`, `loq_answers`, `loq_replay` and `loq_check` need no pod: they take the bytes of a whole script.
+//! `loq_plan`, `loq_answers`, `loq_replay` and `loq_check` need no pod: they take the bytes of a whole script. `loq_explore_ends`,
+//! `loq_explore_trace` and `loq_explore_line` take them too, and go through all sessions of the script.
 //!
 //! The crate stands on `c_pods` and `c_sessions`.
 #![tactic(auto)]
@@ -25,6 +26,7 @@ ghost use Rattle.pod_events.specs.Machine.{asks_memory};
 ghost use Rattle.pod_events.specs.Step.{event_step};
 ghost use Rattle.std.specs.Prelude.{◌≡◌, ◌≢◌, ◌≤◌, ◌<◌, ◌^◌, [], false, IfSome, IsTrue, None, Some, is_some, length, nat_lt, option_copied, option_map, true};
 
+mod explored;
 mod sessions;
 mod standing;
 mod status;

@@ -22,7 +22,12 @@ fn is_call_limit(calls: u64) -> bool
 }
 
 // Tells what a session comes to.
-fn tell(told: &Outcome, out: &mut [u8], len: &mut usize, session: &mut SessionRecord) -> u32
+pub(crate) fn tell(
+    told: &Outcome,
+    out: &mut [u8],
+    len: &mut usize,
+    session: &mut SessionRecord,
+) -> u32
     ensures status { result ≡ outcome_status told.now (length out.old) }
     ensures text { out.new ≡ put_front told.now.front.items out.old }
     ensures len { len.new ≡ told.now.len }
