@@ -246,8 +246,8 @@ enum {
 
 // How a session ended. What isn't named for its status is 0.
 typedef struct loq_session_t {
-    uint32_t status;  // what lwpserve exits with: 103 the bytes are no script; of a replay 0 the same or 107 another; of the others 0 to 99
-                      // the pod has ended with it, 104 stuck, 105 all calls that are allowed were made
+    uint32_t status;  // what the program exits with: 103 the bytes are no script; of a replay 0 the same or 107 another; of all sessions see
+                      // below; of the others 0 to 99 the pod has ended with it, 104 stuck, 105 all calls that are allowed were made
     uint32_t reason;  // 103: why
     uint64_t line;    // 103: the first bad line, from 1, or 0 where the whole is too large; 107: the first line that differs, from 1
     uint64_t calls;   // how many calls were made; of a replay, those whose first lines are among the lines that don't differ
@@ -275,6 +275,28 @@ uint32_t loq_replay(const uint8_t *script, size_t script_len, const uint8_t *tra
 // Tells what `lwpcheck` does of a script, and with json what `lwpcheck --json` does. The grade is 0 if nothing is wrong, 1 if something is
 // doubtful, 2 if the bytes are no script. LOQ_TOO_SMALL: as above. LOQ_NO_MEMORY: nothing is written.
 uint32_t loq_check(const uint8_t *script, size_t script_len, bool json, uint8_t *out, size_t room, size_t *len, uint32_t *grade);
+
+// ---- All sessions of a script, whenever the lines of its clients come: what `lwpexplore` tells. A core is all of a session that counts for
+// how it goes on. At most so many are kept, from 1 to LOQ_CORES_MAX; each takes some kilobytes, and no call ends before the search does.
+
+enum { LOQ_CORES_MAX = 1000000 }; // the most cores that may be kept
+
+// Tells how many cores and steps there are, and each kind of end, with its cores and the way to the first. The status of the session is 109
+// where a kind is listed other than an end of the pod with no lines left; else 110 where there are more cores; else 0. What is told of bytes
+// that are no script, and the statuses, are as of loq_plan. All else of the session is 0.
+uint32_t loq_explore_ends(const uint8_t *script, size_t script_len, uint64_t cores, uint8_t *out, size_t room, size_t *len,
+                          loq_session_t *session);
+
+// Tells the trace of the way to the first core of a kind, by its number in that list, from 1 to UINT32_MAX; where the kind is endless, with
+// one round after it. For any other kind loq_replay finds it to be the same. The status of the session is 0; or 111, and the text is empty,
+// where there are not so many kinds.
+uint32_t loq_explore_trace(const uint8_t *script, size_t script_len, uint64_t kind, uint64_t cores, uint8_t *out, size_t room, size_t *len,
+                           loq_session_t *session);
+
+// Tells how many calls and takes lead to the first step that writes a line of a trace, which is given without its newline; or `never` where no
+// session writes it; or `cut` where it wasn't found and there are more cores. The status of the session is 109, 0 or 110.
+uint32_t loq_explore_line(const uint8_t *script, size_t script_len, const uint8_t *line, size_t line_len, uint64_t cores, uint8_t *out,
+                          size_t room, size_t *len, loq_session_t *session);
 
 #ifdef __cplusplus
 }

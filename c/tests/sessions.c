@@ -4,6 +4,9 @@
 //     sessions answers SCRIPT CLIENT [CALLS]
 //     sessions replay INPUT [CALLS]           INPUT is a line `replay N`, a script of N bytes, and a recorded trace
 //     sessions check SCRIPT [--json]
+//     sessions ends SCRIPT [CORES]
+//     sessions trace SCRIPT KIND [CORES]
+//     sessions line SCRIPT LINE [CORES]
 //
 // Each call is made again with buffers that are too small. Before all words, `--fail` has each allocation fail in turn besides, and
 // numbers are given that are out of their range.
@@ -55,9 +58,9 @@ typedef struct {
 } bytes;
 
 typedef struct {
-    enum { PLAN, ANSWERS, REPLAY, CHECK_SCRIPT } word;
-    bytes script, trace;
-    uint64_t calls;
+    enum { PLAN, ANSWERS, REPLAY, CHECK_SCRIPT, ENDS, TRACE, LINE } word;
+    bytes script, trace, line;
+    uint64_t calls, cores, kind;
     uint8_t client;
     bool json;
 } question;
@@ -87,6 +90,15 @@ static answer ask(const question *q, uint8_t *out, size_t room) {
         break;
     case CHECK_SCRIPT:
         a.status = loq_check(q->script.at, q->script.len, q->json, out, room, &a.len, &a.session.status);
+        break;
+    case ENDS:
+        a.status = loq_explore_ends(q->script.at, q->script.len, q->cores, out, room, &a.len, &a.session);
+        break;
+    case TRACE:
+        a.status = loq_explore_trace(q->script.at, q->script.len, q->kind, q->cores, out, room, &a.len, &a.session);
+        break;
+    case LINE:
+        a.status = loq_explore_line(q->script.at, q->script.len, q->line.at, q->line.len, q->cores, out, room, &a.len, &a.session);
         break;
     }
     return a;
@@ -147,20 +159,27 @@ static void check_failing(const question *q, const answer *whole, const uint8_t 
     free(out);
 }
 
-static void check_numbers(const question *q) {
+static void check_bad_number(const question *bad) {
     uint8_t out[1] = {UNWRITTEN};
+    answer a = ask(bad, out, 1);
+    check_untold(&a, LOQ_BAD_NUMBER, out, 1);
+}
+
+static void check_numbers(const question *q) {
     question bad = *q;
     if (q->word == CHECK_SCRIPT) return;
     for (int i = 0; i < 3; i++) {
         bad.calls = i == 0 ? 0 : i == 1 ? LOQ_CALLS_MAX + 1 : UINT64_MAX;
-        answer a = ask(&bad, out, 1);
-        check_untold(&a, LOQ_BAD_NUMBER, out, 1);
+        bad.cores = i == 0 ? 0 : i == 1 ? LOQ_CORES_MAX + 1 : UINT64_MAX;
+        check_bad_number(&bad);
     }
-    if (q->word != ANSWERS) return;
     bad = *q;
     bad.client = 16;
-    answer a = ask(&bad, out, 1);
-    check_untold(&a, LOQ_BAD_NUMBER, out, 1);
+    if (q->word == ANSWERS) check_bad_number(&bad);
+    for (int i = 0; i < 3 && q->word == TRACE; i++) {
+        bad.kind = i == 0 ? 0 : i == 1 ? (uint64_t)UINT32_MAX + 1 : UINT64_MAX;
+        check_bad_number(&bad);
+    }
 }
 
 // ---- the words
@@ -188,6 +207,18 @@ static void split(bytes input, question *q) {
     q->trace = (bytes){input.at + from + len, input.len - from - len};
 }
 
+// What is asked for of all sessions.
+static bool read_search(char **words, int count, question *q) {
+    bool is_ends = strcmp(words[1], "ends") == 0, is_trace = strcmp(words[1], "trace") == 0, is_line = strcmp(words[1], "line") == 0;
+    int last = is_ends ? 3 : 4; // where the number of cores is, if one is said
+    if (!(is_ends || is_trace || is_line) || count < last || count > last + 1) return false;
+    q->word = is_ends ? ENDS : is_trace ? TRACE : LINE;
+    q->cores = count > last ? strtoull(words[last], NULL, 10) : 100000;
+    if (is_trace) q->kind = strtoull(words[3], NULL, 10);
+    if (is_line) q->line = (bytes){(uint8_t *)words[3], strlen(words[3])};
+    return true;
+}
+
 int main(int argc, char **argv) {
     bool fail = argc > 1 && strcmp(argv[1], "--fail") == 0;
     char **words = argv + fail;
@@ -209,10 +240,10 @@ int main(int argc, char **argv) {
     } else if (strcmp(words[1], "check") == 0) {
         q.word = CHECK_SCRIPT;
         q.json = count > 3 && strcmp(words[3], "--json") == 0;
-    } else {
+    } else if (!read_search(words, count, &q)) {
         return BROKEN;
     }
-    if (calls && q.word != CHECK_SCRIPT) q.calls = strtoull(calls, NULL, 10);
+    if (calls && q.word <= REPLAY) q.calls = strtoull(calls, NULL, 10);
 
     // How many bytes there are is asked first.
     uint8_t none[1] = {UNWRITTEN};

@@ -576,7 +576,85 @@ static PyType_Slot core_slots[] = {
 };
 static PyType_Spec core_spec = {"loqzemar._loqzemar.Core", sizeof(core_object), 0, Py_TPFLAGS_DEFAULT, core_slots};
 
+// ---- all sessions of a script
+
+typedef struct {
+    const char *script, *line;
+    Py_ssize_t script_len, line_len;
+    uint64_t kind, cores;
+} search;
+
+typedef uint32_t (*searcher)(const search *s, uint8_t *out, size_t room, size_t *len, loq_session_t *session);
+
+static uint32_t search_ends(const search *s, uint8_t *out, size_t room, size_t *len, loq_session_t *session) {
+    return loq_explore_ends((const uint8_t *)s->script, (size_t)s->script_len, s->cores, out, room, len, session);
+}
+
+static uint32_t search_trace(const search *s, uint8_t *out, size_t room, size_t *len, loq_session_t *session) {
+    return loq_explore_trace((const uint8_t *)s->script, (size_t)s->script_len, s->kind, s->cores, out, room, len, session);
+}
+
+static uint32_t search_line(const search *s, uint8_t *out, size_t room, size_t *len, loq_session_t *session) {
+    return loq_explore_line((const uint8_t *)s->script, (size_t)s->script_len, (const uint8_t *)s->line, (size_t)s->line_len, s->cores, out,
+                            room, len, session);
+}
+
+// A search takes its time, and uses nothing of Python's.
+static PyObject *searched(const search *s, searcher ask) {
+    size_t room = 1 << 16, len = 0;
+    uint32_t status = LOQ_TOO_SMALL;
+    loq_session_t session = {0, 0, 0, 0, 0};
+    uint8_t *out = NULL;
+    Py_BEGIN_ALLOW_THREADS;
+    while (status == LOQ_TOO_SMALL) {
+        uint8_t *more = realloc(out, room);
+        if (!more) {
+            status = LOQ_NO_MEMORY;
+            break;
+        }
+        out = more;
+        status = ask(s, out, room, &len, &session);
+        room = len;
+    }
+    Py_END_ALLOW_THREADS;
+    PyObject *told;
+    if (status != LOQ_DONE && status != LOQ_BAD_SCRIPT) told = fault(status);
+    else
+        told = Py_BuildValue("(IIKs#)", session.status, session.reason, (unsigned long long)session.line, (const char *)out, (Py_ssize_t)len);
+    free(out);
+    return told;
+}
+
+static PyObject *explore_ends(PyObject *module, PyObject *args) {
+    (void)module;
+    search s = {0};
+    PyObject *cores;
+    if (!PyArg_ParseTuple(args, "y#O", &s.script, &s.script_len, &cores) || take_number(cores, UINT64_MAX, &s.cores)) return NULL;
+    return searched(&s, search_ends);
+}
+
+static PyObject *explore_trace(PyObject *module, PyObject *args) {
+    (void)module;
+    search s = {0};
+    PyObject *kind, *cores;
+    if (!PyArg_ParseTuple(args, "y#OO", &s.script, &s.script_len, &kind, &cores)) return NULL;
+    if (take_number(kind, UINT64_MAX, &s.kind) || take_number(cores, UINT64_MAX, &s.cores)) return NULL;
+    return searched(&s, search_trace);
+}
+
+static PyObject *explore_line(PyObject *module, PyObject *args) {
+    (void)module;
+    search s = {0};
+    PyObject *cores;
+    if (!PyArg_ParseTuple(args, "y#y#O", &s.script, &s.script_len, &s.line, &s.line_len, &cores)) return NULL;
+    if (take_number(cores, UINT64_MAX, &s.cores)) return NULL;
+    return searched(&s, search_line);
+}
+
 static PyMethodDef functions[] = {
+    {"explore_ends", explore_ends, METH_VARARGS, "The ends of all sessions (script, cores): status, reason, line and text."},
+    {"explore_trace", explore_trace, METH_VARARGS, "The trace of the first of a kind (script, kind, cores), likewise."},
+    {"explore_line", explore_line, METH_VARARGS, "The first way to a line (script, line, cores), likewise."},
     {"call", (PyCFunction)(void (*)(void))make_call, METH_FASTCALL,
      "A call: kind, target, number, text, prio, room, mode, func, arg, other, exit, any, suspended, nolastrites, server, attached."},
     {NULL, NULL, 0, NULL},

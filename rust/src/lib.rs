@@ -51,6 +51,7 @@ struct Readme;
 
 mod answer;
 mod call;
+mod explored;
 mod follow;
 mod pod;
 pub mod sys;
@@ -58,6 +59,7 @@ mod text;
 
 pub use answer::{Answer, LwpErr};
 pub use call::{Call, Cid, ExitCall, Flags, Func, Mid, Mode, Pattern, Tid, FIRST};
+pub use explored::{explore_ends, explore_line, explore_trace, Ending, Explored, Unexplored};
 pub use follow::Unfollowed;
 pub use pod::{Body, End, Fault, Pod, Setup};
 pub use text::{text, NoText, Text};

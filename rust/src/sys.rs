@@ -66,6 +66,17 @@ pub struct loq_effect_t {
     pub call: loq_call_t,
 }
 
+/// How a session ended, or what a search came to.
+#[repr(C)]
+#[derive(Clone, Copy, Default)]
+pub struct loq_session_t {
+    pub status: u32,
+    pub reason: u32,
+    pub line: u64,
+    pub calls: u64,
+    pub taken: u64,
+}
+
 extern "C" {
     pub fn loq_pod_new(pod: *mut loq_pod, maxpri: u32, births: u64, procs: u32) -> u32;
     pub fn loq_pod_free(pod: *mut loq_pod);
@@ -87,4 +98,34 @@ extern "C" {
     pub fn loq_name(pod: *mut loq_pod, name: *const u8, name_len: usize) -> u32;
     pub fn loq_lines(pod: *mut loq_pod, out: *mut u8, room: usize, len: *mut usize) -> u32;
     pub fn loq_state(pod: *mut loq_pod, out: *mut u8, room: usize, len: *mut usize) -> u32;
+    pub fn loq_explore_ends(
+        script: *const u8,
+        script_len: usize,
+        cores: u64,
+        out: *mut u8,
+        room: usize,
+        len: *mut usize,
+        session: *mut loq_session_t,
+    ) -> u32;
+    pub fn loq_explore_trace(
+        script: *const u8,
+        script_len: usize,
+        kind: u64,
+        cores: u64,
+        out: *mut u8,
+        room: usize,
+        len: *mut usize,
+        session: *mut loq_session_t,
+    ) -> u32;
+    pub fn loq_explore_line(
+        script: *const u8,
+        script_len: usize,
+        line: *const u8,
+        line_len: usize,
+        cores: u64,
+        out: *mut u8,
+        room: usize,
+        len: *mut usize,
+        session: *mut loq_session_t,
+    ) -> u32;
 }

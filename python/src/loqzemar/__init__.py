@@ -71,6 +71,7 @@ from .calls import (
     return_,
     say,
 )
+from .explored import Ending, Explored, NoScript, explore_ends, explore_line, explore_trace
 from .pod import Pod
 from .words import (
     FIRST,
@@ -106,6 +107,8 @@ __all__ = [
     "Condition",
     "Differs",
     "End",
+    "Ending",
+    "Explored",
     "FIRST",
     "Func",
     "LE_ILLPRIO",
@@ -119,6 +122,7 @@ __all__ = [
     "Letter",
     "Monitor",
     "NOBODY",
+    "NoScript",
     "Pod",
     "Refused",
     "Tid",
@@ -141,6 +145,9 @@ __all__ = [
     "exc_raise",
     "exc_unhandle",
     "exc_uniqpatt",
+    "explore_ends",
+    "explore_line",
+    "explore_trace",
     "handling",
     "lwp_create",
     "lwp_destroy",
