@@ -1,5 +1,5 @@
 // All sessions of a script.
-ghost use Rattle.c_sessions.specs.Explored.{ExploreSays, ExploreTells, TellsSessions, search_record};
+ghost use Rattle.c_sessions.specs.Explored.{ExploreTells, TellsSessions, search_record};
 ghost use Rattle.c_sessions.specs.Planned.{refusal};
 ghost use Rattle.lwp_explore.specs.Texts.{fault_text};
 ghost use Rattle.lwp_explore.specs.Words.{MayBe};
