@@ -12,3 +12,8 @@ pub mod LineLaws
 pub mod ListingLaws
 pub mod EndingLaws
 pub mod QuietLaws
+pub mod AlongLaws
+pub mod SearchedLaws
+pub mod SeekingLaws
+pub mod PathTraces
+pub mod EndsLaws

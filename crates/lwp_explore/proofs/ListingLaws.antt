@@ -21,7 +21,7 @@ without_append n (x ∷ xs) ys = by (not (x == n)) (without_append n xs ys)
     by true h = ap (λ l. x ∷ l) h
     by false h = h
 
-other_way : (n k : ℕ) → (k == n) ≡ (n == k)
+pub other_way : (n k : ℕ) → (k == n) ≡ (n == k)
 other_way n k = by (eqb n k) refl
   where
     by : (b : Bool) → eqb n k ≡ b → (k == n) ≡ (n == k)

@@ -22,15 +22,15 @@ use Rattle.trace_text.specs.declared.ends.Halt.TheVariants as halt
 -- ---- which cores are calm
 
 -- the number of no ended pod is that of a calm core
-ended_not_calm : (status : ℕ) (left : Bool) → (with_left (4 + 2 * status) left / 2 == 1) ≡ false
+pub ended_not_calm : (status : ℕ) (left : Bool) → (with_left (4 + 2 * status) left / 2 == 1) ≡ false
 ended_not_calm status true = ne_eqb ((4 + 2 * status + 1) / 2) 1 (λ e. omega (arith, e))
 ended_not_calm status false = ne_eqb ((4 + 2 * status) / 2) 1 (λ e. omega (arith, e))
 
-stuck_not_calm : (left : Bool) → (with_left 0 left / 2 == 1) ≡ false
+pub stuck_not_calm : (left : Bool) → (with_left 0 left / 2 == 1) ≡ false
 stuck_not_calm true = refl
 stuck_not_calm false = refl
 
-endless_calm : (left : Bool) → (with_left 2 left / 2 == 1) ≡ true
+pub endless_calm : (left : Bool) → (with_left 2 left / 2 == 1) ≡ true
 endless_calm true = refl
 endless_calm false = refl
 
@@ -49,14 +49,14 @@ module _ {B : Type 0} (world : World B) where
   calm_by core false false turn nowhere left ends some none =
       ap (λ b. is_calm (option_map kind_code (kind_by (if b then Some halt.Stuck else None) false left))) (none refl)
 
-  no_turn : (core : Core B) → core.pod.state.ended ≡ true → has_turn core.pod.state ≡ false
+  pub no_turn : (core : Core B) → core.pod.state.ended ≡ true → has_turn core.pod.state ≡ false
   no_turn core e = rw e refl
 
-  empty_is : {A : Type 0} (xs : List A) → (length xs == 0) ≡ true → xs ≡ []
+  pub empty_is : {A : Type 0} (xs : List A) → (length xs == 0) ≡ true → xs ≡ []
   empty_is [] h = refl
   empty_is (x ∷ xs) h = absurd (omega (arith, eqb-true (length (x ∷ xs)) 0 h))
 
-  nowhere_if : (core : Core B) → (length (takes_at world core) == 0) ≡ true → (length (steps_at world core) == 0) ≡ not (has_turn core.pod.state)
+  pub nowhere_if : (core : Core B) → (length (takes_at world core) == 0) ≡ true → (length (steps_at world core) == 0) ≡ not (has_turn core.pod.state)
   nowhere_if core none = ap (λ (takes : List (Step B)). length (takes ++ calls_at world core) == 0) (empty_is (takes_at world core) none)
       ∙ by (has_turn core.pod.state)
     where
@@ -71,15 +71,15 @@ module _ {B : Type 0} (world : World B) where
       by [] h = absurd (false≢true (sym h))
       by (t ∷ takes) h = ne_eqb (length (t ∷ (takes ++ calls_at world core))) 0 (λ e. omega (arith, e))
 
-  is_only : (core : Core B) → is_calm (core_number world core) ≡ (length (takes_at world core) == 0) && has_turn core.pod.state
+  pub is_only : (core : Core B) → is_calm (core_number world core) ≡ (length (takes_at world core) == 0) && has_turn core.pod.state
   is_only core = calm_by core core.pod.state.ended (length (takes_at world core) == 0) (has_turn core.pod.state) (length (steps_at world core) == 0)
       (has_left world core) (no_turn core) (nowhere_if core) (somewhere core)
 
   -- from a calm core the only call leads on
-  calm_call : (core : Core B) → is_calm (core_number world core) ≡ true → only_call world core ≡ Some (call_made world core).to
+  pub calm_call : (core : Core B) → is_calm (core_number world core) ≡ true → only_call world core ≡ Some (call_made world core).to
   calm_call core calm = ap (λ b. if b then Some (call_made world core).to else None) (sym (is_only core) ∙ calm)
 
-  call_calm : (core to : Core B) → only_call world core ≡ Some to → is_calm (core_number world core) ≡ true
+  pub call_calm : (core to : Core B) → only_call world core ≡ Some to → is_calm (core_number world core) ≡ true
   call_calm core to h = is_only core ∙ by ((length (takes_at world core) == 0) && has_turn core.pod.state) h
     where
       by : (b : Bool) → (if b then Some (call_made world core).to else None) ≡ Some to → b ≡ true
@@ -92,7 +92,7 @@ module _ {B : Type 0} (world : World B) (numbers : B → List ℕ) (procs : List
   cores = cores_of (moves_of world numbers procs sought) rows
 
   -- its last step is that call
-  last_is : (core to : Core B) → only_call world core ≡ Some to → last_step (moves_of world numbers procs sought) core ≡ Some to
+  pub last_is : (core to : Core B) → only_call world core ≡ Some to → last_step (moves_of world numbers procs sought) core ≡ Some to
   last_is core to h =
       let calm = call_calm world core to h in
       let both = sym (is_only world core) ∙ calm in
@@ -114,7 +114,7 @@ module _ {B : Type 0} (world : World B) (numbers : B → List ℕ) (procs : List
 
   -- ---- the table
 
-  jump_is : (i : ℕ) → jump (quiet_nexts rows lasts) i ≡ quiet_next rows lasts i
+  pub jump_is : (i : ℕ) → jump (quiet_nexts rows lasts) i ≡ quiet_next rows lasts i
   jump_is i = at 0 (length rows) i i (omega arith) (λ h. h)
     where
       beyond : (xs : List Row) (k : ℕ) → (k < length xs → ⊥) → slice_get xs k ≡ None
@@ -130,12 +130,12 @@ module _ {B : Type 0} (world : World B) (numbers : B → List ℕ) (procs : List
       at a (suc n) zero j is low = let same : a ≡ j = omega (arith, is) in ap (quiet_next rows lasts) same
       at a (suc n) (suc k) j is low = at (a + 1) n k j (omega (arith, is)) (λ h. omega (arith, low h))
 
-  record Leads (i j : ℕ) : Type 0 where
-    here : is_quiet rows i ≡ true
-    last : slice_index_or lasts i None ≡ Some j
-    there : is_quiet rows j ≡ true
+  pub record Leads (i j : ℕ) : Type 0 where
+    pub here : is_quiet rows i ≡ true
+    pub last : slice_index_or lasts i None ≡ Some j
+    pub there : is_quiet rows j ≡ true
 
-  leads : (i j : ℕ) → jump (quiet_nexts rows lasts) i ≡ Some j → Leads i j
+  pub leads : (i j : ℕ) → jump (quiet_nexts rows lasts) i ≡ Some j → Leads i j
   leads i j h = by (is_quiet rows i) refl (slice_index_or lasts i None) refl (sym (jump_is i) ∙ h)
     where
       by : (b : Bool) → is_quiet rows i ≡ b → (o : Option ℕ) → slice_index_or lasts i None ≡ o → (if b then next_if rows o else None) ≡ Some j → Leads i j
@@ -156,7 +156,7 @@ module _ {B : Type 0} (world : World B) (numbers : B → List ℕ) (procs : List
       ∙ ap (next_if rows) l.last ∙ ap (λ b. if b then Some j else None) l.there
 
   -- a core of a quiet place is calm, and the other way round
-  row_there : (i : ℕ) → is_quiet rows i ≡ true → (row : Row) × (slice_get rows i ≡ Some row) × (is_calm row.kind ≡ true)
+  pub row_there : (i : ℕ) → is_quiet rows i ≡ true → (row : Row) × (slice_get rows i ≡ Some row) × (is_calm row.kind ≡ true)
   row_there i h = by (slice_get rows i) refl h
     where
       by : (o : Option Row) → slice_get rows i ≡ o → option_map_or (λ row. is_calm row.kind) o false ≡ true
@@ -180,7 +180,7 @@ module _ {B : Type 0} (world : World B) (numbers : B → List ℕ) (procs : List
         let same = some_is (sym (last_is core (call_made world core).to call) ∙ last.1) in
         (last.0, last.2, call ∙ ap (λ c. Some c) same)
 
-    calls_along : (n i j : ℕ) (core : Core B) → slice_get cores i ≡ Some core → leap (quiet_nexts rows lasts) n i ≡ Some j
+    pub calls_along : (n i j : ℕ) (core : Core B) → slice_get cores i ≡ Some core → leap (quiet_nexts rows lasts) n i ≡ Some j
         → (to : Core B) × (slice_get cores j ≡ Some to) × (only_calls world n core ≡ Some to)
     calls_along zero i j core at h = (core, ap (slice_get cores) (sym (some_is h)) ∙ at, refl)
     calls_along (suc n) i j core at h = by (jump (quiet_nexts rows lasts) i) refl h (λ k next led. calls_along n k j next led)

@@ -72,7 +72,7 @@ module _ {B : Type 0} (world : World B) where
   unfolding take_move
   same_take took a b h = h
 
-  among_takes : (core : Core B) (c e : ℕ) (line : Line) → next_line world core c ≡ Some line → is_takeable core.pod e ≡ true
+  pub among_takes : (core : Core B) (c e : ℕ) (line : Line) → next_line world core c ≡ Some line → is_takeable core.pod e ≡ true
       → (from : ℕ) (events : List ℕ) (k : ℕ) → c ≡ from + k → slice_get events k ≡ Some e
       → (i : ℕ) × (slice_get (takes_from world core from events) i ≡ Some (take_made world core c (record { turn = 0; event = e; line = line })))
   among_takes core c e line next may from [] k is there = absurd cc

@@ -2,12 +2,13 @@
 use Rattle.event_gate.specs.Clients.{of}
 use Rattle.lwp_explore.proofs.Reached.{at_right, get_event}
 use Rattle.lwp_explore.proofs.TakeCounts.{get_in}
+use Rattle.lwp_explore.specs.Along.{IsCounted}
 use Rattle.lwp_explore.specs.Cores.{Step, World, after, call_made, calls_at, count_at, next_line, steps_at, take_if, take_made, takes_at, takes_from}
 use Rattle.lwp_explore.specs.Lines.{has_line}
 use Rattle.lwp_explore.specs.Searching.{writes}
 use Rattle.lwp_explore.specs.Sessions.{world_of}
 use Rattle.lwp_explore.specs.Standing.{IsCalled, IsGone, IsStep, IsTakeOf, IsTaken, Standing, core_now, has_left_of, taken_now, trace_now}
-use Rattle.lwp_explore.specs.Ways.{step_lines, tail_of}
+use Rattle.lwp_explore.specs.Ways.{calls_in, step_lines, tail_of, takes_in}
 use Rattle.lwp_types.specs.declared.call.Line.{Line}
 use Rattle.pod_events.specs.Events.{has_turn, is_takeable}
 use Rattle.script_body.specs.declared.thread_body.ThreadBody.{ThreadBody}
@@ -97,6 +98,9 @@ pub on_both : {T E P Q R : Type 0} (r : Result T E) → (P → Q → R) → OnOk
 on_both (Ok x) f h k = f h k
 on_both (Err e) f h k = tt
 
+abbrev Counts : Standing → Standing → Step ThreadBody → Type 0
+Counts old new step = (new.run.calls ≡ old.run.calls + calls_in (step ∷ [])) × (length new.run.takes ≡ length old.run.takes + takes_in (step ∷ []))
+
 module _ (old new : Standing) where
   abbrev w : World ThreadBody
   w = world_of old.script
@@ -115,6 +119,22 @@ module _ (old new : Standing) where
       → IsGone old number new
   call_gone number more within called =
       subst (λ o. IfSome o (IsStep old new)) (sym (call_among w (core_now old) number more within)) called
+
+  -- a take counts as one, and so does a call
+  pub take_counts : (number c : ℕ) → IsTakeOf old number c → length new.run.takes ≡ length old.run.takes + 1 → new.run.calls ≡ old.run.calls
+      → IsCounted old number new
+  take_counts number c is longer calls =
+      let parts = and_parts (has_left_of old c) (is_takeable (core_now old).pod (slice_index old.script.clients c)) is.may in
+      let line = get_in (of c (lines_posted old.script)) (count_at (taken_now old) c)
+      (ltb-true (count_at (taken_now old) c) (length (of c (lines_posted old.script))) parts.0) in
+      let none : old.run.calls ≡ old.run.calls + 0 = omega arith in
+      subst (λ o. IfSome o (Counts old new)) (sym (take_among w (core_now old) number c line.0 is.within line.1 parts.1 is.before)) (calls ∙ none, longer)
+
+  pub call_counts : (number : ℕ) → length (takes_at w (core_now old)) ≤ number → number < length (steps_at w (core_now old))
+      → new.run.calls ≡ old.run.calls + 1 → length new.run.takes ≡ length old.run.takes → IsCounted old number new
+  call_counts number more within longer takes =
+      let none : length old.run.takes ≡ length old.run.takes + 0 = omega arith in
+      subst (λ o. IfSome o (Counts old new)) (sym (call_among w (core_now old) number more within)) (longer, takes ∙ none)
 
   -- what it wrote, and what comes after it where the session is over then
   pub gone_writes : (number : ℕ) → number < length (steps_at w (core_now old)) → IsGone old number new → (lines line : List ℕ)

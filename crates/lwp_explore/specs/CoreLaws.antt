@@ -3,7 +3,10 @@ use Rattle.event_gate.specs.Clients.{IsNumbered, of}
 use Rattle.lwp_explore.specs.Cores.{World, after, first_core}
 use Rattle.lwp_explore.specs.Sessions.{IsSession, core_at}
 use Rattle.lwp_types.specs.Poll.{Next}
+use Rattle.lwp_explore.specs.Ways.{way, way_text}
+use Rattle.pod_runner.specs.Play.{play}
 use Rattle.pod_runner.specs.Session.{Live, move, take_move}
+use Rattle.pod_runner.specs.Trace.{lines}
 use Rattle.pod_runner.specs.declared.session.Took.{Took}
 use Rattle.search.specs.Moves.{walk}
 use Rattle.session_cores.specs.Core.{Core, core_of}
@@ -40,3 +43,13 @@ pub record IsOfSession {B : Type 0} (world : World B) (path : List ℕ) (core : 
 abbrev pub CoresHaveSessions : Type 0 → Type 0
 CoresHaveSessions B = (world : World B) → ((c : ℕ) → IsNumbered 0 (of c world.posts)) → (path : List ℕ) (core : Core B)
     → walk (after world) (first_core world) path ≡ Some core → IsOfSession world path core
+
+-- a path leads to the core of a session, and the session's trace is what the steps along it write
+pub record HasPath {B : Type 0} (world : World B) (procs : List (List ℕ)) (takes : List Took) (n : ℕ) : Type 0 where
+  pub path : List ℕ
+  pub leads : walk (after world) (first_core world) path ≡ Some (core_at world takes n)
+  pub trace : lines procs (play world.setting takes n).steps ≡ way_text procs (way world path)
+
+-- so it is with each session, whatever the procedures are named
+abbrev pub SessionsHavePaths : Type 0 → Type 0
+SessionsHavePaths B = (world : World B) (procs : List (List ℕ)) (takes : List Took) (n : ℕ) → IsSession world takes n → HasPath world procs takes n

@@ -4,6 +4,8 @@ use Rattle.lwp_explore.specs.KindCodes.{kind_code}
 use Rattle.lwp_explore.specs.KindText.{is_bad, kind_name}
 use Rattle.lwp_explore.specs.Kinds.{IsOfKind}
 use Rattle.lwp_explore.specs.Ways.{length_text, way}
+use Rattle.lwp_explore.specs.declared.ending.Ending.{Ending}
+use Rattle.lwp_explore.specs.declared.ending.Ending.TheVariants as ending
 use Rattle.lwp_explore.specs.declared.kinds.End.{End}
 use Rattle.lwp_explore.specs.declared.kinds.End.TheVariants as end
 use Rattle.lwp_explore.specs.declared.kinds.Kind.{Kind}
@@ -76,23 +78,38 @@ cycles_text (end.Ended status) core = []
 cycles_text end.Stuck core = flat_map (λ threads. codes ", cycle" ++ thread_words threads) (cycles core.pod.state)
 cycles_text end.Endless core = []
 
--- the line of a kind: how many cores it has, the way to the first, and what is in a deadlock there
-abbrev pub kind_line : {B : Type 0} → World B → Searched B → Kind → List ℕ
-kind_line world found kind = let at = unwrap_or (position (has_kind kind) found.kinds) 0 in
-    kind_name kind ++ (codes ": " ++ (decimal (count_by (has_kind kind) found.kinds) ++ (codes " cores, "
-    ++ (length_text (way world (unwrap_or (slice_get found.paths at) []))
-    ++ (cycles_text kind.end (unwrap_or (slice_get found.cores at) (first_core world)) ++ 10 ∷ [])))))
+-- the line of a kind with so many cores, by the path to the first and that core: how long the way is, and who is in a deadlock there
+abbrev pub line_of : {B : Type 0} → World B → Kind → ℕ → List ℕ → Core B → List ℕ
+line_of world kind count path core = kind_name kind ++ (codes ": " ++ (decimal count ++ (codes " cores, "
+    ++ (length_text (way world path) ++ (cycles_text kind.end core ++ 10 ∷ [])))))
 
--- how much was found
-abbrev pub counts_line : {B : Type 0} → Searched B → List ℕ
-counts_line found = codes "states " ++ (decimal (length found.cores) ++ (codes " steps " ++ (decimal found.tried
-    ++ (if found.whole then codes " whole\n" else codes " cut\n"))))
+-- where the first core of a kind is
+abbrev pub first_of : {B : Type 0} → Searched B → Kind → ℕ
+first_of found kind = unwrap_or (position (has_kind kind) found.kinds) 0
+
+-- the line of a kind
+abbrev pub kind_line : {B : Type 0} → World B → Searched B → Kind → List ℕ
+kind_line world found kind = line_of world kind (count_by (has_kind kind) found.kinds)
+    (unwrap_or (slice_get found.paths (first_of found kind)) []) (unwrap_or (slice_get found.cores (first_of found kind)) (first_core world))
+
+-- how many cores there are, how many steps were tried, and whether these are all
+abbrev pub counts_text : ℕ → ℕ → Bool → List ℕ
+counts_text cores tried whole = codes "states " ++ (decimal cores ++ (codes " steps " ++ (decimal tried
+    ++ (if whole then codes " whole\n" else codes " cut\n"))))
 
 -- all that is said
 abbrev pub ends_text : {B : Type 0} → World B → Searched B → List ℕ
-ends_text world found = counts_line found ++ flat_map (kind_line world found) (kinds_in found.kinds)
+ends_text world found = counts_text (length found.cores) found.tried found.whole ++ flat_map (kind_line world found) (kinds_in found.kinds)
 
--- ---- the status
+-- ---- what that comes to
 
-abbrev pub ends_status : {B : Type 0} → Searched B → ℕ
-ends_status found = if list_any is_bad (kinds_in found.kinds) then 109 else if found.whole then 0 else 110
+-- some end is not well; or else the search was cut, or it was not
+abbrev pub ends_by : List Kind → Bool → Ending
+ends_by kinds whole = if list_any is_bad kinds then ending.Told else if whole then ending.Well else ending.Cut
+
+-- the text, and what it comes to, of a right search with so many cores at most
+pub record EndsSay {B : Type 0} (world : World B) (limit : ℕ) (text : List ℕ) (ending : Ending) : Type 0 where
+  pub found : Searched B
+  pub right : IsSearched world limit found
+  pub said : text ≡ ends_text world found
+  pub ends : ending ≡ ends_by (kinds_in found.kinds) found.whole

@@ -19,3 +19,7 @@ pub mod Listing
 pub mod Quiet
 pub mod Endings
 pub mod Rounds
+pub mod Explored
+pub mod Along
+pub mod LineSaid
+pub mod FoundText

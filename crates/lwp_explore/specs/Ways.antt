@@ -17,10 +17,15 @@ steps_along world core (i ∷ path) = option_map_or (λ step. step ∷ steps_alo
 abbrev pub way : {B : Type 0} → World B → List ℕ → List (Step B)
 way world path = steps_along world (first_core world) path
 
--- how many are calls, and how many are takes
+-- how many of these steps are calls, and how many are takes
+abbrev pub calls_in : {B : Type 0} → List (Step B) → ℕ
+calls_in {B} steps = count_by (λ (s : Step B). is_none s.take) steps
+
+abbrev pub takes_in : {B : Type 0} → List (Step B) → ℕ
+takes_in {B} steps = count_by (λ (s : Step B). is_some s.take) steps
+
 abbrev pub length_text : {B : Type 0} → List (Step B) → List ℕ
-length_text {B} steps = codes "calls " ++ (decimal (count_by (λ (s : Step B). is_none s.take) steps)
-    ++ (codes " takes " ++ decimal (count_by (λ (s : Step B). is_some s.take) steps)))
+length_text steps = codes "calls " ++ (decimal (calls_in steps) ++ (codes " takes " ++ decimal (takes_in steps)))
 
 -- what a step writes; the procedures are named so
 abbrev pub step_lines : {B : Type 0} → List (List ℕ) → Step B → List ℕ

@@ -1,5 +1,5 @@
 // How a session ends, by its core.
-ghost use Rattle.lwp_explore.specs.KindCodes.{kind_code};
+ghost use Rattle.lwp_explore.specs.KindCodes.{code_kind, kind_code};
 ghost use Rattle.std.specs.Prelude.{◌≡◌, ◌<◌};
 
 /// A kind of end: the pod has ended, with a status; no thread may run and no line can be taken; or calls alone go on for ever.
@@ -32,7 +32,8 @@ pub fn number_of(kind: Kind) -> u32
 
 /// The kind of this number.
 pub fn kind_of(number: u32) -> Kind
-    ensures { kind_code result ≡ number }
+    ensures code { kind_code result ≡ number }
+    ensures value { result ≡ code_kind number }
 {
     let half = number / 2;
     let end = if half == 0 {

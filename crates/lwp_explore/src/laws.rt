@@ -1,5 +1,5 @@
 // What holds of every core. There is no code here: the clauses are laws.
-ghost use Rattle.lwp_explore.specs.CoreLaws.{CallsAlike, CoresHaveSessions, SessionsHaveCores, TakesAlike};
+ghost use Rattle.lwp_explore.specs.CoreLaws.{CallsAlike, CoresHaveSessions, SessionsHaveCores, SessionsHavePaths, TakesAlike};
 ghost use Rattle.lwp_explore.specs.Endings.{SessionsEnd};
 ghost use Rattle.lwp_explore.specs.Rounds.{CyclesAreEndless, EndlessAreCycles};
 
@@ -18,6 +18,11 @@ pub fn every_take<B: Body>()
 /// Steps lead to the core of each session that a program has, whenever its clients' lines are taken.
 pub fn every_session_core<B: Body>()
     ensures { SessionsHaveCores B }
+{}
+
+/// And what the steps along such a path write is the trace of the session.
+pub fn every_session_path<B: Body>()
+    ensures { SessionsHavePaths B }
 {}
 
 /// Each core that steps lead to is the core of such a session, with a call or a take for each step.

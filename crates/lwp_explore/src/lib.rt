@@ -6,13 +6,16 @@
 //! a program's sessions as a machine that `search` goes through. `specs/Endings.antt` and `specs/Rounds.antt` say what the cores that
 //! were found tell of all sessions: each ends, or calls alone go on for ever.
 //!
-//! The functions here are parts of such a search: `machine` is a session that goes from core to core, by the lines of each client in
-//! `posts`; `quiet` lists the kinds of the cores that were found, by `cycles` and `listing`; `lines` looks for a line, among those that
-//! `step_sink` and `tails` have; `words`, `texts` and `kind_text` are what is read and said. No program uses this crate yet.
+//! `machine` is a session that goes from core to core, by the lines of each client in `posts`, and `along` takes it along a path.
+//! `searching` goes through the cores: `quiet` lists the kinds of those that were found, by `cycles` and `listing`, and `ends` says what
+//! they come to; `lines` looks for a line, among those that `step_sink` and `tails` have, and `seeking` says where it is. `words`, `texts`
+//! and `kind_text` are what is read and said. No program uses this crate yet.
 #![tactic(auto)]
 
+mod along;
 mod cycles;
 mod ending;
+mod ends;
 mod kind_text;
 mod kinds;
 mod laws;
@@ -21,6 +24,8 @@ mod listing;
 mod machine;
 mod posts;
 mod quiet;
+mod searching;
+mod seeking;
 mod step_sink;
 mod tails;
 #[cfg(test)]
@@ -34,7 +39,8 @@ pub use ending::Ending;
 pub use kind_text::{add_kind, is_well};
 pub use kinds::{End, Kind, kind_of, number_of};
 pub use laws::{
-    every_call, every_core_session, every_round, every_session_core, every_session_ends, every_take,
+    every_call, every_core_session, every_round, every_session_core, every_session_ends,
+    every_session_path, every_take,
 };
 pub use lines::has_line;
 pub use listing::{Listed, list_kinds};

@@ -1,4 +1,5 @@
 // A session of a script, as a machine to be searched.
+ghost use Rattle.lwp_explore.specs.Along.{IsCounted};
 ghost use Rattle.lwp_explore.specs.Cores.{after, steps_at, takes_at};
 ghost use Rattle.lwp_explore.specs.Kinds.{halt_of, has_left, lines_left};
 ghost use Rattle.lwp_explore.specs.Lines.{has_line};
@@ -286,6 +287,7 @@ impl<'s, 'p> ScriptMachine<'s, 'p> {
         ensures longer { OnOk result
             (self.new.run.calls + length self.new.run.takes
             ≡ self.old.run.calls + length self.old.run.takes + 1) }
+        ensures counted { OnOk result (IsCounted self.old number self.new) }
         ensures told { Tells (sides K.written K.faults sink.old sink.new)
             (trace_now self.old) (trace_now self.old) (trace_now self.new) result }
     {
