@@ -65,7 +65,7 @@ pigeonhole (suc n) (suc m) f into one = omega (arith, pigeonhole n m (avoiding f
 -- ---- leaps
 
 module _ (nexts : List (Option ℕ)) where
-  leap_add : (m n i : ℕ) → leap nexts (m + n) i ≡ option_and_then (leap nexts n) (leap nexts m i)
+  pub leap_add : (m n i : ℕ) → leap nexts (m + n) i ≡ option_and_then (leap nexts n) (leap nexts m i)
   leap_add zero n i = let same : 0 + n ≡ n = omega arith in ap (λ k. leap nexts k i) same
   leap_add (suc m) n i = let same : suc m + n ≡ suc (m + n) = omega arith in
       ap (λ k. leap nexts k i) same ∙ by (jump nexts i) (λ j. leap_add m n j)
@@ -93,7 +93,7 @@ module _ (nexts : List (Option ℕ)) where
       by (Some k) later g = later k g
 
   -- on the way of a leap there is a place after each number of steps
-  on_way : (m n i c : ℕ) → leap nexts (m + n) i ≡ Some c → leap nexts m i ≡ Some (unwrap_or (leap nexts m i) 0)
+  pub on_way : (m n i c : ℕ) → leap nexts (m + n) i ≡ Some c → leap nexts m i ≡ Some (unwrap_or (leap nexts m i) 0)
   on_way m n i c h = by (leap nexts m i) (sym (leap_add m n i) ∙ h)
     where
       by : (o : Option ℕ) → option_and_then (leap nexts n) o ≡ Some c → o ≡ Some (unwrap_or o 0)

@@ -17,3 +17,5 @@ pub mod SearchedLaws
 pub mod SeekingLaws
 pub mod PathTraces
 pub mod EndsLaws
+pub mod TracingLaws
+pub mod TopLaws

@@ -23,3 +23,7 @@ pub mod Explored
 pub mod Along
 pub mod LineSaid
 pub mod FoundText
+pub mod FoundRounds
+pub mod TraceSaid
+pub mod Top
+pub mod Written

@@ -2,7 +2,7 @@
 use Rattle.lwp_explore.specs.declared.words.Command.{Command}
 use Rattle.lwp_explore.specs.declared.words.Command.TheVariants as command
 use Rattle.script_lines.specs.Words.{number_at}
-use Rattle.std.specs.Prelude.{Bool, List, None, Option, Some, [], bytes_eq, codes, if◌then◌else◌, nat_le, ℕ, ◌&&◌, ◌∷◌}
+use Rattle.std.specs.Prelude.{Bool, List, None, Option, Some, [], bytes_eq, codes, if◌then◌else◌, nat_le, ℕ, ◌&&◌, ◌∷◌, ◌≤◌}
 
 abbrev pub is_ends : List ℕ → Bool
 is_ends word = bytes_eq word (codes "ends")
@@ -55,3 +55,9 @@ command_of (word ∷ second ∷ third ∷ []) = if is_trace word then trace_by (
     else if is_line word then line_by (cores_by (number_at third))
     else None
 command_of (word ∷ second ∷ third ∷ other ∷ words) = None
+
+-- what it asks for may be had
+abbrev pub MayBe : Command → Type 0
+MayBe (command.Ends cores) = (1 ≤ cores) × (cores ≤ 1000000)
+MayBe (command.Trace kind cores) = (1 ≤ kind) × (1 ≤ cores) × (cores ≤ 1000000)
+MayBe (command.Line cores) = (1 ≤ cores) × (cores ≤ 1000000)

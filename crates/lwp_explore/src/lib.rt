@@ -8,11 +8,13 @@
 //!
 //! `machine` is a session that goes from core to core, by the lines of each client in `posts`, and `along` takes it along a path.
 //! `searching` goes through the cores: `quiet` lists the kinds of those that were found, by `cycles` and `listing`, and `ends` says what
-//! they come to; `lines` looks for a line, among those that `step_sink` and `tails` have, and `seeking` says where it is. `words`, `texts`
-//! and `kind_text` are what is read and said. No program uses this crate yet.
+//! they come to; `lines` looks for a line, among those that `step_sink` and `tails` have, and `seeking` says where it is; `tracing` has the
+//! lines along a path. `words`, `texts` and `kind_text` are what is read and said, and `command` does what the words of `lwpexplore` ask
+//! for: `specs/Top.antt` says what that comes to.
 #![tactic(auto)]
 
 mod along;
+mod command;
 mod cycles;
 mod ending;
 mod ends;
@@ -31,9 +33,11 @@ mod tails;
 #[cfg(test)]
 mod tests;
 mod texts;
+mod tracing;
 mod words;
 mod worked;
 
+pub use command::{explore_main, explored};
 pub use cycles::in_cycles;
 pub use ending::Ending;
 pub use kind_text::{add_kind, is_well};

@@ -1,7 +1,7 @@
 // What the program's words ask for.
-ghost use Rattle.lwp_explore.specs.Words.{command_of, cores_by, ends_by, is_ends, is_line, is_trace, kind_by, line_by, trace_by};
+ghost use Rattle.lwp_explore.specs.Words.{MayBe, command_of, cores_by, ends_by, is_ends, is_line, is_trace, kind_by, line_by, trace_by};
 ghost use Rattle.script_lines.specs.Words.{number_at};
-ghost use Rattle.std.specs.Prelude.{◌≡◌, map, string_bytes};
+ghost use Rattle.std.specs.Prelude.{◌≡◌, ◌≤◌, IfSome, map, string_bytes};
 
 use script_lines::number_at;
 
@@ -40,7 +40,9 @@ fn is_line(word: &[u8]) -> bool
 
 // A number of cores that may be asked for.
 fn cores_at(word: &[u8]) -> Option<u32>
-    ensures { result ≡ cores_by (number_at word.now) }
+    ensures value { result ≡ cores_by (number_at word.now) }
+    ensures some { IfSome result (λ cores. 1 ≤ cores) }
+    ensures few { IfSome result (λ cores. cores ≤ 1000000) }
 {
     let cores = number_at(word)?;
     if cores < 1 || cores > MOST_CORES {
@@ -51,7 +53,8 @@ fn cores_at(word: &[u8]) -> Option<u32>
 
 // The number of a kind.
 fn kind_at(word: &[u8]) -> Option<u32>
-    ensures { result ≡ kind_by (number_at word.now) }
+    ensures value { result ≡ kind_by (number_at word.now) }
+    ensures some { IfSome result (λ kind. 1 ≤ kind) }
 {
     let kind = number_at(word)?;
     if kind < 1 {
@@ -61,13 +64,20 @@ fn kind_at(word: &[u8]) -> Option<u32>
 }
 
 fn ends_by(cores: Option<u32>) -> Option<Command>
-    ensures { result ≡ ends_by cores }
+    requires some { IfSome cores (λ n. 1 ≤ n) }
+    requires few { IfSome cores (λ n. n ≤ 1000000) }
+    ensures value { result ≡ ends_by cores }
+    ensures may_be { IfSome result MayBe }
 {
     Some(Command::Ends { cores: cores? })
 }
 
 fn trace_by(kind: Option<u32>, cores: Option<u32>) -> Option<Command>
-    ensures { result ≡ trace_by kind cores }
+    requires kind { IfSome kind (λ n. 1 ≤ n) }
+    requires some { IfSome cores (λ n. 1 ≤ n) }
+    requires few { IfSome cores (λ n. n ≤ 1000000) }
+    ensures value { result ≡ trace_by kind cores }
+    ensures may_be { IfSome result MayBe }
 {
     Some(Command::Trace {
         kind: kind?,
@@ -76,14 +86,18 @@ fn trace_by(kind: Option<u32>, cores: Option<u32>) -> Option<Command>
 }
 
 fn line_by(cores: Option<u32>) -> Option<Command>
-    ensures { result ≡ line_by cores }
+    requires some { IfSome cores (λ n. 1 ≤ n) }
+    requires few { IfSome cores (λ n. n ≤ 1000000) }
+    ensures value { result ≡ line_by cores }
+    ensures may_be { IfSome result MayBe }
 {
     Some(Command::Line { cores: cores? })
 }
 
 /// The command of these words, if they are one.
 pub fn command_of(words: &Vec<String>) -> Option<Command>
-    ensures { result ≡ command_of (map string_bytes words.now.items) }
+    ensures value { result ≡ command_of (map string_bytes words.now.items) }
+    ensures may_be { IfSome result MayBe }
 {
     match words.as_slice() {
         [word] if is_ends(word.as_bytes()) => ends_by(Some(CORES_UNSAID)),
