@@ -4,7 +4,7 @@ ghost use Rattle.std.specs.Prelude.{◌≡◌, ◌++◌, List, ℕ, IfNone, IfSo
 use std::sync::Wait;
 
 /// Bytes that come in pieces while the pod runs.
-pub trait Arrivals: Send + Drop {
+pub trait Arrivals: Drop {
     /// The bytes that it has given, in order.
     ghost given: { Self → List ℕ };
 

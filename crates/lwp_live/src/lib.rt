@@ -11,8 +11,9 @@
 //! lines of an input, and counts those of each client; `Notes` knows the clients of agents, and what a call tells them; `go_beside`
 //! and `go_after` are the pod's side of a run that is fed, which takes lines, makes calls and writes the answers, while the reader
 //! posts and after it has ended; `keep` puts bytes where they stay; `complaint`, `post_line` and `fault_text` are the texts; `Perhaps`
-//! is a sink that may not be there. What isn't there: the thread that reads an input and posts its lines, what opens the inlets and
-//! starts it, and the program. Of these the crate has definitions of what they are to do (`specs/Reader.antt`, `specs/Outside.antt`,
+//! is a sink that may not be there; `Hall` is an input that another thread fills, and that can be left while its thread still waits
+//! for more. What isn't there: the thread that reads an input and posts its lines, what opens the inlets and starts it, and the
+//! program. Of these the crate has definitions of what they are to do (`specs/Reader.antt`, `specs/Outside.antt`,
 //! `specs/Feeding.antt`, `specs/Ending.antt`, `specs/Live.antt`) and the types that these speak of, and no code.
 //!
 //! The crate stands on the rounds of `pod_runner`, the inlets of `event_gate`, the sessions of `script_session`, the replies of
@@ -25,6 +26,7 @@ mod beside;
 mod command;
 mod complaints;
 mod desk;
+mod hall;
 mod laws;
 mod notes;
 mod outside;
@@ -41,6 +43,7 @@ pub use beside::{go_after, go_beside};
 pub use command::{Command, command_of};
 pub use complaints::complaint;
 pub use desk::{Desk, post_line};
+pub use hall::{Guest, Hall, fill};
 pub use laws::{answers_are_replies, answers_grow, recorded_posts, recorded_sessions};
 pub use notes::{AgentOf, Notes, Reply};
 pub use outside::{Ends, Reading};
