@@ -1,6 +1,6 @@
 -- A script with the posts of an input after it is spelt.
 use Rattle.event_gate.proofs.Lines.{cond_other, cond_same, same_or}
-use Rattle.lwp_live.proofs.CountLaws.{counted_at, counted_size, counts_are, counts_at, counts_size}
+use Rattle.lwp_live.proofs.ClientCounts.{counted_at, counted_size, counts_are, counts_at, counts_size}
 use Rattle.lwp_live.proofs.DeskLaws.{inside, room_parts}
 use Rattle.lwp_live.specs.Ends.{arrival_of}
 use Rattle.lwp_live.specs.Input.{Heard, Standing, client_by, heard_as, heard_line, heard_lines, has_room, input_lines, judge, judge_by, nothing_heard, post_line, rest_of, word_of}
