@@ -8,3 +8,5 @@ pub mod Answerings
 pub mod Noting
 pub mod Calling
 pub mod Rounding
+pub mod ClientCounts
+pub mod SpeltLaws

@@ -1,8 +1,9 @@
 -- Laws of what clients are told, and of scripts with the lines that were posted.
 use Rattle.event_gate.specs.Shelves.{event_of}
 use Rattle.lwp_live.specs.Answers.{Known, answers_in, event_in, holder_of, known_after, nothing_known, replies_in}
+use Rattle.lwp_live.specs.Input.{posts_of}
 use Rattle.lwp_live.specs.Reading.{with_line}
-use Rattle.lwp_live.specs.Recorded.{recorded}
+use Rattle.lwp_live.specs.Recorded.{recorded, recorded_text, standing_of}
 use Rattle.lwp_live.specs.declared.arrival.Arrival.{Arrival}
 use Rattle.lwp_live.specs.declared.notes.Reply.{Reply}
 use Rattle.lwp_serve.specs.Answers.Replies as Replies
@@ -12,6 +13,7 @@ use Rattle.pod_runner.specs.Session as Sessions
 use Rattle.pod_runner.specs.declared.session.Made.{Made}
 use Rattle.pod_runner.specs.declared.session.Took.{Took}
 use Rattle.script_session.specs.SoFar.{AreDue, session_at}
+use Rattle.script_text.specs.Grammar.{Spells}
 use Rattle.script_text.specs.Script.{lines_posted}
 use Rattle.script_text.specs.declared.script.ExitStmt.{ExitStmt}
 use Rattle.script_text.specs.declared.script.ExitStmt.TheVariants as exit
@@ -21,7 +23,7 @@ use Rattle.script_text.specs.declared.script.Script.{Script}
 use Rattle.script_text.specs.declared.script.Stmt.{Stmt}
 use Rattle.script_text.specs.declared.script.Stmt.TheVariants as stmt
 use Rattle.std.specs.List.{AllByRecursion, filter, flat_map, fold}
-use Rattle.std.specs.Prelude.{Bool, IfSome, IsTrue, List, None, Option, Some, [], eqb, is_none, is_some, length, not, true, ℕ, ◌++◌, ◌<◌, ◌||◌, ◌∷◌, ◌≡◌}
+use Rattle.std.specs.Prelude.{Bool, IfSome, IsTrue, List, None, Option, Some, [], eqb, is_none, is_some, length, not, take, true, ℕ, ◌++◌, ◌<◌, ◌||◌, ◌∷◌, ◌≡◌}
 
 -- ---- answers and *Replies*
 
@@ -105,3 +107,9 @@ RecordedSessions = (script : Script) (arrivals : List Arrival) → HasTexts scri
     → ((session_at (recorded script arrivals) takes n).live.pod ≡ (session_at script takes n).live.pod)
     × ((session_at (recorded script arrivals) takes n).steps ≡ (session_at script takes n).steps)
     × (AreDue script takes n → AreDue (recorded script arrivals) takes n)
+
+-- The text of a script and the first of the posts of an input, each on a line of its own, spell the script with those posts.
+abbrev pub RecordedSpelt : Type 0
+RecordedSpelt = (text : List ℕ) (script : Script) (bytes : List ℕ) (count : ℕ) → Spells text script
+    → Spells (recorded_text text (take count (posts_of (standing_of script text) bytes)))
+    (recorded script (take count (posts_of (standing_of script text) bytes)))

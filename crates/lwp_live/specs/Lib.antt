@@ -11,5 +11,6 @@ pub mod Words
 pub mod Texts
 pub mod Ends
 pub mod Laws
+pub mod Rows
 pub mod Outside
 pub mod Ending

@@ -5,7 +5,8 @@
 //! (`specs/Input.antt`). A script with the lines that were posted after its own is the *recorded* script (`specs/Recorded.antt`). The
 //! answers are the accepted replies to agents, each with the client whose line the agent holds (`specs/Answers.antt`). Laws
 //! (`specs/Laws.antt`) say that these are what is replied to the agents of each event, that what was told stays, that a recorded
-//! script posts the script's lines and then those that came, and that it has the script's sessions.
+//! script posts the script's lines and then those that came, that it has the script's sessions, and that the script's text with a line
+//! for each post of an input spells it.
 //!
 //! What is there: `command_of` reads the words of the program; `client_of` and `rest_of` part a line of the input; `Desk` judges the
 //! lines of an input, and counts those of each client; `Notes` knows the clients of agents, and what a call tells them; `go_beside`
@@ -33,6 +34,7 @@ mod outside;
 mod perhaps;
 mod program;
 mod reader;
+pub mod rows;
 mod stop;
 mod store;
 mod texts;
@@ -44,7 +46,9 @@ pub use command::{Command, command_of};
 pub use complaints::complaint;
 pub use desk::{Desk, post_line};
 pub use hall::{Guest, Hall, fill};
-pub use laws::{answers_are_replies, answers_grow, recorded_posts, recorded_sessions};
+pub use laws::{
+    answers_are_replies, answers_grow, recorded_posts, recorded_sessions, recorded_spelt,
+};
 pub use notes::{AgentOf, Notes, Reply};
 pub use outside::{Ends, Reading};
 pub use perhaps::Perhaps;
