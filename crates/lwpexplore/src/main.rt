@@ -11,7 +11,7 @@ ghost use Rattle.std.specs.Prelude.{◌≡◌, ◌≢◌};
 ghost use Rattle.std.specs.IoError.{error_kind};
 ghost use Rattle.script_session.specs.declared.session.SessionEnd.TheVariants.{NoMemory, Usage};
 
-use about::{Question, print_answer, question_of, tell_time_while};
+use about::{Question, is_stack_too_small, print_answer, question_of, tell_time_while};
 use lwp_explore::{Ending, explore_main, fault_text, status_of};
 use lwp_types::{Failed, Source};
 use named_input::{FileSource, take_file};
@@ -35,10 +35,14 @@ usage: lwpexplore WORD .. [CORES] [FILE]
 CORES is how many states are kept: 1 to 1000000, or 100000 without it. The script is in FILE, or without it on standard input.
 ";
 
+// How many bytes the stack may have to take: what the longest chain of calls takes, and some more.
+const STACK: u64 = 131_072;
+
 fn main(rt: HostRuntime) -> ExitCode {
     match words(&rt) {
         Ok(words) => match question_of(&words) {
             Some(question) => answer(&rt, question),
+            None if is_stack_too_small(&rt, "lwpexplore", STACK) => ExitCode::from(106),
             None => show(&rt, &rt, words),
         },
         Err(error) => tell(&rt, Ending::Other(end_without_words(&error))),
