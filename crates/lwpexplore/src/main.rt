@@ -11,7 +11,9 @@ ghost use Rattle.std.specs.Prelude.{◌≡◌, ◌≢◌};
 ghost use Rattle.std.specs.IoError.{error_kind};
 ghost use Rattle.script_session.specs.declared.session.SessionEnd.TheVariants.{NoMemory, Usage};
 
-use about::{Question, is_stack_too_small, print_answer, question_of, tell_time_while};
+use about::{
+    Question, is_stack_too_small, print_answer, question_of, suggest_check, tell_time_while,
+};
 use lwp_explore::{Ending, explore_main, fault_text, status_of};
 use lwp_types::{Failed, Source};
 use named_input::{FileSource, take_file};
@@ -96,7 +98,11 @@ fn tell(rt: &HostRuntime, ending: Ending) -> ExitCode {
     if let Ok(text) = fault_text(rt.alloc(), ending) {
         let _ = rt.stderr().write_all(text.as_slice());
     }
-    ExitCode::from(status_of(ending))
+    let status = status_of(ending);
+    if status == 103 {
+        suggest_check(rt, "lwpexplore");
+    }
+    ExitCode::from(status)
 }
 
 // What these words come to, with a script from there, on standard output. That may take long where nobody types the script.

@@ -11,10 +11,10 @@ ghost use Rattle.std.specs.Prelude.{◌≡◌, ◌≢◌};
 ghost use Rattle.std.specs.IoError.{error_kind};
 ghost use Rattle.script_session.specs.declared.session.SessionEnd.TheVariants.{NoMemory, Usage, WriteFault};
 
-use about::{is_stack_too_small, print_answer, question_of, tell_time_while};
+use about::{is_stack_too_small, print_answer, question_of, suggest_check, tell_time_while};
 use lwp_serve::{Session, SessionEnd, fault_text, no_gates, top};
 use lwp_types::Failed;
-use std::io::{ErrorKind, IsTerminal, Write};
+use std::io::{ErrorKind, Write};
 use std::process::ExitCode;
 use std::sync::Wait;
 use std::thread::Threads;
@@ -39,9 +39,6 @@ TURNS is how many calls a script may make: 1 to 1000000, or 100000 without it.
 // How many bytes the stack may have to take: what the longest chain of calls takes, and some more.
 const STACK: u64 = 131_072;
 
-// What a person is told besides, where a script is refused.
-const HINT: &[u8] = b"lwpserve: `lwpcheck` tells what is wrong in a script\n";
-
 fn main(rt: HostRuntime) -> ExitCode {
     let session = match words(&rt) {
         Ok(words) => match question_of(&words) {
@@ -59,8 +56,8 @@ fn main(rt: HostRuntime) -> ExitCode {
     if let Ok(text) = fault_text(rt.alloc(), &session.end) {
         let _ = rt.stderr().write_all(text.as_slice());
     }
-    if session.status == 103 && rt.stderr().is_terminal() {
-        let _ = rt.stderr().write_all(HINT);
+    if session.status == 103 {
+        suggest_check(&rt, "lwpserve");
     }
     ExitCode::from(session.status)
 }

@@ -10,7 +10,7 @@ ghost use Rattle.std.specs.Prelude.{◌≡◌, ◌≢◌};
 ghost use Rattle.std.specs.IoError.{error_kind};
 ghost use Rattle.script_session.specs.declared.session.SessionEnd.TheVariants.{NoMemory, Usage, WriteFault};
 
-use about::{Question, is_stack_too_small, print_answer, question_of};
+use about::{Question, is_stack_too_small, print_answer, question_of, suggest_check};
 use lwp_state::{fault_text, top};
 use lwp_types::{Failed, Source};
 use named_input::{FileSource, take_file};
@@ -81,6 +81,9 @@ fn show(rt: &HostRuntime, words: Vec<String>) -> ExitCode {
 fn tell(rt: &HostRuntime, session: &Session) -> ExitCode {
     if let Ok(text) = fault_text(rt.alloc(), &session.end) {
         let _ = rt.stderr().write_all(text.as_slice());
+    }
+    if session.status == 103 {
+        suggest_check(rt, "lwpstate");
     }
     ExitCode::from(session.status)
 }
