@@ -16,7 +16,6 @@ use Rattle.std.proofs.lemmas.Bool.{eqb-true, false≢true, ne_eqb}
 use Rattle.std.specs.List.{range_with_len}
 use Rattle.std.specs.Option.{option_map_or}
 use Rattle.std.specs.Prelude.{if◌then◌else◌, option_and_then, option_map, slice_index_or, ◌&&◌, ◌*◌, ◌-◌, ◌/◌, ◌==◌}
-use Rattle.trace_text.specs.declared.ends.Halt.{Halt}
 use Rattle.trace_text.specs.declared.ends.Halt.TheVariants as halt
 
 -- ---- which cores are calm

@@ -10,31 +10,15 @@ use Rattle.lwp_explore.specs.Ends.{kinds_in}
 use Rattle.lwp_explore.specs.KindText.{is_bad}
 use Rattle.lwp_types.specs.Streams.{after_append}
 use Rattle.script_session.proofs.SaidLaws.{read-of, says-all}
-use Rattle.script_session.specs.Said.{IsNotRead, IsRead}
+use Rattle.script_session.specs.Said.{IsRead}
 use Rattle.script_session.specs.declared.session.SessionEnd.{SessionEnd}
 use Rattle.script_session.specs.declared.session.SessionEnd.TheVariants as end
 use Rattle.script_text.specs.declared.script.Script.{Script}
 use Rattle.std.proofs.Common.{Bool, List, Option, Some, false, inl, inr, subst, sym, true, ℕ, ◌∙◌, ◌≡◌}
 use Rattle.std.specs.List.{list_any}
 use Rattle.std.specs.Prelude.{if◌then◌else◌}
-use Rattle.streams.specs.Streams.{IsFaultless, IsFaulty, IsQuiet, Stream}
+use Rattle.streams.specs.Streams.{IsFaultless, IsFaulty, Stream}
 use Rattle.streams.specs.Writing.{AppendsPart}
-
--- no script was read
-pub not_read : (asked : Command) (line : List ℕ) (source sink : Stream) (e : SessionEnd) → IsQuiet sink → IsNotRead source e
-    → EndSays asked line source sink (ending.Other e)
-not_read asked line source sink end.ReadFault quiet h = (h.0, h.1, quiet)
-not_read asked line source sink end.NoMemory quiet h = (h.0, h.1, quiet)
-not_read asked line source sink (end.Script bad reason) quiet h = (h.0, h.2, h.1, quiet)
-not_read asked line source sink (end.Ended status) quiet h = absurd h
-not_read asked line source sink end.Stuck quiet h = absurd h
-not_read asked line source sink end.Spent quiet h = absurd h
-not_read asked line source sink end.WriteFault quiet h = absurd h
-not_read asked line source sink end.Usage quiet h = absurd h
-not_read asked line source sink (end.Input part) quiet h = absurd h
-not_read asked line source sink end.Reported quiet h = absurd h
-not_read asked line source sink end.Same quiet h = absurd h
-not_read asked line source sink (end.Differs bad) quiet h = absurd h
 
 -- a text comes to no fault
 module _ (asked : Command) (line : List ℕ) (script : Script) (text : List ℕ) where

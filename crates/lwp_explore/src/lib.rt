@@ -30,8 +30,6 @@ mod searching;
 mod seeking;
 mod step_sink;
 mod tails;
-#[cfg(test)]
-mod tests;
 mod texts;
 mod tracing;
 mod words;

@@ -1,4 +1,5 @@
-use crate::{
+// What is told of the cores of a search, and what words, kinds of ends and endings are as texts and numbers.
+use lwp_explore::{
     Command, End, Ending, Kind, add_kind, command_of, fault_text, has_line, is_well, kind_of,
     list_kinds, number_of, quiet_nexts, status_of,
 };
